@@ -1,0 +1,41 @@
+-- The answer that the rules ask for: the least of the list of all paths, with no search in it. Assumes nothing.
+use mathlib.Core.Path.{_≡_}
+use mathlib.Core.Bool.{Bool, true, false}
+use mathlib.Core.List.{List, [], _∷_, reverse}
+use Prim.Native.Nat.{ℕ}
+use Rattle.trellis.specs.Order.{precedes}
+use Rattle.trellis.specs.Trellis.{Trellis, IsPath, pathCost, pathKey, Least}
+use Rattle.trellis.specs.Paths.{allPaths}
+use Rattle.trellis.specs.Considered.{considered}
+
+-- a path's cost, the count of steps considered and the path's nodes, first stage first; or that there is no path, and the count
+pub data Answer : Type 0 where
+  found : (cost count : ℕ) (nodes : List ℕ) → Answer
+  blocked : (count : ℕ) → Answer
+
+-- the nodes of an answer, first stage first
+abbrev pub nodesOf : Answer → List ℕ
+nodesOf (found c n nodes) = nodes
+nodesOf (blocked n) = []
+
+abbrev pub pick {ℓ} : {A : Type ℓ} → Bool → A → A → A
+pick true x y = x
+pick false x y = y
+
+-- the least of x and the members of a list, by their keys
+abbrev pub leastBy : (List ℕ → List ℕ) → List ℕ → List (List ℕ) → List ℕ
+leastBy key x [] = x
+leastBy key x (y ∷ l) = leastBy key (pick (precedes (key x) (key y)) x y) l
+
+abbrev pub answerFrom : Trellis → List (List ℕ) → Answer
+answerFrom t [] = blocked (considered t)
+answerFrom t (p ∷ l) = let q = leastBy (pathKey t) p l in found (pathCost t q) (considered t) (reverse q)
+
+-- THE ANSWER: the least of all paths, or blocked where there are none
+abbrev pub answer : Trellis → Answer
+answer t = answerFrom t (allPaths t)
+
+-- the same in words: a path that is found is the least path, with its cost; blocked means that there is no path; either comes with the count
+abbrev pub IsAnswer : Trellis → Answer → Type 0
+IsAnswer t (found c n nodes) = Least t (reverse nodes) × (pathCost t (reverse nodes) ≡ c) × (n ≡ considered t)
+IsAnswer t (blocked n) = ((p : List ℕ) → IsPath t p → ⊥) × (n ≡ considered t)
