@@ -1,2 +1,12 @@
 pub mod Count
 pub mod Order
+pub mod Paths
+pub mod Survivor
+pub mod Select
+pub mod Optimal
+pub mod Only
+pub mod Least
+pub mod Bound
+pub mod Walk
+pub mod Ladder
+pub mod Parts

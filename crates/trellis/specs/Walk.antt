@@ -4,7 +4,9 @@ use mathlib.Core.Bool.{Bool, true}
 use mathlib.Core.List.{List, [], _∷_}
 use Prim.Native.Nat.{ℕ, _+_, _<_}
 use Rattle.trellis.specs.Order.{Precedes}
-use Rattle.trellis.specs.Trellis.{Reach, after, costOf, Stage, Trellis, _▸_}
+use Rattle.trellis.specs.Trellis.{Reach, after, costOf, Stage, Trellis, entry, _▸_}
+use Rattle.trellis.specs.Considered.{considered}
+use Rattle.trellis.specs.Answer.{Answer, found, blocked}
 
 -- the trellis with more stages, the first of them first
 abbrev pub grow : Trellis → List Stage → Trellis
@@ -47,3 +49,9 @@ walkKey s sts (k ∷ is) = walkCost s sts (k ∷ is) ∷ noted (k ∷ []) k sts 
 pub record LeastWalk (n : ℕ) (s : ℕ → Reach) (sts : List Stage) (w : List ℕ) : Type 0 where
   pub walk : Walk n s sts w
   pub first : (v : List ℕ) → Walk n s sts v → Precedes (walkKey s sts w) (walkKey s sts v)
+
+-- the answer in words, read forwards: a walk that is found is the least of all, with its cost; blocked means that there is none; either comes
+-- with the count of steps considered
+abbrev pub Answers : ℕ → (ℕ → Reach) → List Stage → Answer → Type 0
+Answers n s sts (found c m w) = LeastWalk n s sts w × (walkCost s sts w ≡ c) × (m ≡ considered (grow (entry n s) sts))
+Answers n s sts (blocked m) = ((w : List ℕ) → Walk n s sts w → ⊥) × (m ≡ considered (grow (entry n s) sts))
