@@ -1,0 +1,5 @@
+pub mod Holds
+pub mod Transitions
+pub mod Bounds
+pub mod Answers
+pub mod Starred

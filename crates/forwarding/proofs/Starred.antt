@@ -1,0 +1,24 @@
+-- The starred cases of question four hold of the rules: one table, one statement. Assumes nothing.
+use mathlib.Core.Path.{_≡_, refl, sym, _∙_, ap}
+use mathlib.Core.List.{List, [], _∷_, map, List·Memᴰ, List·Memᴰ·not-nil, List·Memᴰ·cases-cons, head-eq-of-cons-eq, tail-eq-of-cons-eq}
+use mathlib.Core.Logic.{⊎-elim}
+use Prim.Native.Nat.{ℕ}
+use Rattle.trellis.specs.Answer.{Answer, answer}
+use Rattle.words.specs.Word.{bitOf, wordOf}
+use Rattle.forwarding.specs.Forwarding.{reference, leastHold, gap, hold, delay, isFree, mayHold, holdInto}
+use Rattle.forwarding.specs.Schedule.{routeAnswer}
+use Rattle.forwarding.specs.QuestionFour.{Case, starred}
+
+-- the whole table is computed by the rule
+computed : map (λ (c : Case). routeAnswer 48 (c .route)) starred ≡ map (λ (c : Case). c .expected) starred
+unfolding routeAnswer starred reference leastHold gap hold delay isFree mayHold holdInto bitOf wordOf
+computed = refl
+
+same-at : (f g : Case → Answer) (l : List Case) → map f l ≡ map g l → (c : Case) → List·Memᴰ c l → f c ≡ g c
+same-at f g [] e c m = absurd (List·Memᴰ·not-nil m)
+same-at f g (x ∷ xs) e c m =
+    ⊎-elim (λ q. rw q (head-eq-of-cons-eq e)) (same-at f g xs (tail-eq-of-cons-eq e) c) (List·Memᴰ·cases-cons m)
+
+-- THE STARRED CASES: each answer of the table is the rule's
+pub starred-right : (c : Case) → List·Memᴰ c starred → routeAnswer 48 (c .route) ≡ c .expected
+starred-right = same-at (λ c. routeAnswer 48 (c .route)) (λ c. c .expected) starred computed

@@ -1,0 +1,51 @@
+-- Document 01, "Forwarding": the reference frame, the hold and the delay, and the transitions into a hop. Assumes nothing.
+use mathlib.Core.Bool.{Bool, _&&_}
+use Prim.Native.Nat.{ℕ, _+_, _-_, _*_, _/_, _%_}
+use lib.Dec.{leb}
+use Rattle.trellis.specs.Trellis.{Stage}
+use Rattle.words.specs.Word.{bitOf}
+use Rattle.forwarding.specs.declared.Hop.{Hop}
+
+-- the reference frame: from frame k of a link with K′ frames to a link with K, "r = floor(k × K / K')"
+unfoldable pub reference : ℕ → ℕ → ℕ → ℕ
+reference k K K′ = k * K / K′
+
+-- the least hold: "000 lets holds start at 0; here they start at 1"
+unfoldable pub leastHold : ℕ
+leastHold = 1
+
+-- how far the frame i lies after the frame a, going round a cycle of K frames
+unfoldable pub gap : ℕ → ℕ → ℕ → ℕ
+gap K a i = (i + K - a) % K
+
+-- the hold: "the only number from 1 to K with (r + D) mod K = i" (`hold-fits`, `hold-only`)
+unfoldable pub hold : ℕ → ℕ → ℕ → ℕ
+hold K r i = leastHold + gap K ((r + leastHold) % K) i
+
+-- a frame's time: "A frame lasts T/K ticks"
+unfoldable pub frameTime : ℕ → ℕ → ℕ
+frameTime T K = T / K
+
+-- the delay of a hold of D frames of a link with K, in ticks: "Its delay is D × T / K"
+unfoldable pub delay : ℕ → ℕ → ℕ → ℕ
+delay T K D = D * T / K
+
+-- a frame of a hop is free: "Written as a word, bit i stands for a free frame i"
+unfoldable pub isFree : Hop → ℕ → Bool
+isFree h i = bitOf (h .free) i
+
+-- the hold's range: "D is at most that link's Z"
+unfoldable pub mayHold : Hop → ℕ → Bool
+mayHold h D = leb D (h .range)
+
+-- the hold from frame k of the hop before, with K′ frames, to frame i of the hop
+unfoldable pub holdInto : ℕ → Hop → ℕ → ℕ → ℕ
+holdInto K′ h k i = hold (h .frames) (reference k (h .frames) K′) i
+
+-- the stage of a hop: "The transition is allowed when D is at most that link's Z and i is free"; among equal delays the smaller hold wins
+abbrev pub stage : ℕ → ℕ → Hop → Stage
+stage T K′ h = record {
+  size = h .frames;
+  allowed = λ k i. mayHold h (holdInto K′ h k i) && isFree h i;
+  cost = λ k i. delay T (h .frames) (holdInto K′ h k i);
+  rank = λ k i. holdInto K′ h k i }

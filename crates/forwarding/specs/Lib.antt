@@ -1,0 +1,5 @@
+pub mod Forwarding
+pub mod Schedule
+pub mod Checked
+
+pub mod QuestionFour

@@ -1,0 +1,58 @@
+-- Document 01, "Question four": the starred cases, for a cycle of 48 ticks. Assumes nothing.
+use mathlib.Core.Bool.{Bool, true, false, _||_}
+use mathlib.Core.List.{List, [], _∷_}
+use Prim.Native.Nat.{ℕ}
+use lib.Dec.{eqb}
+use Rattle.trellis.specs.Answer.{Answer, found, blocked}
+use Rattle.words.specs.Word.{wordOf}
+use Rattle.forwarding.specs.declared.Hop.{Hop}
+
+pub record Case : Type 0 where
+  pub route : List Hop
+  pub expected : Answer
+
+abbrev case : List Hop → Answer → Case
+case hops a = record { route = hops; expected = a }
+
+-- "Braces name the only free frames"
+abbrev among : List ℕ → ℕ → Bool
+among [] i = false
+among (j ∷ js) i = eqb i j || among js i
+
+abbrev link : ℕ → ℕ → (ℕ → Bool) → Hop
+link K Z free = record { frames = K; range = Z; free = wordOf K free }
+
+-- "links A, B, E have K 8, Z 2; C 16, 4; D 4, 2"; `all` is every frame free
+abbrev all : ℕ → Bool
+all i = true
+
+abbrev A : (ℕ → Bool) → Hop
+A = link 8 2
+
+abbrev C : (ℕ → Bool) → Hop
+C = link 16 4
+
+abbrev D : (ℕ → Bool) → Hop
+D = link 4 2
+
+abbrev only : List ℕ → ℕ → Bool
+only = among
+
+-- B and E are links like A; the answers have delay, count and frames
+unfoldable pub starred : List Case
+starred =
+    case (A all ∷ []) (found 0 0 (0 ∷ []))
+    ∷ case (A all ∷ A all ∷ []) (found 6 16 (7 ∷ 0 ∷ []))
+    ∷ case (A (only (3 ∷ [])) ∷ A (only (5 ∷ [])) ∷ []) (found 12 1 (3 ∷ 5 ∷ []))
+    ∷ case (A (only (3 ∷ [])) ∷ A (only (6 ∷ [])) ∷ []) (blocked 0)
+    ∷ case (A (only (3 ∷ [])) ∷ A (only (3 ∷ [])) ∷ []) (blocked 0)
+    ∷ case (A (only (3 ∷ [])) ∷ link 8 8 (only (3 ∷ [])) ∷ []) (found 48 1 (3 ∷ 3 ∷ []))
+    ∷ case (A (only (1 ∷ 2 ∷ [])) ∷ A (only (3 ∷ [])) ∷ []) (found 6 2 (2 ∷ 3 ∷ []))
+    ∷ case (A (only (0 ∷ [])) ∷ A (only (1 ∷ 2 ∷ [])) ∷ A (only (4 ∷ [])) ∷ []) (found 24 3 (0 ∷ 2 ∷ 4 ∷ []))
+    ∷ case (A (only (0 ∷ [])) ∷ A (only (1 ∷ 2 ∷ [])) ∷ A (only (3 ∷ [])) ∷ []) (found 18 4 (0 ∷ 2 ∷ 3 ∷ []))
+    ∷ case (A (only (3 ∷ [])) ∷ C (only (7 ∷ [])) ∷ []) (found 3 1 (3 ∷ 7 ∷ []))
+    ∷ case (A (only (3 ∷ [])) ∷ C (only (10 ∷ [])) ∷ []) (found 12 1 (3 ∷ 10 ∷ []))
+    ∷ case (A (only (3 ∷ [])) ∷ C (only (11 ∷ [])) ∷ []) (blocked 0)
+    ∷ case (A (only (3 ∷ [])) ∷ C (only (6 ∷ [])) ∷ []) (blocked 0)
+    ∷ case (A (only (4 ∷ 5 ∷ [])) ∷ D (only (3 ∷ [])) ∷ []) (found 12 2 (4 ∷ 3 ∷ []))
+    ∷ []

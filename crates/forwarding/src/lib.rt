@@ -1,0 +1,52 @@
+// Forwarding (document 01): holds, delays and reference frames of the hops of a route.
+ghost use mathlib.Core.Path.{_≡_};
+ghost use Prim.Native.Nat.{_+_, _*_, _<_, _≤_};
+ghost use Rattle.forwarding.specs.Forwarding.{reference, frameTime};
+
+// A hold counts frames of the outgoing link.
+// Form: a hold and a delay are tuple structs, so holds of unequal links are never summed as delays.
+pub struct Hold(pub u16);
+
+// A delay counts ticks.
+pub struct Delay(pub u16);
+
+// A hop of a route: its link's frames per cycle (K), its forwarding range (Z), and its free frames as a word, bit i for frame i.
+pub struct Hop {
+    pub frames: u16,
+    pub range: u16,
+    pub free: u64,
+}
+
+// The reference frame, on a link with `frames` frames, of frame k of the hop before, which has `before` frames.
+// Check 7 bounds both links' frames; k is a frame of the hop before.
+pub fn reference_frame(k: u16, frames: u16, before: u16) -> u16
+    requires { ⌜ (k < before) × (before ≤ 64) × (0 < frames) × (frames ≤ 64) ⌝ }
+    ensures { λ r. ⌜ r ≡ reference k frames before ⌝ }
+{
+    k * frames / before
+}
+
+// How long a frame of a link lasts: T / K ticks. Check 7: K is not 0.
+pub fn frame_time(t: u16, frames: u16) -> Delay
+    requires { ⌜ 0 < frames ⌝ }
+    ensures { λ r. ⌜ r .0 ≡ frameTime t frames ⌝ }
+{
+    Delay(t / frames)
+}
+
+// The delay of a hold on a link whose frame lasts so long: the one place where a hold becomes a delay.
+// Checks 3, 7 and 8: a hold is at most Z, Z at most K, and K frames last T ticks, at most 960.
+pub fn delay_of(hold: Hold, frame: Delay) -> Delay
+    requires { ⌜ hold .0 * frame .0 ≤ 960 ⌝ }
+    ensures { λ r. ⌜ r .0 ≡ hold .0 * frame .0 ⌝ }
+{
+    Delay(hold.0 * frame.0)
+}
+
+// The delay of one part of a schedule and then another. No delay passes 7 × 960.
+pub fn sum(first: Delay, then: Delay) -> Delay
+    requires { ⌜ first .0 + then .0 ≤ 6720 ⌝ }
+    ensures { λ r. ⌜ r .0 ≡ first .0 + then .0 ⌝ }
+{
+    Delay(first.0 + then.0)
+}
