@@ -1,13 +1,38 @@
--- temporary
+-- Words of frames: bit i of a word stands for frame i. Assumes nothing.
+use mathlib.Core.Bool.{Bool, true, not, _&&_, _||_}
 use Prim.Native.Nat.{ℕ, zero, suc, _+_, _*_, _/_, _%_, _^_}
-use mathlib.Core.Bool.{Bool, true, false}
 use lib.Dec.{eqb}
-use Rattle.trellis.specs.Count.{oneIf}
+use Rattle.trellis.specs.Count.{oneIf, countBelow}
 
--- bit i of a word
+-- bit i of a word: "one bit of 64 per frame, bit i for frame i"
 unfoldable pub bitOf : ℕ → ℕ → Bool
 bitOf w i = eqb (w / 2 ^ i % 2) 1
 
+-- the word of the frames below K that pass a test, with "none at K or above"
 unfoldable pub wordOf : ℕ → (ℕ → Bool) → ℕ
 wordOf zero f = 0
 wordOf (suc n) f = wordOf n f + oneIf (f n) * 2 ^ n
+
+-- the word of all K frames
+unfoldable pub onesBelow : ℕ → ℕ
+onesBelow K = wordOf K (λ i. true)
+
+-- the word w of 64 bits, with bit i
+unfoldable pub withBit : ℕ → ℕ → ℕ
+withBit w i = wordOf 64 (λ j. bitOf w j || eqb j i)
+
+-- the word w of 64 bits, without bit i
+unfoldable pub withoutBit : ℕ → ℕ → ℕ
+withoutBit w i = wordOf 64 (λ j. bitOf w j && not (eqb j i))
+
+-- "A frame is free when it is neither closed nor held by a live session", of the words of closed and of held frames
+unfoldable pub freeAt : ℕ → ℕ → ℕ → Bool
+freeAt closed held i = not (bitOf closed i) && not (bitOf held i)
+
+-- the free frames of a link with K frames: "Written as a word, bit i stands for a free frame i"
+unfoldable pub freeWord : ℕ → ℕ → ℕ → ℕ
+freeWord K closed held = wordOf K (freeAt closed held)
+
+-- "The free frames of a link are the ones among its K bits": the bits of a word, counted one by one
+unfoldable pub freeFrames : ℕ → ℕ → ℕ
+freeFrames K w = countBelow K (bitOf w)

@@ -1,5 +1,6 @@
-use Rattle.words.specs.Word.{bitOf}
+-- `words::has_bit` meets its contract. Assumes nothing.
 use borrow.Author.Needs.{needs}
+use Rattle.words.specs.Word.{bitOf}
 use Rattle.words.proofs.has_bit.Statement.{statement}
 use Rattle.words.proofs.has_bit.Tie as tie
 

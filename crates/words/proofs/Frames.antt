@@ -1,0 +1,37 @@
+-- The words of all frames, of a frame more or less, and of the free frames. Assumes nothing.
+use mathlib.Core.Path.{_≡_, refl, _∙_}
+use mathlib.Core.Bool.{true, not, _&&_, _||_, and-true}
+use Prim.Native.Nat.{ℕ, zero, suc, _-_, _^_, _<_}
+use native.Mathlib.Omega.{arith}
+use lib.Dec.{eqb, ltb}
+use lib.Pow.{pow-pos}
+use borrow.Author.Tests.{ne-eqb}
+use Rattle.words.specs.Word.{bitOf, wordOf, onesBelow, withBit, withoutBit, freeAt, freeWord}
+use Rattle.words.proofs.Bits.{bit-high}
+use Rattle.words.proofs.Words.{bit-word, bit-within}
+
+-- the word of all K frames as a number
+pub ones-word : (K : ℕ) → onesBelow K ≡ 2 ^ K - 1
+unfolding onesBelow wordOf
+ones-word zero = refl
+ones-word (suc n) = omega (arith, ones-word n, pow-pos n)
+
+-- its bits are those below K
+pub bit-ones : (K i : ℕ) → bitOf (onesBelow K) i ≡ ltb i K
+unfolding onesBelow
+bit-ones K i = bit-word K (λ j. true) i ∙ and-true (ltb i K)
+
+-- setting bit i changes no other
+pub bit-with : (w i : ℕ) → w < 2 ^ 64 → i < 64 → (j : ℕ) → bitOf (withBit w i) j ≡ (bitOf w j || eqb j i)
+unfolding withBit
+bit-with w i h l = bit-within 64 (λ j. bitOf w j || eqb j i) (λ j g. rw (bit-high 64 w j h g) (ne-eqb j i (λ e. omega arith)))
+
+-- clearing bit i changes no other
+pub bit-without : (w i : ℕ) → w < 2 ^ 64 → (j : ℕ) → bitOf (withoutBit w i) j ≡ (bitOf w j && not (eqb j i))
+unfolding withoutBit
+bit-without w i h = bit-within 64 (λ j. bitOf w j && not (eqb j i)) (λ j g. rw (bit-high 64 w j h g))
+
+-- "bit i stands for a free frame i", and none at K or above
+pub bit-free : (K closed held i : ℕ) → bitOf (freeWord K closed held) i ≡ (ltb i K && freeAt closed held i)
+unfolding freeWord
+bit-free K closed held i = bit-word K (freeAt closed held) i

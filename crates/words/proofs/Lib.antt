@@ -1,0 +1,5 @@
+pub mod Bits
+pub mod Words
+pub mod Frames
+pub mod Ones
+pub mod Machine
