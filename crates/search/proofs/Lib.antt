@@ -1,2 +1,6 @@
 pub mod Ways
 pub mod Spreading
+pub mod Gathering
+pub mod Beginning
+pub mod Nearest
+pub mod Recovering

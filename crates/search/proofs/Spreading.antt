@@ -35,7 +35,7 @@ test-next x d n = go (leb x d) refl
     go true e = le-leb x (d + 1) (omega (arith, leb-true x d e))
     go false e = lt-leb x (d + 1) (lt-of-le-ne (omega (arith, leb-false x d e)) (λ q. n (sym q)))
 
-none-below : (n : ℕ) (f : ℕ → Bool) → ((i : ℕ) → i < n → f i ≡ false) → 0 ≡ countBelow n f
+pub none-below : (n : ℕ) (f : ℕ → Bool) → ((i : ℕ) → i < n → f i ≡ false) → 0 ≡ countBelow n f
 none-below n f h = sym (sum-cong n (λ i. oneIf (f i)) (λ i. 0) (λ i l. ap oneIf (h i l)) ∙ sum-const n 0 ∙ mul-zero n)
 
 module _ (time K′ K w k c : ℕ) (some : 0 < K) where

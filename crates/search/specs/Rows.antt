@@ -10,6 +10,7 @@ use Rattle.trellis.specs.Count.{oneIf, sumBelow, countBelow}
 use Rattle.trellis.specs.Paths.{reached}
 use Rattle.trellis.proofs.Survivor.{Offer, offer, offerOf, Best, nobody, best, better, bestOf, lastOffer, into, row, scanned}
 use Rattle.trellis.proofs.Ladder.{ladder}
+use Rattle.words.specs.Word.{bitOf}
 use Rattle.forwarding.specs.declared.Hop.{Hop}
 use Rattle.forwarding.specs.Forwarding.{holdInto, isFree, mayHold, stage}
 use Rattle.forwarding.specs.Schedule.{starts}
@@ -49,14 +50,14 @@ taken nobody d h = true
 taken (best d₀ h₀ k₀) d h = ltb d d₀ || (eqb d d₀ && ltb h h₀)
 
 -- the predecessors of earlier hops are as they were
-abbrev pub Earlier : ℕ → Rows → Rows → Type 0
-Earlier base old new = (m : ℕ) → m < base → getD (new .preds) m 0 ≡ getD (old .preds) m 0
+abbrev pub Earlier : ℕ → List ℕ → List ℕ → Type 0
+Earlier base old new = (m : ℕ) → m < base → getD new m 0 ≡ getD old m 0
 
 -- frame i was offered a way from frame k of this delay and hold; the other frames and the earlier hops have what they had
 pub record Offered (base i d h k : ℕ) (old new : Rows) : Type 0 where
   pub here : wayAt new base i ≡ better (wayAt old base i) (offer d h) k
   pub others : (j : ℕ) → (j ≡ i → ⊥) → wayAt new base j ≡ wayAt old base j
-  pub earlier : Earlier base old new
+  pub earlier : Earlier base (old .preds) (new .preds)
   pub sized : Sized new
 
 -- the stage of a hop by the time of its frame: the delay is the hold times that time
@@ -72,7 +73,7 @@ pub record Visited (st : Stage) (k : ℕ) (x : Reach) (base : ℕ) (old new : Ro
   pub inside : (i : ℕ) → i < st .size → wayAt new base i ≡ better (wayAt old base i) (offerOf st i x k) k
   pub outside : (i : ℕ) → st .size ≤ i → wayAt new base i ≡ wayAt old base i
   pub counted : count ≡ countBelow (st .size) (λ i. reached x && st .allowed k i)
-  pub earlier : Earlier base old new
+  pub earlier : Earlier base (old .preds) (new .preds)
   pub sized : Sized new
 
 -- what the frames of the hop before, with this row, offer to frame i
@@ -84,14 +85,17 @@ abbrev pub counts : Stage → List ℕ → ℕ → ℕ
 counts st cells n = sumBelow n (λ k. countBelow (st .size) (λ i. reached (reachOf (getD cells k 0)) && st .allowed k i))
 
 -- the row and the predecessors of a hop after one of K′ frames with the row `cells`
-pub record Advanced (st : Stage) (cells : List ℕ) (K′ : ℕ) (next preds : List ℕ) (base count : ℕ) : Type 0 where
+pub record Advanced (st : Stage) (cells : List ℕ) (K′ base : ℕ) (old next preds : List ℕ) (count : ℕ) : Type 0 where
   pub inside : (i : ℕ) → i < st .size → (h : ℕ) × (wayOf (getD next i 0) h (getD preds (base + i) 0) ≡ bestOf (offers st cells i) K′)
   pub outside : (i : ℕ) → st .size ≤ i → getD next i 0 ≡ 0
   pub counted : count ≡ counts st cells K′
+  pub earlier : Earlier base old preds
+  pub long : length preds ≡ 512
 
--- the first n cells of hop 0: a free frame has delay 0
-pub record Begun (h : Hop) (n : ℕ) (cells : List ℕ) : Type 0 where
-  pub inside : (i : ℕ) → i < n → getD cells i 0 ≡ oneIf (isFree h i)
+-- the first n cells of hop 0, by its free word: a free frame has delay 0
+pub record Begun (free n : ℕ) (cells : List ℕ) : Type 0 where
+  pub long : length cells ≡ 64
+  pub inside : (i : ℕ) → i < n → getD cells i 0 ≡ oneIf (bitOf free i)
   pub outside : (i : ℕ) → n ≤ i → getD cells i 0 ≡ 0
 
 -- hop j of the array, its stage after hop j - 1, and the trellis of hops 0 to j
@@ -114,6 +118,7 @@ fromAt preds j i = getD preds (64 * j + i) 0
 
 -- what the sweep over hops 0 to j leaves: the row of hop j, the predecessors of each hop, and the count
 pub record Swept (t : ℕ) (hops : List Hop) (j : ℕ) (cells preds : List ℕ) (count : ℕ) : Type 0 where
+  pub long : length preds ≡ 512
   pub rows : Agrees cells (trellisTo t hops j)
   pub froms : (m : ℕ) → m < j → (i : ℕ) → i < hopAt hops (suc m) .frames
     → (c h : ℕ) × (wayOf c h (fromAt preds (suc m) i) ≡ into (row (trellisTo t hops m)) (stageAt t hops m) i)

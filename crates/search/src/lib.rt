@@ -7,10 +7,10 @@ use forwarding::Hop;
 ghost use mathlib.Core.Path.{_≡_};
 ghost use mathlib.Core.List.{_++_, reverse};
 ghost use Prim.Native.Nat.{ℕ, _+_, _-_, _*_, _%_, _<_, _≤_};
-ghost use lib.ListN.{getD, drop};
+ghost use lib.ListN.{length, getD, drop};
 ghost use Rattle.trellis.specs.Trellis.{after};
 ghost use Rattle.trellis.specs.Count.{oneIf};
-ghost use Rattle.trellis.proofs.Survivor.{offer, better, bestOf};
+ghost use Rattle.trellis.proofs.Survivor.{better, bestOf, lastOffer};
 ghost use Rattle.words.specs.Word.{bitOf};
 ghost use Rattle.forwarding.specs.Forwarding.{stage, isFree};
 ghost use Rattle.forwarding.specs.Checked.{Passed, Ready};
@@ -107,4 +107,153 @@ fn spread(cells: &mut [u16; 64], holds: &mut [u8; 64], preds: &mut [u8; 512], ba
         }
     }
     count
+}
+
+// The transitions from frame k, where a schedule leads to it.
+fn visit(cells: &mut [u16; 64], holds: &mut [u8; 64], preds: &mut [u8; 512], base: usize, k: u16, cell: u16, before: u16, time: Delay, hop: Hop) -> u16
+    requires { ⌜ Sized (rows (now cells) (now holds) (now preds)) × (base ≤ 448) × (k < before) × (before ≤ 64) × (0 < hop .frames) × (hop .frames ≤ 64) × (hop .range ≤ hop .frames) × (hop .frames * time .0 ≤ 960) × (cell ≤ 5761) ⌝ }
+    ensures { λ r. ⌜ Visited (stageBy (time .0) before hop) k (reachOf cell) base (rows (now (cells .entry)) (now (holds .entry)) (now (preds .entry))) (rows (now (cells .exit)) (now (holds .exit)) (now (preds .exit))) r ⌝ }
+{
+    if cell == 0 {
+        return 0;
+    }
+    spread(cells, holds, preds, base, k, Delay(cell - 1), before, time, hop)
+}
+
+// The row of a hop, from the row of the hop before; the frames before go to `preds` from `base` on.
+fn advance(row: &[u16; 64], t: u16, before: u16, hop: Hop, preds: &mut [u8; 512], base: usize) -> Layer
+    requires { ⌜ (t ≤ 960) × (before ≤ 64) × Passed t hop × ((m : ℕ) → getD (now row) m 0 ≤ 5761) × (length (now preds) ≡ 512) × (base ≤ 448) ⌝ }
+    ensures { λ r. ⌜ Advanced (stage t before hop) (now (row .entry)) before base (now (preds .entry)) (r .cells) (now (preds .exit)) (r .count) ⌝ }
+{
+    let time = forwarding::frame_time(t, hop.frames);
+    let mut cells = [0u16; 64];
+    let mut holds = [0u8; 64];
+    let mut count: u16 = 0;
+    let mut k: u16 = 0;
+    while k < before {
+        count += visit(&mut cells, &mut holds, preds, base, k, row[k as usize], before, time, hop);
+        k += 1;
+    }
+    Layer { cells, count }
+}
+
+fn first_cell(free: u64, i: u16) -> u16
+    requires { ⌜ i < 64 ⌝ }
+    ensures { λ r. ⌜ r ≡ oneIf (bitOf free i) ⌝ }
+{
+    if words::has_bit(free, i) { 1 } else { 0 }
+}
+
+// The row of hop 0: every free frame, at delay 0.
+fn first_row(hop: Hop) -> [u16; 64]
+    requires { ⌜ hop .frames ≤ 64 ⌝ }
+    ensures { λ r. ⌜ Begun (hop .free) (hop .frames) r ⌝ }
+{
+    let mut cells = [0u16; 64];
+    let frames = hop.frames;
+    let free = hop.free;
+    let mut i: u16 = 0;
+    while i < frames {
+        cells[i as usize] = first_cell(free, i);
+        i += 1;
+    }
+    cells
+}
+
+// The rows of hops 0 to last, one after the other: the last row, with the count; the frames before go to `preds`.
+fn sweep(t: u16, hops: [Hop; 8], last: usize, preds: &mut [u8; 512]) -> Layer
+    requires { ⌜ Ready t hops (last + 1) × (length (now preds) ≡ 512) ⌝ }
+    ensures { λ r. ⌜ Swept t hops last (r .cells) (now (preds .exit)) (r .count) ⌝ }
+{
+    let start = hops[0];
+    let mut row = first_row(start);
+    let mut count: u16 = 0;
+    let mut j: usize = 0;
+    while j < last {
+        let from = hops[j];
+        j += 1;
+        let hop = hops[j];
+        let layer = advance(&row, t, from.frames, hop, preds, 64 * j);
+        row = layer.cells;
+        count += layer.count;
+    }
+    Layer { cells: row, count }
+}
+
+// The better end: the smaller cell that is not 0, and of equal ones the earlier frame.
+fn nearer(end: End, cell: u16, f: u8) -> End
+    ensures { λ r. ⌜ wayOf (r .cell) 0 (r .frame) ≡ better (wayOf (end .cell) 0 (end .frame)) (lastOffer (reachOf cell)) f ⌝ }
+{
+    if cell == 0 {
+        return end;
+    }
+    if end.cell == 0 {
+        return End { cell, frame: f };
+    }
+    if cell < end.cell {
+        return End { cell, frame: f };
+    }
+    end
+}
+
+// The least cell of the last hop, and the smallest frame that has it.
+fn best_end(row: &[u16; 64], frames: u16) -> End
+    requires { ⌜ frames ≤ 64 ⌝ }
+    ensures { λ r. ⌜ wayOf (r .cell) 0 (r .frame) ≡ bestOf (ends (now (row .entry))) frames ⌝ }
+{
+    let mut end = End { cell: 0, frame: 0 };
+    let mut f: u16 = 0;
+    while f < frames {
+        end = nearer(end, row[f as usize], f as u8);
+        f += 1;
+    }
+    end
+}
+
+fn wide(x: u8) -> usize
+    ensures { λ r. ⌜ r ≡ x ⌝ }
+{
+    x as usize
+}
+
+// The frames of hops j to 0, put into their places from frame f of hop j back over the stored predecessors.
+// Form: the frames are recovered from the last hop back to the first by recursion, with the hop number falling at each call.
+fn recover(preds: &[u8; 512], j: usize, f: u8, frames: &mut [u8; 8])
+    requires { ⌜ (j < 8) × ChainFits (now preds) j f × (length (now frames) ≡ 8) ⌝ }
+    ensures { λ r. ⌜ now (frames .exit) ≡ reverse (chainOf (now (preds .entry)) j f) ++ drop (j + 1) (now (frames .entry)) ⌝ }
+{
+    frames[j] = f;
+    if j == 0 {
+        return;
+    }
+    let at = 64 * j + wide(f);
+    recover(preds, j - 1, preds[at], frames)
+}
+
+// The least-delay schedule over hops 0 to n - 1, for a cycle of t ticks.
+// Checks 3, 7, 8 and 12 of document 01 have shown what is required. Form: the search counts as it goes.
+pub fn search(t: u16, hops: [Hop; 8], n: usize) -> Answer
+    requires { ⌜ Ready t hops n ⌝ }
+    ensures { λ r. ⌜ Answered t hops n r ⌝ }
+{
+    let last = n - 1;
+    let mut preds = [0u8; 512];
+    let layer = sweep(t, hops, last, &mut preds);
+    let row = layer.cells;
+    let count = layer.count;
+    let hop = hops[last];
+    let end = best_end(&row, hop.frames);
+    let cell = end.cell;
+    let mut frames = [0u8; 8];
+    if cell == 0 {
+        return Answer {
+            found: Found::Blocked(count),
+            frames,
+        };
+    }
+    recover(&preds, last, end.frame, &mut frames);
+    Answer {
+        found: Found::Schedule(Delay(cell - 1), count),
+        frames,
+    }
 }
