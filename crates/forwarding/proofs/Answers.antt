@@ -29,8 +29,11 @@ pub found-given : (T : ℕ) (h : Hop) (hs : List Hop) (d n : ℕ) (fs : List ℕ
 found-given T h hs d n fs e =
     let a : RouteAnswer T (h ∷ hs) (found d n fs) = subst (RouteAnswer T (h ∷ hs)) e (answer-rules T h hs) in
     record {
-      schedule = a .0 .walk; delay-is = a .1; count-is = a .2;
-      least = λ gs s. omega (arith, walk-least-cost (h .frames) (starts h) (stages T (h .frames) hs) fs gs (a .0) s, a .1) }
+      schedule = a .0 .walk;
+      delay-is = a .1;
+      count-is = a .2;
+      least = λ gs s. omega (arith, walk-least-cost (h .frames) (starts h) (stages T (h .frames) hs) fs gs (a .0) s, a .1);
+    }
 
 -- BLOCKED EXACTLY WHEN THERE IS NO SCHEDULE
 pub blocked-none : (T : ℕ) (h : Hop) (hs : List Hop) (n : ℕ) → routeAnswer T (h ∷ hs) ≡ blocked n → (fs : List ℕ) → IsSchedule T (h ∷ hs) fs → ⊥

@@ -25,9 +25,12 @@ grown-bound : (T : ℕ) (t : Trellis) (K′ : ℕ) (hs : List Hop) → width t �
     → considered (grow t (stages T K′ hs)) ≤ considered t + boundFrom K′ hs
 grown-bound T t K′ [] e p = omega arith
 grown-bound T t K′ (h ∷ hs) e p =
-    omega (arith, grown-bound T (t ▸ stage T K′ h) (h .frames) hs refl (p .1),
-    step-bound t (stage T K′ h) (h .range) (λ k l. stage-narrow T K′ h k (p .0)),
-    ap (λ (x : ℕ). x * h .range) e)
+    omega (
+      arith,
+      grown-bound T (t ▸ stage T K′ h) (h .frames) hs refl (p .1),
+      step-bound t (stage T K′ h) (h .range) (λ k l. stage-narrow T K′ h k (p .0)),
+      ap (λ (x : ℕ). x * h .range) e,
+    )
 
 -- THE COUNT'S BOUND
 pub count-bound : (T : ℕ) (hops : List Hop) → AllPassed T hops → transitions T hops ≤ transitionBound hops

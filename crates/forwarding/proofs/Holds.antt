@@ -42,15 +42,17 @@ meets-on K a i g e l = rw e (mod-eq-of-lt l)
 
 gap-meets : (K a i : ℕ) → a < K → i < K → (a + gap K a i) % K ≡ i
 gap-meets K a i h l =
-    elim (decLt i a)
-    [ yes b ↦ rw (gap-over K a i b h) (meets-over K a i (i + K - a) (omega arith) l)
-    | no b ↦ rw (gap-on K a i (omega arith) l) (meets-on K a i (i - a) (omega arith) l) ]
+    elim (decLt i a) [
+      | yes b ↦ rw (gap-over K a i b h) (meets-over K a i (i + K - a) (omega arith) l)
+      | no b ↦ rw (gap-on K a i (omega arith) l) (meets-on K a i (i - a) (omega arith) l)
+    ]
 
 gap-only : (K a i g : ℕ) → a < K → g < K → (a + g) % K ≡ i → g ≡ gap K a i
 gap-only K a i g h l e =
-    elim (decLt (a + g) K)
-    [ yes b ↦ let q : a + g ≡ i = sym (mod-eq-of-lt b) ∙ e in omega (arith, gap-on K a i (omega arith) (omega arith))
-    | no b ↦ let q : a + g - K ≡ i = sym (mod-once K (a + g) (omega arith) (omega arith)) ∙ e in omega (arith, gap-over K a i (omega arith) h) ]
+    elim (decLt (a + g) K) [
+      | yes b ↦ let q : a + g ≡ i = sym (mod-eq-of-lt b) ∙ e in omega (arith, gap-on K a i (omega arith) (omega arith))
+      | no b ↦ let q : a + g - K ≡ i = sym (mod-once K (a + g) (omega arith) (omega arith)) ∙ e in omega (arith, gap-over K a i (omega arith) h)
+    ]
 
 -- THE HOLD FITS, AND NOTHING ELSE DOES
 pub hold-fits : (K r i : ℕ) → i < K → Fits K r i (hold K r i)
@@ -61,7 +63,8 @@ hold-fits K r i l =
     record {
       least = omega arith;
       most = omega (arith, gap-lt K a i p);
-      meets = ap (λ (x : ℕ). x % K) (sym (add-assoc r leastHold (gap K a i))) ∙ sym (mod-add-mod (r + leastHold) K (gap K a i)) ∙ gap-meets K a i p l }
+      meets = ap (λ (x : ℕ). x % K) (sym (add-assoc r leastHold (gap K a i))) ∙ sym (mod-add-mod (r + leastHold) K (gap K a i)) ∙ gap-meets K a i p l;
+    }
 
 pub hold-only : (K r i D : ℕ) → Fits K r i D → D ≡ hold K r i
 unfolding hold
@@ -69,8 +72,11 @@ hold-only K r i D d =
     let a : ℕ = (r + leastHold) % K in
     let p : a < K = mod-lt (r + leastHold) (omega (arith, d .least, d .most)) in
     let s : r + leastHold + (D - leastHold) ≡ r + D = omega (arith, d .least) in
-    omega (arith, d .least,
-    gap-only K a i (D - leastHold) p (omega (arith, d .least, d .most)) (mod-add-mod (r + leastHold) K (D - leastHold) ∙ ap (λ (x : ℕ). x % K) s ∙ d .meets))
+    omega (
+      arith,
+      d .least,
+      gap-only K a i (D - leastHold) p (omega (arith, d .least, d .most)) (mod-add-mod (r + leastHold) K (D - leastHold) ∙ ap (λ (x : ℕ). x % K) s ∙ d .meets),
+    )
 
 -- in document 01's words: the hold is from 1 to K, and (r + D) mod K = i has no other solution there
 pub hold-range : (K r i : ℕ) → i < K → (1 ≤ hold K r i) × (hold K r i ≤ K) × ((r + hold K r i) % K ≡ i)
@@ -93,16 +99,22 @@ gap-sum K a G h = subst (λ (n : ℕ). sumBelow n (λ i. G (gap K a i)) ≡ sumB
   where
     b : ℕ
     b = K - a
+
     whole : a + b ≡ K
     whole = omega arith
+
     over : sumBelow a (λ i. G (gap K a i)) ≡ sumBelow a (λ i. G (b + i))
     over = sum-cong a (λ i. G (gap K a i)) (λ i. G (b + i)) (λ i l. ap G (gap-over K a i l h ∙ omega arith))
+
     on : sumBelow b (λ j. G (gap K a (a + j))) ≡ sumBelow b G
     on = sum-cong b (λ j. G (gap K a (a + j))) G (λ j l. ap G (gap-on K a (a + j) (omega arith) (omega arith) ∙ omega arith))
+
     flipped : a + b ≡ b + a
     flipped = omega arith
+
     turned : sumBelow (a + b) G ≡ sumBelow b G + sumBelow a (λ i. G (b + i))
     turned = ap (λ (n : ℕ). sumBelow n G) flipped ∙ sum-split b a G
+
     both : sumBelow (a + b) (λ i. G (gap K a i)) ≡ sumBelow (a + b) G
     both = omega (arith, sum-split a b (λ i. G (gap K a i)), over, on, turned)
 

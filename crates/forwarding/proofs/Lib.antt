@@ -2,4 +2,5 @@ pub mod Holds
 pub mod Transitions
 pub mod Bounds
 pub mod Answers
+pub mod ByHops
 pub mod Starred

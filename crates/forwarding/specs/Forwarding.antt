@@ -48,4 +48,5 @@ stage T K′ h = record {
   size = h .frames;
   allowed = λ k i. mayHold h (holdInto K′ h k i) && isFree h i;
   cost = λ k i. delay T (h .frames) (holdInto K′ h k i);
-  rank = λ k i. holdInto K′ h k i }
+  rank = λ k i. holdInto K′ h k i;
+}

@@ -1,5 +1,4 @@
 pub mod Forwarding
 pub mod Schedule
 pub mod Checked
-
 pub mod QuestionFour

@@ -20,5 +20,6 @@ module _ (free : ℕ) where
   one-begun n cells v l b e = record {
     long = length-set cells n v ∙ b .long;
     inside = λ i m. ⊎-elim (λ q. rw (q, getD-set-same cells n v 0 (omega (arith, b .long))) e)
-      (λ q. getD-set-other cells n i v 0 (λ x. omega arith) ∙ b .inside i q) (eq-or-lt-of-le (omega arith));
-    outside = λ i m. getD-set-other cells n i v 0 (λ x. omega arith) ∙ b .outside i (omega arith) }
+        (λ q. getD-set-other cells n i v 0 (λ x. omega arith) ∙ b .inside i q) (eq-or-lt-of-le (omega arith));
+    outside = λ i m. getD-set-other cells n i v 0 (λ x. omega arith) ∙ b .outside i (omega arith);
+  }

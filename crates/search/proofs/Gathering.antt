@@ -33,7 +33,12 @@ time-fits T K x h e = omega (arith, ap (λ (y : ℕ). K * y) e, mul-div-le T K)
 -- a frame that no schedule leads to
 pub visited-never : (st : Stage) (k base cell : ℕ) (r : Rows) → Sized r → cell ≡ 0 → Visited st k (reachOf cell) base r r 0
 visited-never st k base zero r z e = record {
-  inside = λ i l. refl; outside = λ i l. refl; counted = none-below (st .size) (λ i. false) (λ i l. refl); earlier = λ m l. refl; sized = z }
+  inside = λ i l. refl;
+  outside = λ i l. refl;
+  counted = none-below (st .size) (λ i. false) (λ i l. refl);
+  earlier = λ m l. refl;
+  sized = z;
+}
 visited-never st k base (suc c) r z e = absurd (omega arith)
 
 pub reach-some : (cell : ℕ) → (cell ≡ 0 → ⊥) → after (cell - 1) ≡ reachOf cell
@@ -66,8 +71,12 @@ module _ (st : Stage) (cells : List ℕ) (base : ℕ) (old : List ℕ) where
 
   pub none-gathered : length old ≡ 512 → Gathered st cells 0 base old none-yet 0
   none-gathered l = record {
-    inside = λ i h. no-way i; outside = λ i h. no-way i; counted = refl; earlier = λ m h. refl;
-    sized = record { cells-long = length-replicate {A = ℕ} 64 0; holds-long = length-replicate {A = ℕ} 64 0; preds-long = l } }
+    inside = λ i h. no-way i;
+    outside = λ i h. no-way i;
+    counted = refl;
+    earlier = λ m h. refl;
+    sized = record { cells-long = length-replicate {A = ℕ} 64 0; holds-long = length-replicate {A = ℕ} 64 0; preds-long = l };
+  }
 
   pub one-gathered : (k count n : ℕ) (r s : Rows) → Gathered st cells k base old r count → Visited st k (reachOf (getD cells k 0)) base r s n
       → Gathered st cells (k + 1) base old s (count + n)
@@ -76,13 +85,17 @@ module _ (st : Stage) (cells : List ℕ) (base : ℕ) (old : List ℕ) where
     outside = λ i h. v .outside i h ∙ g .outside i h;
     counted = ap₂ _+_ (g .counted) (v .counted);
     earlier = λ m h. v .earlier m h ∙ g .earlier m h;
-    sized = v .sized })
+    sized = v .sized;
+  })
 
   pub all-gathered : (k count : ℕ) (r : Rows) → Gathered st cells k base old r count → Advanced st cells k base old (r .cells) (r .preds) count
   all-gathered k count r g = record {
     inside = λ i h. (getD (r .holds) i 0, g .inside i h);
     outside = λ i h. no-cell (getD (r .cells) i 0) (getD (r .holds) i 0) (getD (r .preds) (base + i) 0) (g .outside i h);
-    counted = g .counted; earlier = g .earlier; long = g .sized .preds-long }
+    counted = g .counted;
+    earlier = g .earlier;
+    long = g .sized .preds-long;
+  }
 
 -- from a frame there are at most as many transitions as frames
 pub visit-count : (st : Stage) (k base n : ℕ) (x : Reach) (r s : Rows) → st .size ≤ 64 → Visited st k x base r s n → n ≤ 64

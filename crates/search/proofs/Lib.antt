@@ -4,3 +4,6 @@ pub mod Gathering
 pub mod Beginning
 pub mod Nearest
 pub mod Recovering
+pub mod Sweeping
+pub mod Ending
+pub mod Results

@@ -21,7 +21,7 @@ chain-step preds zero m f g out r e q h s = absurd (omega arith)
 chain-step preds (suc n) m f g out r e q h s =
     let k : m ≡ n = omega arith in
     let d : drop (m + 1) (set out (suc n) f) ≡ f ∷ drop (suc n + 1) out =
-          ap (λ (x : ℕ). drop x (set out (suc n) f)) (sym e) ∙ drop-put out (suc n) f h ∙ ap (λ (x : ℕ). f ∷ drop x out) (sym (add-one (suc n))) in
+    ap (λ (x : ℕ). drop x (set out (suc n) f)) (sym e) ∙ drop-put out (suc n) f h ∙ ap (λ (x : ℕ). f ∷ drop x out) (sym (add-one (suc n))) in
     s ∙ rw (d, k, q, reverse-cons f (chainOf preds n (fromAt preds (suc n) f))) (sym (append-snoc (reverse (chainOf preds n (fromAt preds (suc n) f))) f (drop (suc n + 1) out)))
 
 pub chain-fits-on : (preds : List ℕ) (j m f g : ℕ) → j ≡ m + 1 → g ≡ fromAt preds j f → ChainFits preds j f → ChainFits preds m g

@@ -99,7 +99,8 @@ module _ (time K′ K w k c : ℕ) (some : 0 < K) where
       outside = λ i l. refl;
       counted = none-below K (λ i. true && reaching 0 .allowed k i) (λ i l. allowed-none i l);
       earlier = λ m l. refl;
-      sized = z }
+      sized = z;
+    }
 
     -- one hold more, to a frame that is not free
     pub spread-shut : (d count : ℕ) (mid : Rows) → d < K → bitOf w (next d) ≡ false → Visited (reaching d) k (after c) base old mid count
@@ -109,7 +110,8 @@ module _ (time K′ K w k c : ℕ) (some : 0 < K) where
       outside = v .outside;
       counted = v .counted ∙ sym (sum-cong K (λ i. oneIf (reaching (d + 1) .allowed k i)) (λ i. oneIf (reaching d .allowed k i)) (λ i h. ap oneIf (same i h)));
       earlier = v .earlier;
-      sized = v .sized }
+      sized = v .sized;
+    }
       where
         same : (i : ℕ) → i < K → reaching (d + 1) .allowed k i ≡ reaching d .allowed k i
         same i h = elim (ℕ-discrete i (next d)) [ yes e ↦ rw e (allowed-next d l ∙ f ∙ sym (allowed-before d l)) | no n ↦ allowed-other d i h n ]
@@ -121,15 +123,18 @@ module _ (time K′ K w k c : ℕ) (some : 0 < K) where
       inside = λ i h. elim (ℕ-discrete i (next d)) [ yes e ↦ rw e here | no n ↦ there i h n ];
       outside = λ i h. o .others i (λ e. omega (arith, next-lt d)) ∙ v .outside i h;
       counted = ap (λ (x : ℕ). x + 1) (v .counted)
-        ∙ sym (sum-at K (next d) 1 (λ i. oneIf (reaching d .allowed k i)) (λ i. oneIf (reaching (d + 1) .allowed k i)) (next-lt d)
-        (λ i h n. ap oneIf (allowed-other d i h n))
-        (ap oneIf (allowed-next d l ∙ f) ∙ sym (ap (λ (b : Bool). oneIf b + 1) (allowed-before d l))));
+          ∙ sym (sum-at K (next d) 1 (λ i. oneIf (reaching d .allowed k i)) (λ i. oneIf (reaching (d + 1) .allowed k i)) (next-lt d)
+          (λ i h n. ap oneIf (allowed-other d i h n))
+          (ap oneIf (allowed-next d l ∙ f) ∙ sym (ap (λ (b : Bool). oneIf b + 1) (allowed-before d l))));
       earlier = λ m h. o .earlier m h ∙ v .earlier m h;
-      sized = o .sized }
+      sized = o .sized;
+    }
       where
         kept : wayAt mid base (next d) ≡ wayAt old base (next d)
         kept = v .inside (next d) (next-lt d) ∙ ap (λ (x : Offer). better (wayAt old base (next d)) x k) (offers-none d (next d) (allowed-before d l))
+
         here : wayAt new base (next d) ≡ better (wayAt old base (next d)) (offerOf (reaching (d + 1)) (next d) (after c) k) k
         here = o .here ∙ ap₂ (λ (b : Best) (x : Offer). better b x k) kept (sym (offers-next d l f))
+
         there : (i : ℕ) → i < K → (i ≡ next d → ⊥) → wayAt new base i ≡ better (wayAt old base i) (offerOf (reaching (d + 1)) i (after c) k) k
         there i h n = o .others i n ∙ v .inside i h ∙ ap (λ (x : Offer). better (wayAt old base i) x k) (sym (offers-as (d + 1) d i (allowed-other d i h n)))

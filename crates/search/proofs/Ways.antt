@@ -52,10 +52,15 @@ module _ (r : Rows) (base i d h k : ℕ) (z : Sized r) (below : i < 64) (small :
     sized = record {
       cells-long = length-set (r .cells) i (d + 1) ∙ z .cells-long;
       holds-long = length-set (r .holds) i h ∙ z .holds-long;
-      preds-long = length-set (r .preds) (base + i) k ∙ z .preds-long } }
+      preds-long = length-set (r .preds) (base + i) k ∙ z .preds-long;
+    };
+  }
 
   -- or it is not
   pub offered-left : taken (wayAt r base i) d h ≡ false → Offered base i d h k r r
   offered-left t = record {
     here = sym (better-taken (wayAt r base i) d h k ∙ ap (λ (b : Bool). pick b (best d h k) (wayAt r base i)) t);
-    others = λ j n. refl; earlier = λ m l. refl; sized = z }
+    others = λ j n. refl;
+    earlier = λ m l. refl;
+    sized = z;
+  }

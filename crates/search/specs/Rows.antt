@@ -66,7 +66,8 @@ stageBy time K′ h = record {
   size = h .frames;
   allowed = λ k i. mayHold h (holdInto K′ h k i) && isFree h i;
   cost = λ k i. holdInto K′ h k i * time;
-  rank = λ k i. holdInto K′ h k i }
+  rank = λ k i. holdInto K′ h k i;
+}
 
 -- every frame of a stage was offered its way from frame k, reached as x says, and the transitions were counted
 pub record Visited (st : Stage) (k : ℕ) (x : Reach) (base : ℕ) (old new : Rows) (count : ℕ) : Type 0 where
@@ -121,7 +122,7 @@ pub record Swept (t : ℕ) (hops : List Hop) (j : ℕ) (cells preds : List ℕ) 
   pub long : length preds ≡ 512
   pub rows : Agrees cells (trellisTo t hops j)
   pub froms : (m : ℕ) → m < j → (i : ℕ) → i < hopAt hops (suc m) .frames
-    → (c h : ℕ) × (wayOf c h (fromAt preds (suc m) i) ≡ into (row (trellisTo t hops m)) (stageAt t hops m) i)
+      → (c h : ℕ) × (wayOf c h (fromAt preds (suc m) i) ≡ into (row (trellisTo t hops m)) (stageAt t hops m) i)
   pub counted : count ≡ scanned (trellisTo t hops j)
 
 -- what the frames of the last hop offer as the end

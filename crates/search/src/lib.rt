@@ -73,7 +73,16 @@ fn comes_before(delay: Delay, hold: Hold, kept: u16, held: u8) -> bool
 }
 
 // Frame i is offered a way from frame k, of this delay and hold: the better of it and the one kept so far is kept.
-fn keep(cells: &mut [u16; 64], holds: &mut [u8; 64], preds: &mut [u8; 512], base: usize, i: u16, delay: Delay, hold: Hold, k: u16)
+fn keep(
+    cells: &mut [u16; 64],
+    holds: &mut [u8; 64],
+    preds: &mut [u8; 512],
+    base: usize,
+    i: u16,
+    delay: Delay,
+    hold: Hold,
+    k: u16,
+)
     requires { ⌜ Sized (rows (now cells) (now holds) (now preds)) × (base ≤ 448) × (i < 64) × (delay .0 ≤ 6720) × (hold .0 ≤ 64) × (k < 64) ⌝ }
     ensures { λ r. ⌜ Offered base i (delay .0) (hold .0) k (rows (now (cells .entry)) (now (holds .entry)) (now (preds .entry))) (rows (now (cells .exit)) (now (holds .exit)) (now (preds .exit))) ⌝ }
 {
@@ -87,7 +96,17 @@ fn keep(cells: &mut [u16; 64], holds: &mut [u8; 64], preds: &mut [u8; 512], base
 
 // The transitions from frame k, reached after this delay, over its holds: each free frame is offered its way. Answers how many there are.
 // `time` is the time of the hop's frame.
-fn spread(cells: &mut [u16; 64], holds: &mut [u8; 64], preds: &mut [u8; 512], base: usize, k: u16, delay: Delay, before: u16, time: Delay, hop: Hop) -> u16
+fn spread(
+    cells: &mut [u16; 64],
+    holds: &mut [u8; 64],
+    preds: &mut [u8; 512],
+    base: usize,
+    k: u16,
+    delay: Delay,
+    before: u16,
+    time: Delay,
+    hop: Hop,
+) -> u16
     requires { ⌜ Sized (rows (now cells) (now holds) (now preds)) × (base ≤ 448) × (k < before) × (before ≤ 64) × (0 < hop .frames) × (hop .frames ≤ 64) × (hop .range ≤ hop .frames) × (hop .frames * time .0 ≤ 960) × (delay .0 ≤ 5760) ⌝ }
     ensures { λ r. ⌜ Visited (stageBy (time .0) before hop) k (after (delay .0)) base (rows (now (cells .entry)) (now (holds .entry)) (now (preds .entry))) (rows (now (cells .exit)) (now (holds .exit)) (now (preds .exit))) r ⌝ }
 {
@@ -110,18 +129,45 @@ fn spread(cells: &mut [u16; 64], holds: &mut [u8; 64], preds: &mut [u8; 512], ba
 }
 
 // The transitions from frame k, where a schedule leads to it.
-fn visit(cells: &mut [u16; 64], holds: &mut [u8; 64], preds: &mut [u8; 512], base: usize, k: u16, cell: u16, before: u16, time: Delay, hop: Hop) -> u16
+fn visit(
+    cells: &mut [u16; 64],
+    holds: &mut [u8; 64],
+    preds: &mut [u8; 512],
+    base: usize,
+    k: u16,
+    cell: u16,
+    before: u16,
+    time: Delay,
+    hop: Hop,
+) -> u16
     requires { ⌜ Sized (rows (now cells) (now holds) (now preds)) × (base ≤ 448) × (k < before) × (before ≤ 64) × (0 < hop .frames) × (hop .frames ≤ 64) × (hop .range ≤ hop .frames) × (hop .frames * time .0 ≤ 960) × (cell ≤ 5761) ⌝ }
     ensures { λ r. ⌜ Visited (stageBy (time .0) before hop) k (reachOf cell) base (rows (now (cells .entry)) (now (holds .entry)) (now (preds .entry))) (rows (now (cells .exit)) (now (holds .exit)) (now (preds .exit))) r ⌝ }
 {
     if cell == 0 {
         return 0;
     }
-    spread(cells, holds, preds, base, k, Delay(cell - 1), before, time, hop)
+    spread(
+        cells,
+        holds,
+        preds,
+        base,
+        k,
+        Delay(cell - 1),
+        before,
+        time,
+        hop,
+    )
 }
 
 // The row of a hop, from the row of the hop before; the frames before go to `preds` from `base` on.
-fn advance(row: &[u16; 64], t: u16, before: u16, hop: Hop, preds: &mut [u8; 512], base: usize) -> Layer
+fn advance(
+    row: &[u16; 64],
+    t: u16,
+    before: u16,
+    hop: Hop,
+    preds: &mut [u8; 512],
+    base: usize,
+) -> Layer
     requires { ⌜ (t ≤ 960) × (before ≤ 64) × Passed t hop × ((m : ℕ) → getD (now row) m 0 ≤ 5761) × (length (now preds) ≡ 512) × (base ≤ 448) ⌝ }
     ensures { λ r. ⌜ Advanced (stage t before hop) (now (row .entry)) before base (now (preds .entry)) (r .cells) (now (preds .exit)) (r .count) ⌝ }
 {
@@ -131,7 +177,17 @@ fn advance(row: &[u16; 64], t: u16, before: u16, hop: Hop, preds: &mut [u8; 512]
     let mut count: u16 = 0;
     let mut k: u16 = 0;
     while k < before {
-        count += visit(&mut cells, &mut holds, preds, base, k, row[k as usize], before, time, hop);
+        count += visit(
+            &mut cells,
+            &mut holds,
+            preds,
+            base,
+            k,
+            row[k as usize],
+            before,
+            time,
+            hop,
+        );
         k += 1;
     }
     Layer { cells, count }

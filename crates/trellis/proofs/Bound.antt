@@ -17,8 +17,11 @@ use Rattle.trellis.proofs.Optimal.{Survives, survives}
 pub step-bound : (t : Trellis) (st : Stage) (w : ℕ) → ((k : ℕ) → k < width t → countBelow (st .size) (λ i. st .allowed k i) ≤ w)
     → considered (t ▸ st) ≤ considered t + width t * w
 step-bound t st w h =
-    omega (arith, sum-bound (width t) w (λ k. countBelow (st .size) (λ i. ends t k && st .allowed k i))
-    (λ k l. le-trans (sum-le (st .size) (λ i. oneIf (ends t k && st .allowed k i)) (λ i. oneIf (st .allowed k i)) (λ i m. and-right-le (ends t k) (st .allowed k i))) (h k l)))
+    omega (
+      arith,
+      sum-bound (width t) w (λ k. countBelow (st .size) (λ i. ends t k && st .allowed k i))
+          (λ k l. le-trans (sum-le (st .size) (λ i. oneIf (ends t k && st .allowed k i)) (λ i. oneIf (st .allowed k i)) (λ i m. and-right-le (ends t k) (st .allowed k i))) (h k l)),
+    )
 
 -- no path costs more than b
 abbrev pub Capped : Trellis → ℕ → Type 0

@@ -100,7 +100,7 @@ module _ (t : Trellis) (st : Stage) (i : ℕ) where
     best-first c r k h o (k′ ∷ p) l =
         let c′ : ℕ = total t k′ (back t k′) + st .cost k′ i in
         let lower : Precedes (c ∷ r ∷ k ∷ []) (c′ ∷ st .rank k′ i ∷ k′ ∷ []) =
-              h .2 k′ c′ (st .rank k′ i) (omega (arith, path-below t k′ p (l .2), length-row t)) (offers k′ p (getD (row t) k′ never) (ih k′) (l .2) (l .1)) in
+        h .2 k′ c′ (st .rank k′ i) (omega (arith, path-below t k′ p (l .2), length-row t)) (offers k′ p (getD (row t) k′ never) (ih k′) (l .2) (l .1)) in
         precedes-trans (key (t ▸ st) i (k ∷ back t k)) (key (t ▸ st) i (k′ ∷ back t k′)) (key (t ▸ st) i (k′ ∷ p))
         (rw (o .cost-is, o .rank-is) (extend (λ n. behind t n (back t n)) i c r k c′ (st .rank k′ i) k′ lower))
         (precedes-put i c′ (total t k′ p + st .cost k′ i) (st .rank k′ i ∷ k′ ∷ behind t k′ (back t k′)) (st .rank k′ i ∷ k′ ∷ behind t k′ p)
@@ -133,10 +133,12 @@ outside t i p h q l = omega (arith, path-below t i q l)
 -- the row and the predecessors give the least path to each node, or none where there is none
 pub survives : (t : Trellis) (i : ℕ) → Survives t i (back t i) (getD (row t) i never)
 survives (entry n s) i =
-    elim (decLt i n)
-    [ yes h ↦ rw (tab-at n s never i h) (begins n s i h (s i) refl)
-    | no h ↦ rw (tab-out n s never i (omega arith)) (outside (entry n s) i [] (omega arith)) ]
+    elim (decLt i n) [
+      | yes h ↦ rw (tab-at n s never i h) (begins n s i h (s i) refl)
+      | no h ↦ rw (tab-out n s never i (omega arith)) (outside (entry n s) i [] (omega arith))
+    ]
 survives (t ▸ st) i =
-    elim (decLt i (st .size))
-    [ yes h ↦ rw (tab-at (st .size) (λ j. reachOf (into (row t) st j)) never i h) (step t st i h (λ k. survives t k) (into (row t) st i) (is-best (λ k. offerOf st i (getD (row t) k never) k) (length (row t))))
-    | no h ↦ rw (tab-out (st .size) (λ j. reachOf (into (row t) st j)) never i (omega arith)) (outside (t ▸ st) i (back (t ▸ st) i) (omega arith)) ]
+    elim (decLt i (st .size)) [
+      | yes h ↦ rw (tab-at (st .size) (λ j. reachOf (into (row t) st j)) never i h) (step t st i h (λ k. survives t k) (into (row t) st i) (is-best (λ k. offerOf st i (getD (row t) k never) k) (length (row t))))
+      | no h ↦ rw (tab-out (st .size) (λ j. reachOf (into (row t) st j)) never i (omega arith)) (outside (t ▸ st) i (back (t ▸ st) i) (omega arith))
+    ]

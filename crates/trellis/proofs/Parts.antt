@@ -35,7 +35,8 @@ module _ (back₁ : ℕ → List ℕ) (m : ℕ) where
   continue-one t u st h = record {
     rows = rw (h .rows);
     paths = λ i. rw (h .rows) (ap (λ (x : List ℕ). nodeOf (into (row u) st i) ∷ x) (h .paths (nodeOf (into (row u) st i))));
-    counts = rw (h .rows) (omega (arith, h .counts)) }
+    counts = rw (h .rows) (omega (arith, h .counts));
+  }
 
   pub continues : (t u : Trellis) (sts : List Stage) → Continues t u → Continues (grow t sts) (grow u sts)
   continues t u [] h = h

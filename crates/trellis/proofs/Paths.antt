@@ -75,9 +75,10 @@ leads-listed (t ▸ st) i (k ∷ p) h =
 -- each once
 once-append {ℓ} : {A : Type ℓ} (xs ys : List A) → EachOnce xs → EachOnce ys → ((x : A) → List·Memᴰ x xs → List·Memᴰ x ys → ⊥) → EachOnce (xs ++ ys)
 once-append [] ys a b d = b
-once-append (x ∷ xs) ys a b d =
-    (λ m. ⊎-elim (a .0) (λ r. d x (List·Memᴰ·head refl) r) (List·Memᴰ·append-cases xs m),
-    once-append xs ys (a .1) b (λ y l r. d y (List·Memᴰ·tail l) r))
+once-append (x ∷ xs) ys a b d = (
+  λ m. ⊎-elim (a .0) (λ r. d x (List·Memᴰ·head refl) r) (List·Memᴰ·append-cases xs m),
+  once-append xs ys (a .1) b (λ y l r. d y (List·Memᴰ·tail l) r),
+)
 
 once-gather {ℓ} : {A : Type ℓ} (n : ℕ) (g : ℕ → List A) → ((k : ℕ) → EachOnce (g k))
     → ((j k : ℕ) (x : A) → List·Memᴰ x (g j) → List·Memᴰ x (g k) → j ≡ k) → EachOnce (gather n g)

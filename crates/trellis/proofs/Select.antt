@@ -47,25 +47,34 @@ module _ (f : ℕ → Offer) (n : ℕ) where
       (omega (arith, h .0), h .1, λ j c′ r′ l g. below-suc j l (λ b. h .2 j c′ r′ b g) (λ q. offer-not-none (f j) c′ r′ (ap f q ∙ e) g))
 
   first : (c r : ℕ) → f n ≡ offer c r → IsBest f n nobody → IsBest f (suc n) (best c r n)
-  first c r e h =
-      (omega arith, e, λ j c′ r′ l g. below-suc j l (λ b. offer-not-none (f j) c′ r′ (h j b) g)
-      (λ q. same-triple c r n c′ r′ j (offer-cost (f j) c r c′ r′ (ap f q ∙ e) g) (offer-rank (f j) c r c′ r′ (ap f q ∙ e) g) (sym q)))
+  first c r e h = (
+    omega arith,
+    e,
+    λ j c′ r′ l g. below-suc j l (λ b. offer-not-none (f j) c′ r′ (h j b) g)
+        (λ q. same-triple c r n c′ r′ j (offer-cost (f j) c r c′ r′ (ap f q ∙ e) g) (offer-rank (f j) c r c′ r′ (ap f q ∙ e) g) (sym q)),
+  )
 
   -- the new offer comes before the old best one
   take-new : (c₀ r₀ k₀ c r : ℕ) → f n ≡ offer c r → IsBest f n (best c₀ r₀ k₀) → Precedes (c ∷ r ∷ n ∷ []) (c₀ ∷ r₀ ∷ k₀ ∷ [])
       → IsBest f (suc n) (best c r n)
-  take-new c₀ r₀ k₀ c r e h p =
-      (omega arith, e, λ j c′ r′ l g. below-suc j l
-      (λ b. precedes-trans (c ∷ r ∷ n ∷ []) (c₀ ∷ r₀ ∷ k₀ ∷ []) (c′ ∷ r′ ∷ j ∷ []) p (h .2 j c′ r′ b g))
-      (λ q. same-triple c r n c′ r′ j (offer-cost (f j) c r c′ r′ (ap f q ∙ e) g) (offer-rank (f j) c r c′ r′ (ap f q ∙ e) g) (sym q)))
+  take-new c₀ r₀ k₀ c r e h p = (
+    omega arith,
+    e,
+    λ j c′ r′ l g. below-suc j l
+        (λ b. precedes-trans (c ∷ r ∷ n ∷ []) (c₀ ∷ r₀ ∷ k₀ ∷ []) (c′ ∷ r′ ∷ j ∷ []) p (h .2 j c′ r′ b g))
+        (λ q. same-triple c r n c′ r′ j (offer-cost (f j) c r c′ r′ (ap f q ∙ e) g) (offer-rank (f j) c r c′ r′ (ap f q ∙ e) g) (sym q)),
+  )
 
   -- the old best offer comes before the new one
   keep-old : (c₀ r₀ k₀ c r : ℕ) → f n ≡ offer c r → IsBest f n (best c₀ r₀ k₀) → Precedes (c₀ ∷ r₀ ∷ k₀ ∷ []) (c ∷ r ∷ n ∷ [])
       → IsBest f (suc n) (best c₀ r₀ k₀)
-  keep-old c₀ r₀ k₀ c r e h p =
-      (omega (arith, h .0), h .1, λ j c′ r′ l g. below-suc j l (λ b. h .2 j c′ r′ b g)
-      (λ q. precedes-trans (c₀ ∷ r₀ ∷ k₀ ∷ []) (c ∷ r ∷ n ∷ []) (c′ ∷ r′ ∷ j ∷ []) p
-      (same-triple c r n c′ r′ j (offer-cost (f j) c r c′ r′ (ap f q ∙ e) g) (offer-rank (f j) c r c′ r′ (ap f q ∙ e) g) (sym q))))
+  keep-old c₀ r₀ k₀ c r e h p = (
+    omega (arith, h .0),
+    h .1,
+    λ j c′ r′ l g. below-suc j l (λ b. h .2 j c′ r′ b g)
+        (λ q. precedes-trans (c₀ ∷ r₀ ∷ k₀ ∷ []) (c ∷ r ∷ n ∷ []) (c′ ∷ r′ ∷ j ∷ []) p
+        (same-triple c r n c′ r′ j (offer-cost (f j) c r c′ r′ (ap f q ∙ e) g) (offer-rank (f j) c r c′ r′ (ap f q ∙ e) g) (sym q))),
+  )
 
   -- the tests decide as the order does
   decide : (c₀ r₀ k₀ c r : ℕ) → f n ≡ offer c r → IsBest f n (best c₀ r₀ k₀)
@@ -79,6 +88,7 @@ module _ (f : ℕ → Offer) (n : ℕ) where
           step (inr x) y = inl x
           step (inl x) (inr y) = inr (x, inl y)
           step (inl x) (inl y) = inr (x, inr (y, inl (h .0)))
+
       go : (t : Bool) → ltb c c₀ ≡ t → (u : Bool) → eqb c c₀ ≡ u → (v : Bool) → ltb r r₀ ≡ v
           → IsBest f (suc n) (pick t (best c r n) (pick (u && v) (best c r n) (best c₀ r₀ k₀)))
       go true p u q v s = take-new c₀ r₀ k₀ c r e h (inl (ltb-true c c₀ p))
@@ -106,7 +116,7 @@ best-only f n nobody (best c r k) h l = offer-not-none (f k) c r (h k (l .0)) (l
 best-only f n (best c r k) nobody h l = offer-not-none (f k) c r (l k (h .0)) (h .1)
 best-only f n (best c r k) (best c′ r′ k′) h l =
     let e : _≡_ {A = List ℕ} (c ∷ r ∷ k ∷ []) (c′ ∷ r′ ∷ k′ ∷ []) =
-          precedes-antisym (c ∷ r ∷ k ∷ []) (c′ ∷ r′ ∷ k′ ∷ []) (h .2 k′ c′ r′ (l .0) (l .1)) (l .2 k c r (h .0) (h .1)) in
+    precedes-antisym (c ∷ r ∷ k ∷ []) (c′ ∷ r′ ∷ k′ ∷ []) (h .2 k′ c′ r′ (l .0) (l .1)) (l .2 k c r (h .0) (h .1)) in
     let x : c ≡ c′ = cc in
     let y : r ≡ r′ = cc in
     let z : k ≡ k′ = cc in

@@ -87,11 +87,14 @@ module _ (n : ℕ) (s : ℕ → Reach) (sts : List Stage) where
 
   walk-least : (w : List ℕ) → LeastWalk n s sts w → Least (grow (entry n s) sts) (reverse w)
   walk-least w h =
-      record { path = walk-path w (h .walk); first = λ q l.
-        let v : Walk n s sts (reverse q) = path-walk q l in
-        let e : pathKey (grow (entry n s) sts) q ≡ walkKey s sts (reverse q) =
-              ap (pathKey (grow (entry n s) sts)) (sym (reverse-reverse q)) ∙ walk-key (reverse q) v in
-        rw (walk-key w (h .walk), e) (h .first (reverse q) v) }
+      record {
+        path = walk-path w (h .walk);
+        first = λ q l.
+            let v : Walk n s sts (reverse q) = path-walk q l in
+            let e : pathKey (grow (entry n s) sts) q ≡ walkKey s sts (reverse q) =
+            ap (pathKey (grow (entry n s) sts)) (sym (reverse-reverse q)) ∙ walk-key (reverse q) v in
+            rw (walk-key w (h .walk), e) (h .first (reverse q) v);
+      }
 
   answers : (a : Answer) → IsAnswer (grow (entry n s) sts) a → Answers n s sts a
   answers (found c m w) h = let u = least-walk w (h .0) in (u, sym (walk-cost w (u .walk)) ∙ h .1, h .2)

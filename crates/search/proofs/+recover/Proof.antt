@@ -97,10 +97,14 @@ recover-recover-requires t c κs =
     let a = s .args in
     let p : 1 ≤ a .j = omega (arith, c .before .before .before .if1 .left) in
     let g : getD (a .preds .now) (64 * a .j + c .before .before .wide .result) 0 ≡ fromAt (a .preds .now) (a .j) (a .f) =
-          ap (λ (x : ℕ). getD (a .preds .now) (64 * a .j + x) 0) (c .before .before .wide .ensures) in
-    (omega (arith, s .pre .0), (omega (arith, s .pre .1 .0),
-    chain-fits-on (a .preds .now) (a .j) (a .j - 1) (a .f) (getD (a .preds .now) (64 * a .j + c .before .before .wide .result) 0) (omega arith) g (s .pre .1 .1),
-    length-set (a .frames .now) (a .j) (a .f) ∙ s .pre .1 .2))
+    ap (λ (x : ℕ). getD (a .preds .now) (64 * a .j + x) 0) (c .before .before .wide .ensures) in (
+      omega (arith, s .pre .0),
+      (
+        omega (arith, s .pre .1 .0),
+        chain-fits-on (a .preds .now) (a .j) (a .j - 1) (a .f) (getD (a .preds .now) (64 * a .j + c .before .before .wide .result) 0) (omega arith) g (s .pre .1 .1),
+        length-set (a .frames .now) (a .j) (a .f) ∙ s .pre .1 .2,
+      ),
+    )
 
 recover-returns-2 : (t : ℕ) → recover-lts.Need-returns-2 (
   wide-reads.Asked,
@@ -113,7 +117,7 @@ recover-returns-2 t c =
     let a = s .args in
     let p : 1 ≤ a .j = omega (arith, c .before .before .before .before .if1 .left) in
     let g : getD (a .preds .now) (64 * a .j + c .before .before .before .wide .result) 0 ≡ fromAt (a .preds .now) (a .j) (a .f) =
-          ap (λ (x : ℕ). getD (a .preds .now) (64 * a .j + x) 0) (c .before .before .before .wide .ensures) in
+    ap (λ (x : ℕ). getD (a .preds .now) (64 * a .j + x) 0) (c .before .before .before .wide .ensures) in
     chain-step (a .preds .now) (a .j) (a .j - 1) (a .f) (getD (a .preds .now) (64 * a .j + c .before .before .before .wide .result) 0) (a .frames .now) (c .recover .last .1 .1 .1 .0)
     (omega arith) g (omega (arith, s .pre .1 .0, s .pre .1 .2)) (c .recover .ensures)
 

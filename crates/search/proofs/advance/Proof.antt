@@ -44,10 +44,17 @@ visit-requires : tie.Need-visit-requires Inv-loop μ-loop
 visit-requires c κs =
     let s = c .before .before .before .before .before .before .before in
     let a = s .args in
-    let l = c .before .before .before .before .before .loop in
-    (l .inv .1 .sized, omega arith, omega arith, omega arith, s .pre .2 .some-frame, s .pre .2 .few-frames, s .pre .2 .in-cycle,
-    time-fits (a .t) (a .hop .frames) (c .before .before .before .before .before .before .frame-time .result .0) (s .pre .0) (c .before .before .before .before .before .before .frame-time .ensures),
-    s .pre .3 (l .k))
+    let l = c .before .before .before .before .before .loop in (
+      l .inv .1 .sized,
+      omega arith,
+      omega arith,
+      omega arith,
+      s .pre .2 .some-frame,
+      s .pre .2 .few-frames,
+      s .pre .2 .in-cycle,
+      time-fits (a .t) (a .hop .frames) (c .before .before .before .before .before .before .frame-time .result .0) (s .pre .0) (c .before .before .before .before .before .before .frame-time .ensures),
+      s .pre .3 (l .k),
+    )
 
 add-count : tie.Need-add-count Inv-loop μ-loop
 add-count c =
@@ -55,8 +62,14 @@ add-count c =
     let a = s .args in
     let l = c .before .before .before .before .before .before .loop in
     let st : Stage = stageBy (c .before .before .before .before .before .before .before .frame-time .result .0) (a .before) (a .hop) in
-    record { fits = omega (arith, l .inv .1 .counted, counts-le st (a .row .now) (l .k) (s .pre .2 .few-frames),
-      visit-count st (l .k) (a .base) (c .visit .result) (reachOf (getD (a .row .now) (l .k) 0)) (rows (l .cells) (l .holds) (l .preds)) (rows (c .visit .last .0) (c .visit .last .1 .0) (c .visit .last .1 .1 .0)) (s .pre .2 .few-frames) (c .visit .ensures)) }
+    record {
+      fits = omega (
+        arith,
+        l .inv .1 .counted,
+        counts-le st (a .row .now) (l .k) (s .pre .2 .few-frames),
+        visit-count st (l .k) (a .base) (c .visit .result) (reachOf (getD (a .row .now) (l .k) 0)) (rows (l .cells) (l .holds) (l .preds)) (rows (c .visit .last .0) (c .visit .last .1 .0) (c .visit .last .1 .1 .0)) (s .pre .2 .few-frames) (c .visit .ensures),
+      );
+    }
 
 add-k : tie.Need-add-k Inv-loop μ-loop
 add-k c = search needs
@@ -68,10 +81,11 @@ loop-again : tie.Need-loop-again Inv-loop μ-loop
 loop-again c =
     let a = c .before .before .before .before .before .before .before .before .args in
     let l = c .before .before .before .before .before .before .loop in
-    let st : Stage = stageBy (c .before .before .before .before .before .before .before .frame-time .result .0) (a .before) (a .hop) in
-    (omega arith,
-    one-gathered st (a .row .now) (a .base) (a .preds .now) (l .k) (l .count) (c .visit .result) (rows (l .cells) (l .holds) (l .preds)) (rows (c .visit .last .0) (c .visit .last .1 .0) (c .visit .last .1 .1 .0))
-    (l .inv .1) (c .visit .ensures))
+    let st : Stage = stageBy (c .before .before .before .before .before .before .before .frame-time .result .0) (a .before) (a .hop) in (
+      omega arith,
+      one-gathered st (a .row .now) (a .base) (a .preds .now) (l .k) (l .count) (c .visit .result) (rows (l .cells) (l .holds) (l .preds)) (rows (c .visit .last .0) (c .visit .last .1 .0) (c .visit .last .1 .1 .0))
+          (l .inv .1) (c .visit .ensures),
+    )
 
 returns : tie.Need-returns Inv-loop μ-loop
 returns c =
@@ -81,7 +95,7 @@ returns c =
     let time = c .before .before .frame-time in
     let e : l .k ≡ a .before = omega arith in
     let st : stageBy (time .result .0) (a .before) (a .hop) ≡ stage (a .t) (a .before) (a .hop) =
-          ap (λ (x : ℕ). stageBy x (a .before) (a .hop)) (time .ensures) ∙ stage-by (a .t) (a .before) (a .hop) (s .pre .2) in
+    ap (λ (x : ℕ). stageBy x (a .before) (a .hop)) (time .ensures) ∙ stage-by (a .t) (a .before) (a .hop) (s .pre .2) in
     subst (λ (u : Stage). Advanced u (a .row .now) (a .before) (a .base) (a .preds .now) (l .cells) (l .preds) (l .count)) st
     (all-gathered (stageBy (time .result .0) (a .before) (a .hop)) (a .row .now) (a .base) (a .preds .now) (a .before) (l .count) (rows (l .cells) (l .holds) (l .preds)) (rw e at (l .inv .1)))
 

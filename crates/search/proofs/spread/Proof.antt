@@ -38,10 +38,11 @@ loop-holds c =
     let s = c .before in
     let a = s .args in
     let h = a .hop in
-    let r : reference (a .k) (h .frames) (a .before) < h .frames = reference-lt (a .k) (h .frames) (a .before) (omega arith) (omega arith) in
-    (omega arith,
-    c .reference-frame .ensures ∙ sym (ap (λ (x : ℕ). x % h .frames) (add-zero (reference (a .k) (h .frames) (a .before))) ∙ mod-eq-of-lt r),
-    none-spread (a .time .0) (a .before) (h .frames) (h .free) (a .k) (a .delay .0) (omega arith) (a .base) (rows (a .cells .now) (a .holds .now) (a .preds .now)) (s .pre .0))
+    let r : reference (a .k) (h .frames) (a .before) < h .frames = reference-lt (a .k) (h .frames) (a .before) (omega arith) (omega arith) in (
+      omega arith,
+      c .reference-frame .ensures ∙ sym (ap (λ (x : ℕ). x % h .frames) (add-zero (reference (a .k) (h .frames) (a .before))) ∙ mod-eq-of-lt r),
+      none-spread (a .time .0) (a .before) (h .frames) (h .free) (a .k) (a .delay .0) (omega arith) (a .base) (rows (a .cells .now) (a .holds .now) (a .preds .now)) (s .pre .0),
+    )
 
 add-d : tie.Need-add-d Inv-loop μ-loop
 add-d c = search needs
@@ -79,11 +80,14 @@ sum-requires c κs =
 keep-requires : tie.Need-keep-requires Inv-loop μ-loop
 keep-requires c κs =
     let a = c .before .before .before .before .before .before .before .before .before .before .before .args in
-    let l = c .before .before .before .before .before .before .before .before .before .loop in
-    (l .inv .2 .sized, omega arith,
-    omega (arith, c .before .before .before .before .before .before .before .frame-after .ensures, mod-lt (l .i + 1) {m = a .hop .frames} (omega arith)),
-    omega (arith, c .before .before .before .sum .ensures, c .before .before .before .before .delay-of .ensures, mul-le-mul-right {m = l .d + 1} {n = a .hop .frames} (a .time .0) (omega arith)),
-    omega arith, omega arith)
+    let l = c .before .before .before .before .before .before .before .before .before .loop in (
+      l .inv .2 .sized,
+      omega arith,
+      omega (arith, c .before .before .before .before .before .before .before .frame-after .ensures, mod-lt (l .i + 1) {m = a .hop .frames} (omega arith)),
+      omega (arith, c .before .before .before .sum .ensures, c .before .before .before .before .delay-of .ensures, mul-le-mul-right {m = l .d + 1} {n = a .hop .frames} (a .time .0) (omega arith)),
+      omega arith,
+      omega arith,
+    )
 
 loop-less : tie.Need-loop-less Inv-loop μ-loop
 loop-less c = search needs
@@ -94,13 +98,15 @@ loop-again c =
     let a = s .args in
     let l = c .before .before .before .before .before .before .before .before .before .before .loop in
     let on = frame-on (a .hop .frames) (reference (a .k) (a .hop .frames) (a .before)) (l .d) (l .i) (c .before .before .before .before .before .before .before .before .frame-after .result) (l .inv .1)
-          (c .before .before .before .before .before .before .before .before .frame-after .ensures) in
-    let later = c .before .before .before .before .sum .ensures ∙ ap (λ (x : ℕ). a .delay .0 + x) (c .before .before .before .before .before .delay-of .ensures) in
-    (omega arith, on,
-    spread-free (a .time .0) (a .before) (a .hop .frames) (a .hop .free) (a .k) (a .delay .0) (omega arith) (a .base) (rows (a .cells .now) (a .holds .now) (a .preds .now))
-    (l .d) (l .count) (rows (l .cells) (l .holds) (l .preds)) (rows (c .keep .last .0) (c .keep .last .1 .0) (c .keep .last .1 .1 .0)) (omega arith)
-    (ap (bitOf (a .hop .free)) (sym on) ∙ sym (c .before .before .before .before .before .before .before .has-bit .ensures) ∙ c .before .before .before .before .before .before .if1 .taken)
-    (l .inv .2) (rw (on, later) at (c .keep .ensures)))
+    (c .before .before .before .before .before .before .before .before .frame-after .ensures) in
+    let later = c .before .before .before .before .sum .ensures ∙ ap (λ (x : ℕ). a .delay .0 + x) (c .before .before .before .before .before .delay-of .ensures) in (
+      omega arith,
+      on,
+      spread-free (a .time .0) (a .before) (a .hop .frames) (a .hop .free) (a .k) (a .delay .0) (omega arith) (a .base) (rows (a .cells .now) (a .holds .now) (a .preds .now))
+          (l .d) (l .count) (rows (l .cells) (l .holds) (l .preds)) (rows (c .keep .last .0) (c .keep .last .1 .0) (c .keep .last .1 .1 .0)) (omega arith)
+          (ap (bitOf (a .hop .free)) (sym on) ∙ sym (c .before .before .before .before .before .before .before .has-bit .ensures) ∙ c .before .before .before .before .before .before .if1 .taken)
+          (l .inv .2) (rw (on, later) at (c .keep .ensures)),
+    )
 
 loop-less-2 : tie.Need-loop-less-2 Inv-loop μ-loop
 loop-less-2 c = search needs
@@ -109,11 +115,13 @@ loop-again-2 : tie.Need-loop-again-2 Inv-loop μ-loop
 loop-again-2 c =
     let a = c .before .before .before .before .before .before .args in
     let l = c .before .before .before .before .loop in
-    let on = frame-on (a .hop .frames) (reference (a .k) (a .hop .frames) (a .before)) (l .d) (l .i) (c .before .before .frame-after .result) (l .inv .1) (c .before .before .frame-after .ensures) in
-    (omega arith, on,
-    spread-shut (a .time .0) (a .before) (a .hop .frames) (a .hop .free) (a .k) (a .delay .0) (omega arith) (a .base) (rows (a .cells .now) (a .holds .now) (a .preds .now))
-    (l .d) (l .count) (rows (l .cells) (l .holds) (l .preds)) (omega arith)
-    (ap (bitOf (a .hop .free)) (sym on) ∙ sym (c .before .has-bit .ensures) ∙ c .if1 .left) (l .inv .2))
+    let on = frame-on (a .hop .frames) (reference (a .k) (a .hop .frames) (a .before)) (l .d) (l .i) (c .before .before .frame-after .result) (l .inv .1) (c .before .before .frame-after .ensures) in (
+      omega arith,
+      on,
+      spread-shut (a .time .0) (a .before) (a .hop .frames) (a .hop .free) (a .k) (a .delay .0) (omega arith) (a .base) (rows (a .cells .now) (a .holds .now) (a .preds .now))
+          (l .d) (l .count) (rows (l .cells) (l .holds) (l .preds)) (omega arith)
+          (ap (bitOf (a .hop .free)) (sym on) ∙ sym (c .before .has-bit .ensures) ∙ c .if1 .left) (l .inv .2),
+    )
 
 returns : tie.Need-returns Inv-loop μ-loop
 returns c =
