@@ -7,7 +7,7 @@ use Rattle.trellis.specs.Answer.{Answer, found, blocked}
 use Rattle.trellis.specs.Walk.{LeastWalk, Answers}
 use Rattle.trellis.proofs.Walk.{answer-answers, answers-only, walk-least-cost}
 use Rattle.forwarding.specs.declared.Hop.{Hop}
-use Rattle.forwarding.specs.Schedule.{starts, stages, IsSchedule, scheduleDelay, transitions, routeAnswer, RouteAnswer}
+use Rattle.forwarding.specs.Schedule.{starts, stages, IsSchedule, scheduleDelay, transitions, routeAnswer, RouteAnswer, Given}
 
 -- THE ANSWER IS THE LEAST SCHEDULE, ties as written, or blocked where there is none; and it is the only one
 pub answer-rules : (T : ℕ) (h : Hop) (hs : List Hop) → RouteAnswer T (h ∷ hs) (routeAnswer T (h ∷ hs))
@@ -18,13 +18,7 @@ pub answer-unique : (T : ℕ) (h : Hop) (hs : List Hop) (a : Answer) → RouteAn
 unfolding routeAnswer
 answer-unique T h hs a r = answers-only (h .frames) (starts h) (stages T (h .frames) hs) a r
 
--- a schedule that is found is one, with its delay and count, and every other has at least that delay
-pub record Given (T : ℕ) (hops : List Hop) (d n : ℕ) (fs : List ℕ) : Type 0 where
-  pub schedule : IsSchedule T hops fs
-  pub delay-is : scheduleDelay T hops fs ≡ d
-  pub count-is : n ≡ transitions T hops
-  pub least : (gs : List ℕ) → IsSchedule T hops gs → d ≤ scheduleDelay T hops gs
-
+-- A SCHEDULE THAT IS FOUND IS LEAST: every other has at least its delay
 pub found-given : (T : ℕ) (h : Hop) (hs : List Hop) (d n : ℕ) (fs : List ℕ) → routeAnswer T (h ∷ hs) ≡ found d n fs → Given T (h ∷ hs) d n fs
 found-given T h hs d n fs e =
     let a : RouteAnswer T (h ∷ hs) (found d n fs) = subst (RouteAnswer T (h ∷ hs)) e (answer-rules T h hs) in

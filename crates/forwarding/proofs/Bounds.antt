@@ -52,6 +52,11 @@ pub delay-bound : (T : ℕ) (h : Hop) (hs : List Hop) (fs : List ℕ) → AllPas
 delay-bound T h hs [] p s = absurd s
 delay-bound T h hs (k ∷ is) p s = omega (arith, start-cost (isFree h k), onward-cap T (h .frames) k hs is (p .1) (s .2))
 
+-- "0 for one hop"
+pub delay-one-hop : (T : ℕ) (h : Hop) (fs : List ℕ) → IsSchedule T (h ∷ []) fs → scheduleDelay T (h ∷ []) fs ≡ 0
+delay-one-hop T h [] s = absurd s
+delay-one-hop T h (k ∷ is) s = omega (arith, start-cost (isFree h k))
+
 -- for a route of at most 8 links and a cycle of at most 960 ticks
 pub delay-at-most : (T : ℕ) (hops : List Hop) (fs : List ℕ) → T ≤ 960 → length hops ≤ 8 → AllPassed T hops → IsSchedule T hops fs
     → scheduleDelay T hops fs ≤ 7 * 960

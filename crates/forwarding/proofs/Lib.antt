@@ -1,4 +1,5 @@
 pub mod Holds
+pub mod Rates
 pub mod Transitions
 pub mod Bounds
 pub mod Answers

@@ -2,7 +2,7 @@
 use mathlib.Core.Path.{_≡_}
 use mathlib.Core.Bool.{Bool, true, false}
 use mathlib.Core.List.{List, [], _∷_}
-use Prim.Native.Nat.{ℕ, _+_, _*_}
+use Prim.Native.Nat.{ℕ, _+_, _*_, _≤_}
 use Rattle.trellis.specs.Trellis.{Reach, never, after, Stage, Trellis, entry}
 use Rattle.trellis.specs.Considered.{considered}
 use Rattle.trellis.specs.Answer.{Answer, answer}
@@ -60,3 +60,10 @@ routeAnswer T hops = answer (routeTrellis T hops)
 abbrev pub RouteAnswer : ℕ → List Hop → Answer → Type 0
 RouteAnswer T [] a = ⊥
 RouteAnswer T (h ∷ hs) a = Answers (h .frames) (starts h) (stages T (h .frames) hs) a
+
+-- a schedule with its delay and count, and no schedule has a smaller delay
+pub record Given (T : ℕ) (hops : List Hop) (d n : ℕ) (fs : List ℕ) : Type 0 where
+  pub schedule : IsSchedule T hops fs
+  pub delay-is : scheduleDelay T hops fs ≡ d
+  pub count-is : n ≡ transitions T hops
+  pub least : (gs : List ℕ) → IsSchedule T hops gs → d ≤ scheduleDelay T hops gs

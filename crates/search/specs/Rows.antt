@@ -14,7 +14,7 @@ use Rattle.words.specs.Word.{bitOf}
 use Rattle.forwarding.specs.declared.Hop.{Hop}
 use Rattle.forwarding.specs.Forwarding.{holdInto, isFree, mayHold, stage}
 use Rattle.forwarding.specs.Schedule.{starts}
-use Rattle.forwarding.specs.Checked.{noHop}
+use Rattle.forwarding.specs.Checked.{Passed, noHop}
 
 -- a cell: 0 where no schedule leads to the frame, and else the least delay and 1
 abbrev pub reachOf : ℕ → Reach
@@ -69,6 +69,21 @@ stageBy time K′ h = record {
   rank = λ k i. holdInto K′ h k i;
 }
 
+-- what is known where the transitions from frame k of a hop with K′ frames into the next hop are gone over; `time` is the time of its frame
+pub record Leaving (r : Rows) (base k K′ time : ℕ) (h : Hop) : Type 0 where
+  pub sized : Sized r
+  -- check 12: hop 7 is the last, and its predecessors stand from 448 on
+  pub within : base ≤ 448
+  -- k is a frame of the hop before; check 7: it has at most 64
+  pub frame : k < K′
+  pub few-before : K′ ≤ 64
+  -- checks 7 and 8 of the next hop's link
+  pub some-frame : 0 < h .frames
+  pub few-frames : h .frames ≤ 64
+  pub in-cycle : h .range ≤ h .frames
+  -- checks 3 and 7: K frames last T ticks, at most 960
+  pub in-time : h .frames * time ≤ 960
+
 -- every frame of a stage was offered its way from frame k, reached as x says, and the transitions were counted
 pub record Visited (st : Stage) (k : ℕ) (x : Reach) (base : ℕ) (old new : Rows) (count : ℕ) : Type 0 where
   pub inside : (i : ℕ) → i < st .size → wayAt new base i ≡ better (wayAt old base i) (offerOf st i x k) k
@@ -84,6 +99,18 @@ offers st cells i k = offerOf st i (reachOf (getD cells k 0)) k
 -- the transitions from the first n frames of the hop before
 abbrev pub counts : Stage → List ℕ → ℕ → ℕ
 counts st cells n = sumBelow n (λ k. countBelow (st .size) (λ i. reached (reachOf (getD cells k 0)) && st .allowed k i))
+
+-- what is known where a hop is entered from one of K′ frames with the row `cells`, for a cycle of t ticks
+pub record Entering (t K′ : ℕ) (h : Hop) (cells preds : List ℕ) (base : ℕ) : Type 0 where
+  -- check 3: T is at most 960
+  pub cycle : t ≤ 960
+  -- check 7 of the link before, and checks 7 and 8 of the link entered
+  pub few-before : K′ ≤ 64
+  pub passed : Passed t h
+  -- check 12: at most six transitions lie behind, of a cycle each at most
+  pub small : (m : ℕ) → getD cells m 0 ≤ 5761
+  pub within : base ≤ 448
+  pub long : length preds ≡ 512
 
 -- the row and the predecessors of a hop after one of K′ frames with the row `cells`
 pub record Advanced (st : Stage) (cells : List ℕ) (K′ base : ℕ) (old next preds : List ℕ) (count : ℕ) : Type 0 where

@@ -7,15 +7,15 @@ use forwarding::Hop;
 ghost use mathlib.Core.Path.{_≡_};
 ghost use mathlib.Core.List.{_++_, reverse};
 ghost use Prim.Native.Nat.{ℕ, _+_, _-_, _*_, _%_, _<_, _≤_};
-ghost use lib.ListN.{length, getD, drop};
+ghost use lib.ListN.{length, drop};
 ghost use Rattle.trellis.specs.Trellis.{after};
 ghost use Rattle.trellis.specs.Count.{oneIf};
 ghost use Rattle.trellis.proofs.Survivor.{better, bestOf, lastOffer};
 ghost use Rattle.words.specs.Word.{bitOf};
 ghost use Rattle.forwarding.specs.Forwarding.{stage, isFree};
-ghost use Rattle.forwarding.specs.Checked.{Passed, Ready};
+ghost use Rattle.forwarding.specs.Checked.{Ready};
 ghost use Rattle.search.specs.Reading.{Answered};
-ghost use Rattle.search.specs.Rows.{reachOf, rows, wayOf, Sized, taken, Offered, stageBy, Visited, Advanced, Begun, Swept, ends, chainOf, ChainFits};
+ghost use Rattle.search.specs.Rows.{reachOf, rows, wayOf, Sized, taken, Offered, stageBy, Leaving, Visited, Entering, Advanced, Begun, Swept, ends, chainOf, ChainFits};
 
 // What a search found: a schedule, with its delay and the count of transitions considered; or that there is none, with the count.
 pub enum Found {
@@ -107,7 +107,7 @@ fn spread(
     time: Delay,
     hop: Hop,
 ) -> u16
-    requires { ⌜ Sized (rows (now cells) (now holds) (now preds)) × (base ≤ 448) × (k < before) × (before ≤ 64) × (0 < hop .frames) × (hop .frames ≤ 64) × (hop .range ≤ hop .frames) × (hop .frames * time .0 ≤ 960) × (delay .0 ≤ 5760) ⌝ }
+    requires { ⌜ Leaving (rows (now cells) (now holds) (now preds)) base k before (time .0) hop × (delay .0 ≤ 5760) ⌝ }
     ensures { λ r. ⌜ Visited (stageBy (time .0) before hop) k (after (delay .0)) base (rows (now (cells .entry)) (now (holds .entry)) (now (preds .entry))) (rows (now (cells .exit)) (now (holds .exit)) (now (preds .exit))) r ⌝ }
 {
     let frames = hop.frames;
@@ -140,7 +140,7 @@ fn visit(
     time: Delay,
     hop: Hop,
 ) -> u16
-    requires { ⌜ Sized (rows (now cells) (now holds) (now preds)) × (base ≤ 448) × (k < before) × (before ≤ 64) × (0 < hop .frames) × (hop .frames ≤ 64) × (hop .range ≤ hop .frames) × (hop .frames * time .0 ≤ 960) × (cell ≤ 5761) ⌝ }
+    requires { ⌜ Leaving (rows (now cells) (now holds) (now preds)) base k before (time .0) hop × (cell ≤ 5761) ⌝ }
     ensures { λ r. ⌜ Visited (stageBy (time .0) before hop) k (reachOf cell) base (rows (now (cells .entry)) (now (holds .entry)) (now (preds .entry))) (rows (now (cells .exit)) (now (holds .exit)) (now (preds .exit))) r ⌝ }
 {
     if cell == 0 {
@@ -168,7 +168,7 @@ fn advance(
     preds: &mut [u8; 512],
     base: usize,
 ) -> Layer
-    requires { ⌜ (t ≤ 960) × (before ≤ 64) × Passed t hop × ((m : ℕ) → getD (now row) m 0 ≤ 5761) × (length (now preds) ≡ 512) × (base ≤ 448) ⌝ }
+    requires { ⌜ Entering t before hop (now row) (now preds) base ⌝ }
     ensures { λ r. ⌜ Advanced (stage t before hop) (now (row .entry)) before base (now (preds .entry)) (r .cells) (now (preds .exit)) (r .count) ⌝ }
 {
     let time = forwarding::frame_time(t, hop.frames);
@@ -299,9 +299,9 @@ pub fn search(t: u16, hops: [Hop; 8], n: usize) -> Answer
     let count = layer.count;
     let hop = hops[last];
     let end = best_end(&row, hop.frames);
-    let cell = end.cell;
+    let least = end.cell;
     let mut frames = [0u8; 8];
-    if cell == 0 {
+    if least == 0 {
         return Answer {
             found: Found::Blocked(count),
             frames,
@@ -309,7 +309,7 @@ pub fn search(t: u16, hops: [Hop; 8], n: usize) -> Answer
     }
     recover(&preds, last, end.frame, &mut frames);
     Answer {
-        found: Found::Schedule(Delay(cell - 1), count),
+        found: Found::Schedule(Delay(least - 1), count),
         frames,
     }
 }

@@ -28,7 +28,7 @@ row-ends t k = go (getD (row t) k never) (survives t k) (ends t k) refl
     go (after c) s b e = sym (path-ends t k (back t k) (s .path)) ∙ e
 
 -- the steps scanned are those to be considered
-scanned-right : (t : Trellis) → scanned t ≡ considered t
+pub scanned-right : (t : Trellis) → scanned t ≡ considered t
 scanned-right (entry n s) = refl
 scanned-right (t ▸ st) = ap₂ _+_ (scanned-right t) (simp (row-ends, length-row))
 
@@ -127,3 +127,10 @@ answer-right t = from-list t (allPaths t) (λ p h. path-listed t p h) (λ p m. l
 -- SURVIVOR SEARCH GIVES THE RULE'S ANSWER
 pub survivor-least : (t : Trellis) → survivor t ≡ answer t
 survivor-least t = answer-only t (survivor t) (answer t) (survivor-right t) (answer-right t)
+
+-- BLOCKED EXACTLY WHEN THERE IS NO PATH
+pub blocked-none : (t : Trellis) (n : ℕ) → answer t ≡ blocked n → (p : List ℕ) → IsPath t p → ⊥
+blocked-none t n e = subst (IsAnswer t) e (answer-right t) .0
+
+pub none-blocked : (t : Trellis) → ((p : List ℕ) → IsPath t p → ⊥) → answer t ≡ blocked (considered t)
+none-blocked t free = answer-only t (answer t) (blocked (considered t)) (answer-right t) (free, refl)

@@ -23,13 +23,13 @@ abbrev μ-loop : tie.MeasureT-loop
 μ-loop row t before hop preds₀ base time cells₀ holds₀ count₀ k₀ preds cells holds count k = before - k
 
 frame-time-requires : tie.Need-frame-time-requires Inv-loop μ-loop
-frame-time-requires c κs = c .pre .2 .some-frame
+frame-time-requires c κs = c .pre .passed .some-frame
 
 loop-holds : tie.Need-loop-holds Inv-loop μ-loop
 loop-holds c =
     let s = c .before in
     let a = s .args in
-    (omega arith, none-gathered (stageBy (c .frame-time .result .0) (a .before) (a .hop)) (a .row .now) (a .base) (a .preds .now) (s .pre .4))
+    (omega arith, none-gathered (stageBy (c .frame-time .result .0) (a .before) (a .hop)) (a .row .now) (a .base) (a .preds .now) (s .pre .long))
 
 cast-visit : tie.Need-cast-visit Inv-loop μ-loop
 cast-visit c = search needs
@@ -44,16 +44,19 @@ visit-requires : tie.Need-visit-requires Inv-loop μ-loop
 visit-requires c κs =
     let s = c .before .before .before .before .before .before .before in
     let a = s .args in
-    let l = c .before .before .before .before .before .loop in (
-      l .inv .1 .sized,
-      omega arith,
-      omega arith,
-      omega arith,
-      s .pre .2 .some-frame,
-      s .pre .2 .few-frames,
-      s .pre .2 .in-cycle,
-      time-fits (a .t) (a .hop .frames) (c .before .before .before .before .before .before .frame-time .result .0) (s .pre .0) (c .before .before .before .before .before .before .frame-time .ensures),
-      s .pre .3 (l .k),
+    let l = c .before .before .before .before .before .loop in
+    let time = c .before .before .before .before .before .before .frame-time in (
+      record {
+        sized = l .inv .1 .sized;
+        within = s .pre .within;
+        frame = omega arith;
+        few-before = s .pre .few-before;
+        some-frame = s .pre .passed .some-frame;
+        few-frames = s .pre .passed .few-frames;
+        in-cycle = s .pre .passed .in-cycle;
+        in-time = time-fits (a .t) (a .hop .frames) (time .result .0) (s .pre .cycle) (time .ensures);
+      },
+      s .pre .small (l .k),
     )
 
 add-count : tie.Need-add-count Inv-loop μ-loop
@@ -66,8 +69,8 @@ add-count c =
       fits = omega (
         arith,
         l .inv .1 .counted,
-        counts-le st (a .row .now) (l .k) (s .pre .2 .few-frames),
-        visit-count st (l .k) (a .base) (c .visit .result) (reachOf (getD (a .row .now) (l .k) 0)) (rows (l .cells) (l .holds) (l .preds)) (rows (c .visit .last .0) (c .visit .last .1 .0) (c .visit .last .1 .1 .0)) (s .pre .2 .few-frames) (c .visit .ensures),
+        counts-le st (a .row .now) (l .k) (s .pre .passed .few-frames),
+        visit-count st (l .k) (a .base) (c .visit .result) (reachOf (getD (a .row .now) (l .k) 0)) (rows (l .cells) (l .holds) (l .preds)) (rows (c .visit .last .0) (c .visit .last .1 .0) (c .visit .last .1 .1 .0)) (s .pre .passed .few-frames) (c .visit .ensures),
       );
     }
 
@@ -95,7 +98,7 @@ returns c =
     let time = c .before .before .frame-time in
     let e : l .k ≡ a .before = omega arith in
     let st : stageBy (time .result .0) (a .before) (a .hop) ≡ stage (a .t) (a .before) (a .hop) =
-    ap (λ (x : ℕ). stageBy x (a .before) (a .hop)) (time .ensures) ∙ stage-by (a .t) (a .before) (a .hop) (s .pre .2) in
+    ap (λ (x : ℕ). stageBy x (a .before) (a .hop)) (time .ensures) ∙ stage-by (a .t) (a .before) (a .hop) (s .pre .passed) in
     subst (λ (u : Stage). Advanced u (a .row .now) (a .before) (a .base) (a .preds .now) (l .cells) (l .preds) (l .count)) st
     (all-gathered (stageBy (time .result .0) (a .before) (a .hop)) (a .row .now) (a .base) (a .preds .now) (a .before) (l .count) (rows (l .cells) (l .holds) (l .preds)) (rw e at (l .inv .1)))
 

@@ -41,7 +41,7 @@ loop-holds c =
     let r : reference (a .k) (h .frames) (a .before) < h .frames = reference-lt (a .k) (h .frames) (a .before) (omega arith) (omega arith) in (
       omega arith,
       c .reference-frame .ensures ∙ sym (ap (λ (x : ℕ). x % h .frames) (add-zero (reference (a .k) (h .frames) (a .before))) ∙ mod-eq-of-lt r),
-      none-spread (a .time .0) (a .before) (h .frames) (h .free) (a .k) (a .delay .0) (omega arith) (a .base) (rows (a .cells .now) (a .holds .now) (a .preds .now)) (s .pre .0),
+      none-spread (a .time .0) (a .before) (h .frames) (h .free) (a .k) (a .delay .0) (omega arith) (a .base) (rows (a .cells .now) (a .holds .now) (a .preds .now)) (s .pre .0 .sized),
     )
 
 add-d : tie.Need-add-d Inv-loop μ-loop

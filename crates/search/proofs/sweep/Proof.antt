@@ -55,14 +55,16 @@ advance-requires : tie.Need-advance-requires Inv-loop μ-loop
 advance-requires c κs =
     let s = c .before .before .before .before .before .before .before .before in
     let a = s .args in
-    let l = c .before .before .before .before .before .loop in (
-      s .pre .0 .cycle,
-      s .pre .0 .passed (l .j) (omega arith) .few-frames,
-      s .pre .0 .passed (l .j + 1) (omega arith),
-      cells-small (a .t) (a .t2) (a .last) (s .pre .0) (l .j) (l .row) (omega arith) (l .inv .2 .rows),
-      l .inv .2 .long,
-      omega (arith, s .pre .0 .few-hops),
-    )
+    let l = c .before .before .before .before .before .loop in
+    let r = s .pre .0 in
+    record {
+      cycle = r .cycle;
+      few-before = r .passed (l .j) (omega arith) .few-frames;
+      passed = r .passed (l .j + 1) (omega arith);
+      small = cells-small (a .t) (a .t2) (a .last) r (l .j) (l .row) (omega arith) (l .inv .2 .rows);
+      within = omega (arith, r .few-hops);
+      long = l .inv .2 .long;
+    }
 
 add-count : tie.Need-add-count Inv-loop μ-loop
 add-count c =

@@ -13,7 +13,7 @@ returns : tie.Need-returns
 returns c =
     let s = c .before in
     let a = s .args in
-    visited-never (stageBy (a .time .0) (a .before) (a .hop)) (a .k) (a .base) (a .cell) (rows (a .cells .now) (a .holds .now) (a .preds .now)) (s .pre .0) (c .if1 .taken)
+    visited-never (stageBy (a .time .0) (a .before) (a .hop)) (a .k) (a .base) (a .cell) (rows (a .cells .now) (a .holds .now) (a .preds .now)) (s .pre .0 .sized) (c .if1 .taken)
 
 sub-t14 : tie.Need-sub-t14
 sub-t14 c = search needs
