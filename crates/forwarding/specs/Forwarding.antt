@@ -1,6 +1,7 @@
 -- Document 01, "Forwarding": the reference frame, the hold and the delay, and the transitions into a hop. Assumes nothing.
+use mathlib.Core.Path.{_≡_}
 use mathlib.Core.Bool.{Bool, _&&_}
-use Prim.Native.Nat.{ℕ, _+_, _-_, _*_, _/_, _%_}
+use Prim.Native.Nat.{ℕ, _+_, _-_, _*_, _/_, _%_, _<_}
 use lib.Dec.{leb}
 use Rattle.trellis.specs.Trellis.{Stage}
 use Rattle.words.specs.Word.{bitOf}
@@ -30,6 +31,11 @@ frameTime T K = T / K
 unfoldable pub delay : ℕ → ℕ → ℕ → ℕ
 delay T K D = D * T / K
 
+-- the delay d of a hold D by a frame's time: the rule's delay on every link with that time whose K divides T (check 7)
+pub record Delayed (D time d : ℕ) : Type 0 where
+  pub product : d ≡ D * time
+  pub ruled : (T K : ℕ) → 0 < K → T % K ≡ 0 → time ≡ frameTime T K → d ≡ delay T K D
+
 -- a frame of a hop is free: "Written as a word, bit i stands for a free frame i"
 unfoldable pub isFree : Hop → ℕ → Bool
 isFree h i = bitOf (h .free) i
@@ -42,11 +48,16 @@ mayHold h D = leb D (h .range)
 unfoldable pub holdInto : ℕ → Hop → ℕ → ℕ → ℕ
 holdInto K′ h k i = hold (h .frames) (reference k (h .frames) K′) i
 
--- the stage of a hop: "The transition is allowed when D is at most that link's Z and i is free"; among equal delays the smaller hold wins
-abbrev pub stage : ℕ → ℕ → Hop → Stage
-stage T K′ h = record {
+-- the transitions into a hop from one with K′ frames: "The transition is allowed when D is at most that link's Z and i is free"; among equal
+-- delays the smaller hold wins; `cost` is what a hold costs
+abbrev pub stageOf : (ℕ → ℕ) → ℕ → Hop → Stage
+stageOf cost K′ h = record {
   size = h .frames;
   allowed = λ k i. mayHold h (holdInto K′ h k i) && isFree h i;
-  cost = λ k i. delay T (h .frames) (holdInto K′ h k i);
+  cost = λ k i. cost (holdInto K′ h k i);
   rank = λ k i. holdInto K′ h k i;
 }
+
+-- the stage of a hop: a hold costs its delay in ticks
+abbrev pub stage : ℕ → ℕ → Hop → Stage
+stage T K′ h = stageOf (delay T (h .frames)) K′ h

@@ -14,18 +14,18 @@ pub record Case : Type 0 where
 abbrev case : List Hop → Answer → Case
 case hops a = record { route = hops; expected = a }
 
--- "Braces name the only free frames"
-abbrev among : List ℕ → ℕ → Bool
-among [] i = false
-among (j ∷ js) i = eqb i j || among js i
+-- "Braces name the only free frames"; `all` is every frame free
+abbrev only : List ℕ → ℕ → Bool
+only [] i = false
+only (j ∷ js) i = eqb i j || only js i
+
+abbrev all : ℕ → Bool
+all i = true
 
 abbrev link : ℕ → ℕ → (ℕ → Bool) → Hop
 link K Z free = record { frames = K; range = Z; free = wordOf K free }
 
--- "links A, B, E have K 8, Z 2; C 16, 4; D 4, 2"; `all` is every frame free
-abbrev all : ℕ → Bool
-all i = true
-
+-- "links A, B, E have K 8, Z 2; C 16, 4; D 4, 2": B and E are links like A
 abbrev A : (ℕ → Bool) → Hop
 A = link 8 2
 
@@ -35,13 +35,11 @@ C = link 16 4
 abbrev D : (ℕ → Bool) → Hop
 D = link 4 2
 
-abbrev only : List ℕ → ℕ → Bool
-only = among
-
--- B and E are links like A; the answers have delay, count and frames
+-- the answers have delay, count and frames; blocked has the count
 unfoldable pub starred : List Case
 starred =
     case (A all ∷ []) (found 0 0 (0 ∷ []))
+    ∷ case (A (only []) ∷ []) (blocked 0)
     ∷ case (A all ∷ A all ∷ []) (found 6 16 (7 ∷ 0 ∷ []))
     ∷ case (A (only (3 ∷ [])) ∷ A (only (5 ∷ [])) ∷ []) (found 12 1 (3 ∷ 5 ∷ []))
     ∷ case (A (only (3 ∷ [])) ∷ A (only (6 ∷ [])) ∷ []) (blocked 0)

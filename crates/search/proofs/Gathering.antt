@@ -13,7 +13,7 @@ use Rattle.trellis.specs.Paths.{reached}
 use Rattle.trellis.proofs.Count.{sum-bound, count-le}
 use Rattle.trellis.proofs.Survivor.{Best, nobody, best, better, bestOf}
 use Rattle.forwarding.specs.declared.Hop.{Hop}
-use Rattle.forwarding.specs.Forwarding.{frameTime, holdInto, isFree, mayHold, stage}
+use Rattle.forwarding.specs.Forwarding.{frameTime, stageOf, stage}
 use Rattle.forwarding.specs.Checked.{Passed}
 use Rattle.forwarding.proofs.Transitions.{delay-frames}
 use Rattle.search.specs.Rows.{Rows, rows, Sized, reachOf, wayOf, wayAt, Earlier, stageBy, Visited, offers, counts, Advanced}
@@ -22,8 +22,7 @@ use Rattle.search.proofs.Spreading.{none-below}
 -- by the time of a frame or by the rule, the stage is the same
 pub stage-by : (T K′ : ℕ) (h : Hop) → Passed T h → stageBy (frameTime T (h .frames)) K′ h ≡ stage T K′ h
 stage-by T K′ h p =
-    ap (λ (c : ℕ → ℕ → ℕ). record { size = h .frames; allowed = λ k i. mayHold h (holdInto K′ h k i) && isFree h i; cost = c; rank = λ k i. holdInto K′ h k i })
-    (fun-ext (λ k. fun-ext (λ i. sym (delay-frames T (h .frames) (holdInto K′ h k i) (p .some-frame) (p .divides)))))
+    ap (λ (c : ℕ → ℕ). stageOf c K′ h) (fun-ext (λ D. sym (delay-frames T (h .frames) D (p .some-frame) (p .divides))))
 
 -- the frames of a cycle last no longer than the cycle
 pub time-fits : (T K x : ℕ) → T ≤ 960 → x ≡ frameTime T K → K * x ≤ 960

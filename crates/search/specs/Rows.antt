@@ -12,7 +12,7 @@ use Rattle.trellis.proofs.Survivor.{Offer, offer, offerOf, Best, nobody, best, 
 use Rattle.trellis.proofs.Ladder.{ladder}
 use Rattle.words.specs.Word.{bitOf}
 use Rattle.forwarding.specs.declared.Hop.{Hop}
-use Rattle.forwarding.specs.Forwarding.{holdInto, isFree, mayHold, stage}
+use Rattle.forwarding.specs.Forwarding.{stageOf, stage}
 use Rattle.forwarding.specs.Schedule.{starts}
 use Rattle.forwarding.specs.Checked.{Passed, noHop}
 
@@ -62,12 +62,7 @@ pub record Offered (base i d h k : ℕ) (old new : Rows) : Type 0 where
 
 -- the stage of a hop by the time of its frame: the delay is the hold times that time
 abbrev pub stageBy : ℕ → ℕ → Hop → Stage
-stageBy time K′ h = record {
-  size = h .frames;
-  allowed = λ k i. mayHold h (holdInto K′ h k i) && isFree h i;
-  cost = λ k i. holdInto K′ h k i * time;
-  rank = λ k i. holdInto K′ h k i;
-}
+stageBy time K′ h = stageOf (λ D. D * time) K′ h
 
 -- what is known where the transitions from frame k of a hop with K′ frames into the next hop are gone over; `time` is the time of its frame
 pub record Leaving (r : Rows) (base k K′ time : ℕ) (h : Hop) : Type 0 where

@@ -6,13 +6,13 @@ use forwarding::Hold;
 use forwarding::Hop;
 ghost use mathlib.Core.Path.{_≡_};
 ghost use mathlib.Core.List.{_++_, reverse};
-ghost use Prim.Native.Nat.{ℕ, _+_, _-_, _*_, _%_, _<_, _≤_};
+ghost use Prim.Native.Nat.{ℕ, _+_, _%_, _<_, _≤_};
 ghost use lib.ListN.{length, drop};
 ghost use Rattle.trellis.specs.Trellis.{after};
 ghost use Rattle.trellis.specs.Count.{oneIf};
 ghost use Rattle.trellis.proofs.Survivor.{better, bestOf, lastOffer};
 ghost use Rattle.words.specs.Word.{bitOf};
-ghost use Rattle.forwarding.specs.Forwarding.{stage, isFree};
+ghost use Rattle.forwarding.specs.Forwarding.{stage};
 ghost use Rattle.forwarding.specs.Checked.{Ready};
 ghost use Rattle.search.specs.Reading.{Answered};
 ghost use Rattle.search.specs.Rows.{reachOf, rows, wayOf, Sized, taken, Offered, stageBy, Leaving, Visited, Entering, Advanced, Begun, Swept, ends, chainOf, ChainFits};
@@ -41,7 +41,7 @@ struct End {
     frame: u8,
 }
 
-// The frame after frame i of a cycle.
+// The frame after frame i of a cycle. Check 7: a cycle has at most 64 frames.
 fn frame_after(i: u16, frames: u16) -> u16
     requires { ⌜ (i < frames) × (frames ≤ 64) ⌝ }
     ensures { λ r. ⌜ r ≡ (i + 1) % frames ⌝ }
@@ -73,6 +73,7 @@ fn comes_before(delay: Delay, hold: Hold, kept: u16, held: u8) -> bool
 }
 
 // Frame i is offered a way from frame k, of this delay and hold: the better of it and the one kept so far is kept.
+// Check 12: hop 7, from 448 on, is the last. Checks 7 and 8: a frame is below 64, a hold at most 64; the document bounds the delay by 7 × 960.
 fn keep(
     cells: &mut [u16; 64],
     holds: &mut [u8; 64],
@@ -193,6 +194,7 @@ fn advance(
     Layer { cells, count }
 }
 
+// The cell of frame i of hop 0: a free frame has delay 0. Check 7: a frame is below 64.
 fn first_cell(free: u64, i: u16) -> u16
     requires { ⌜ i < 64 ⌝ }
     ensures { λ r. ⌜ r ≡ oneIf (bitOf free i) ⌝ }
@@ -200,7 +202,7 @@ fn first_cell(free: u64, i: u16) -> u16
     if words::has_bit(free, i) { 1 } else { 0 }
 }
 
-// The row of hop 0: every free frame, at delay 0.
+// The row of hop 0. Check 7: it has at most 64 frames.
 fn first_row(hop: Hop) -> [u16; 64]
     requires { ⌜ hop .frames ≤ 64 ⌝ }
     ensures { λ r. ⌜ Begun (hop .free) (hop .frames) r ⌝ }
@@ -252,7 +254,7 @@ fn nearer(end: End, cell: u16, f: u8) -> End
     end
 }
 
-// The least cell of the last hop, and the smallest frame that has it.
+// The least cell of the last hop, and the smallest frame that has it. Check 7: it has at most 64 frames.
 fn best_end(row: &[u16; 64], frames: u16) -> End
     requires { ⌜ frames ≤ 64 ⌝ }
     ensures { λ r. ⌜ wayOf (r .cell) 0 (r .frame) ≡ bestOf (ends (now (row .entry))) frames ⌝ }
@@ -273,7 +275,7 @@ fn wide(x: u8) -> usize
 }
 
 // The frames of hops j to 0, put into their places from frame f of hop j back over the stored predecessors.
-// Form: the frames are recovered from the last hop back to the first by recursion, with the hop number falling at each call.
+// Check 12: j is below 8. Form: the frames are recovered from the last hop back to the first by recursion, the hop number falling at each call.
 fn recover(preds: &[u8; 512], j: usize, f: u8, frames: &mut [u8; 8])
     requires { ⌜ (j < 8) × ChainFits (now preds) j f × (length (now frames) ≡ 8) ⌝ }
     ensures { λ r. ⌜ now (frames .exit) ≡ reverse (chainOf (now (preds .entry)) j f) ++ drop (j + 1) (now (frames .entry)) ⌝ }

@@ -75,7 +75,7 @@ sum-requires : tie.Need-sum-requires Inv-loop μ-loop
 sum-requires c κs =
     let a = c .before .before .before .before .before .before .before .args in
     let l = c .before .before .before .before .before .loop in
-    omega (arith, c .delay-of .ensures, mul-le-mul-right {m = l .d + 1} {n = a .hop .frames} (a .time .0) (omega arith))
+    omega (arith, c .delay-of .ensures .product, mul-le-mul-right {m = l .d + 1} {n = a .hop .frames} (a .time .0) (omega arith))
 
 keep-requires : tie.Need-keep-requires Inv-loop μ-loop
 keep-requires c κs =
@@ -84,7 +84,7 @@ keep-requires c κs =
       l .inv .2 .sized,
       omega arith,
       omega (arith, c .before .before .before .before .before .before .before .frame-after .ensures, mod-lt (l .i + 1) {m = a .hop .frames} (omega arith)),
-      omega (arith, c .before .before .before .sum .ensures, c .before .before .before .before .delay-of .ensures, mul-le-mul-right {m = l .d + 1} {n = a .hop .frames} (a .time .0) (omega arith)),
+      omega (arith, c .before .before .before .sum .ensures, c .before .before .before .before .delay-of .ensures .product, mul-le-mul-right {m = l .d + 1} {n = a .hop .frames} (a .time .0) (omega arith)),
       omega arith,
       omega arith,
     )
@@ -99,7 +99,7 @@ loop-again c =
     let l = c .before .before .before .before .before .before .before .before .before .before .loop in
     let on = frame-on (a .hop .frames) (reference (a .k) (a .hop .frames) (a .before)) (l .d) (l .i) (c .before .before .before .before .before .before .before .before .frame-after .result) (l .inv .1)
     (c .before .before .before .before .before .before .before .before .frame-after .ensures) in
-    let later = c .before .before .before .before .sum .ensures ∙ ap (λ (x : ℕ). a .delay .0 + x) (c .before .before .before .before .before .delay-of .ensures) in (
+    let later = c .before .before .before .before .sum .ensures ∙ ap (λ (x : ℕ). a .delay .0 + x) (c .before .before .before .before .before .delay-of .ensures .product) in (
       omega arith,
       on,
       spread-free (a .time .0) (a .before) (a .hop .frames) (a .hop .free) (a .k) (a .delay .0) (omega arith) (a .base) (rows (a .cells .now) (a .holds .now) (a .preds .now))
