@@ -1,3 +1,4 @@
+pub mod Telling
 pub mod Holds
 pub mod Rates
 pub mod Transitions

@@ -1,14 +1,17 @@
 -- A path cut in two: what is found after a border needs only the costs handed over at it. Assumes nothing.
 use mathlib.Core.Path.{_≡_, refl, sym, _∙_, ap, ap₂}
-use mathlib.Core.List.{List, [], _∷_, _++_}
+use mathlib.Core.List.{List, [], _∷_, _++_, reverse, reverse-cons, reverse-append}
 use Prim.Native.Nat.{ℕ, _+_}
 use native.Mathlib.Omega.{arith}
 use lib.ListN.{getD, length}
 use lib.Seq.{ext-getD}
 use Rattle.trellis.specs.Trellis.{Reach, never, Stage, Trellis, entry, _▸_}
+use Rattle.trellis.specs.Considered.{considered}
+use Rattle.trellis.specs.Answer.{Answer, found, blocked, answer}
 use Rattle.trellis.specs.Walk.{grow}
-use Rattle.trellis.proofs.Survivor.{tab, nodeOf, into, row, back, scanned}
+use Rattle.trellis.proofs.Survivor.{tab, Best, nobody, best, bestOf, nodeOf, into, row, back, lastOffer, final, scanned, answerOf, survivor}
 use Rattle.trellis.proofs.Optimal.{length-tab, tab-at}
+use Rattle.trellis.proofs.Least.{scanned-right, survivor-least}
 
 -- the trellis that begins at the border after t, with the costs that t's row hands over
 abbrev pub handover : List Reach → Trellis
@@ -48,3 +51,47 @@ pub split : (t : Trellis) (sts : List Stage) → Continues (back t) (scanned t) 
 split t sts =
     continues (back t) (scanned t) t (handover (row t)) sts
     (record { rows = sym (row-handover (row t)); paths = λ i. refl; counts = omega arith })
+
+-- the node that a path read from the first stage on begins with
+abbrev pub first : List ℕ → ℕ
+first [] = 0
+first (k ∷ w) = k
+
+first-append : (xs ys : List ℕ) (k : ℕ) → first ((xs ++ (k ∷ [])) ++ ys) ≡ first (xs ++ (k ∷ []))
+first-append [] ys k = refl
+first-append (x ∷ xs) ys k = refl
+
+first-oldest : (i : ℕ) (p : List ℕ) → first (reverse (i ∷ p)) ≡ oldest i p
+first-oldest i [] = refl
+first-oldest i (k ∷ p) =
+    ap first (reverse-cons i (k ∷ p) ∙ ap (λ (l : List ℕ). l ++ (i ∷ [])) (reverse-cons k p))
+    ∙ first-append (reverse p) (i ∷ []) k ∙ ap first (sym (reverse-cons k p)) ∙ first-oldest k p
+
+-- the answer after the border, with the path before it to each node of the border and the count so far
+abbrev pub joined : (ℕ → List ℕ) → ℕ → Answer → Answer
+joined earlier m (found c n w) = found c (m + n) (reverse (earlier (first w)) ++ w)
+joined earlier m (blocked n) = blocked (m + n)
+
+-- THE ANSWER OVER A PATH CUT IN TWO is the later part's, begun at the costs handed over, and gone on with in the earlier part
+pub split-answer : (t : Trellis) (sts : List Stage) → answer (grow t sts) ≡ joined (back t) (considered t) (answer (grow (handover (row t)) sts))
+split-answer t sts =
+    sym (survivor-least (grow t sts)) ∙ same (final u) refl ∙ ap₂ (joined (back t)) (scanned-right t) (survivor-least u)
+  where
+    u : Trellis
+    u = grow (handover (row t)) sts
+
+    c : Continues (back t) (scanned t) (grow t sts) u
+    c = split t sts
+
+    ends-same : final (grow t sts) ≡ final u
+    ends-same = ap (λ (r : List Reach). bestOf (λ i. lastOffer (getD r i never)) (length r)) (c .rows)
+
+    path-same : (i : ℕ) → reverse (i ∷ back (grow t sts) i) ≡ reverse (back t (first (reverse (i ∷ back u i)))) ++ reverse (i ∷ back u i)
+    path-same i =
+        ap (λ (l : List ℕ). reverse (i ∷ l)) (c .paths i)
+        ∙ reverse-append (i ∷ back u i) (back t (oldest i (back u i)))
+        ∙ ap (λ (k : ℕ). reverse (back t k) ++ reverse (i ∷ back u i)) (sym (first-oldest i (back u i)))
+
+    same : (b : Best) → final u ≡ b → survivor (grow t sts) ≡ joined (back t) (scanned t) (answerOf u (scanned u) (final u))
+    same nobody e = rw (ends-same, e) (ap blocked (c .counts))
+    same (best d r i) e = rw (ends-same, e) (ap₂ (found d) (c .counts) (path-same i))
