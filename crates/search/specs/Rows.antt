@@ -100,6 +100,7 @@ pub record Entering (t K′ : ℕ) (h : Hop) (cells preds : List ℕ) (base : �
   -- check 3: T is at most 960
   pub cycle : t ≤ 960
   -- check 7 of the link before, and checks 7 and 8 of the link entered
+  pub some-before : 0 < K′
   pub few-before : K′ ≤ 64
   pub passed : Passed t h
   -- check 12: at most six transitions lie behind, of a cycle each at most

@@ -23,7 +23,7 @@ abbrev μ-loop : tie.MeasureT-loop
 μ-loop row t before hop preds₀ base time cells₀ holds₀ count₀ k₀ preds cells holds count k = before - k
 
 frame-time-requires : tie.Need-frame-time-requires Inv-loop μ-loop
-frame-time-requires c κs = c .pre .passed .some-frame
+frame-time-requires c κs = omega arith
 
 loop-holds : tie.Need-loop-holds Inv-loop μ-loop
 loop-holds c =

@@ -59,6 +59,7 @@ advance-requires c κs =
     let r = s .pre .0 in
     record {
       cycle = r .cycle;
+      some-before = r .passed (l .j) (omega arith) .some-frame;
       few-before = r .passed (l .j) (omega arith) .few-frames;
       passed = r .passed (l .j + 1) (omega arith);
       small = cells-small (a .t) (a .t2) (a .last) r (l .j) (l .row) (omega arith) (l .inv .2 .rows);
