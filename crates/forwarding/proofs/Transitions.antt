@@ -10,7 +10,7 @@ use Rattle.trellis.specs.Trellis.{Stage}
 use Rattle.trellis.specs.Count.{oneIf, sumBelow, countBelow}
 use Rattle.trellis.proofs.Count.{sum-le, and-true, and-left-le}
 use Rattle.forwarding.specs.declared.Hop.{Hop}
-use Rattle.forwarding.specs.Forwarding.{reference, hold, delay, frameTime, isFree, mayHold, holdInto, stage}
+use Rattle.forwarding.specs.Forwarding.{reference, hold, delay, frameTime, Delayed, isFree, mayHold, holdInto, stage}
 use Rattle.forwarding.specs.Checked.{Passed}
 use Rattle.forwarding.proofs.Holds.{count-holds}
 
@@ -22,6 +22,9 @@ delay-frames T K D p e =
     let t : T ≡ K * q = omega (arith, div-add-mod' T K, mul-comm (T / K) K) in
     ap (λ (x : ℕ). x / K) (ap (λ (x : ℕ). D * x) t ∙ sym (mul-assoc D K q) ∙ ap (λ (x : ℕ). x * q) (mul-comm D K) ∙ mul-assoc K D q)
     ∙ mul-div-cancel-left (D * q) p
+
+pub delayed : (D time : ℕ) → Delayed D time (D * time)
+delayed D time = record { product = refl; ruled = λ T K p e q. ap (λ (x : ℕ). D * x) q ∙ sym (delay-frames T K D p e) }
 
 -- no transition takes longer than a cycle
 pub delay-le : (T K D : ℕ) → D ≤ K → delay T K D ≤ T
