@@ -1,13 +1,12 @@
 -- The answer of a route in document 01's words. Assumes nothing.
-use mathlib.Core.Path.{_≡_, refl, sym, _∙_, ap, subst}
-use mathlib.Core.List.{List, [], _∷_}
-use Prim.Native.Nat.{ℕ, _≤_}
+use mathlib.Core.Path.{_≡_, refl, sym, subst}
+use mathlib.Core.List.{List, _∷_}
+use Prim.Native.Nat.{ℕ}
 use native.Mathlib.Omega.{arith}
 use Rattle.trellis.specs.Answer.{Answer, found, blocked}
-use Rattle.trellis.specs.Walk.{LeastWalk, Answers}
 use Rattle.trellis.proofs.Walk.{answer-answers, answers-only, walk-least-cost}
 use Rattle.forwarding.specs.declared.Hop.{Hop}
-use Rattle.forwarding.specs.Schedule.{starts, stages, IsSchedule, scheduleDelay, transitions, routeAnswer, RouteAnswer, Given}
+use Rattle.forwarding.specs.Schedule.{starts, stages, IsSchedule, transitions, routeAnswer, RouteAnswer, Given}
 
 -- THE ANSWER IS THE LEAST SCHEDULE, ties as written, or blocked where there is none; and it is the only one
 pub answer-rules : (T : ℕ) (h : Hop) (hs : List Hop) → RouteAnswer T (h ∷ hs) (routeAnswer T (h ∷ hs))

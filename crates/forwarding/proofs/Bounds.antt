@@ -1,18 +1,18 @@
 -- The bounds of document 01: a schedule's delay is at most 7 × 960, the count at most the sum of K × Z. Assumes nothing.
-use mathlib.Core.Path.{_≡_, refl, sym, _∙_, ap}
+use mathlib.Core.Path.{_≡_, refl, ap}
 use mathlib.Core.Bool.{Bool, true, false}
 use mathlib.Core.List.{List, [], _∷_}
-use Prim.Native.Nat.{ℕ, zero, suc, _+_, _*_, _<_, _≤_}
+use Prim.Native.Nat.{ℕ, _+_, _*_, _≤_}
 use native.Mathlib.Nat.{mul-le-mul}
 use native.Mathlib.Omega.{arith}
 use lib.ListN.{length}
-use Rattle.trellis.specs.Trellis.{Reach, costOf, Stage, Trellis, entry, _▸_, width}
+use Rattle.trellis.specs.Trellis.{costOf, Trellis, entry, _▸_, width}
 use Rattle.trellis.specs.Considered.{considered}
 use Rattle.trellis.specs.Walk.{grow, Onward, onwardCost}
 use Rattle.trellis.proofs.Bound.{step-bound}
 use Rattle.forwarding.specs.declared.Hop.{Hop}
 use Rattle.forwarding.specs.Forwarding.{isFree, stage}
-use Rattle.forwarding.specs.Schedule.{startIf, starts, stages, routeTrellis, IsSchedule, scheduleDelay, transitions, boundFrom, transitionBound}
+use Rattle.forwarding.specs.Schedule.{startIf, starts, stages, IsSchedule, scheduleDelay, transitions, boundFrom, transitionBound}
 use Rattle.forwarding.specs.Checked.{Passed}
 use Rattle.forwarding.proofs.Transitions.{stage-cap, stage-narrow}
 

@@ -1,12 +1,11 @@
 -- A route's trellis by the number of its hops, as a loop over the hops builds it. Assumes nothing.
-use mathlib.Core.Path.{_≡_, refl, sym, _∙_, ap}
+use mathlib.Core.Path.{_≡_, refl, _∙_, ap}
 use mathlib.Core.List.{List, [], _∷_}
 use Prim.Native.Nat.{ℕ, zero, suc, _<_, _≤_, suc-le-suc}
 use native.Mathlib.Omega.{arith}
 use lib.ListN.{getD, length, take}
-use Rattle.trellis.specs.Trellis.{Stage, Trellis, entry}
+use Rattle.trellis.specs.Trellis.{Stage, entry}
 use Rattle.trellis.specs.Walk.{grow}
-use Rattle.trellis.proofs.Survivor.{tab}
 use Rattle.trellis.proofs.Ladder.{ladder, between, between-tab, grow-tab}
 use Rattle.forwarding.specs.declared.Hop.{Hop}
 use Rattle.forwarding.specs.Forwarding.{stage}

@@ -2,7 +2,6 @@
 use mathlib.Core.Path.{_≡_, sym, _∙_, ap}
 use Prim.Native.Nat.{ℕ, _*_, _/_, _<_}
 use native.Mathlib.Nat.{mul-div-left, mul-div-mul-right, mul-assoc}
-use native.Mathlib.Omega.{arith}
 use Rattle.forwarding.specs.Forwarding.{reference}
 
 -- F-i, equal rates: the frame of the same number

@@ -1,9 +1,8 @@
 -- The starred cases of question four hold of the rules: one table, one statement. Assumes nothing.
-use mathlib.Core.Path.{_≡_, refl, sym, _∙_, ap}
+use mathlib.Core.Path.{_≡_, refl}
 use mathlib.Core.List.{List, [], _∷_, map, List·Memᴰ, List·Memᴰ·not-nil, List·Memᴰ·cases-cons, head-eq-of-cons-eq, tail-eq-of-cons-eq}
 use mathlib.Core.Logic.{⊎-elim}
-use Prim.Native.Nat.{ℕ}
-use Rattle.trellis.specs.Answer.{Answer, answer}
+use Rattle.trellis.specs.Answer.{Answer}
 use Rattle.words.specs.Word.{bitOf, wordOf}
 use Rattle.forwarding.specs.Forwarding.{reference, leastHold, gap, hold, delay, isFree, mayHold, holdInto}
 use Rattle.forwarding.specs.Schedule.{routeAnswer}

@@ -1,16 +1,14 @@
 -- Laws of a single transition: its hold, its delay in frames' times, and what it is allowed by. Assumes nothing.
 use mathlib.Core.Path.{_≡_, refl, sym, _∙_, ap}
-use mathlib.Core.Bool.{Bool, true, false, _&&_}
-use Prim.Native.Nat.{ℕ, _+_, _*_, _/_, _%_, _<_, _≤_}
+use mathlib.Core.Bool.{true, _&&_}
+use Prim.Native.Nat.{ℕ, _*_, _/_, _%_, _<_, _≤_}
 use native.Mathlib.Nat.{le-trans, div-le-of-le-mul, mul-le-mul-right, mul-comm, mul-assoc, mul-div-cancel-left, div-add-mod', le-of-eq}
 use native.Mathlib.Omega.{arith}
-use lib.Dec.{leb}
-use borrow.Author.Tests.{leb-true, le-leb, lt-leb}
-use Rattle.trellis.specs.Trellis.{Stage}
-use Rattle.trellis.specs.Count.{oneIf, sumBelow, countBelow}
+use borrow.Author.Tests.{leb-true, le-leb}
+use Rattle.trellis.specs.Count.{oneIf, countBelow}
 use Rattle.trellis.proofs.Count.{sum-le, and-true, and-left-le}
 use Rattle.forwarding.specs.declared.Hop.{Hop}
-use Rattle.forwarding.specs.Forwarding.{reference, hold, delay, frameTime, Delayed, isFree, mayHold, holdInto, stage}
+use Rattle.forwarding.specs.Forwarding.{reference, delay, frameTime, Delayed, isFree, mayHold, holdInto, stage}
 use Rattle.forwarding.specs.Checked.{Passed}
 use Rattle.forwarding.proofs.Holds.{count-holds}
 

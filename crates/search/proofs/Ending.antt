@@ -5,11 +5,10 @@ use Prim.Native.Nat.{ℕ, zero, suc, _+_, _-_, _<_, _≤_}
 use native.Mathlib.Omega.{arith}
 use native.Mathlib.Numerals.{add-one}
 use lib.ListN.{getD, length, take, drop, replicate, length-reverse}
-use lib.Seq.{take-at, getD-take, length-take-le}
-use Rattle.trellis.specs.Trellis.{Reach, never, after, Stage, Trellis, entry, _▸_, width, Leads, IsPath}
-use Rattle.trellis.specs.Answer.{found, blocked, answer, nodesOf, IsAnswer}
-use Rattle.trellis.specs.Answer as rule
-use Rattle.trellis.proofs.Survivor.{Best, best, nobody, Offer, bestOf, nodeOf, reachOf as reachFrom, into, row, back, lastOffer, final, scanned, answerOf, survivor}
+use lib.Seq.{getD-take, length-take-le}
+use Rattle.trellis.specs.Trellis.{Reach, never, Stage, Trellis, entry, _▸_, Leads, IsPath}
+use Rattle.trellis.specs.Answer.{found, blocked, answer, IsAnswer}
+use Rattle.trellis.proofs.Survivor.{Best, best, Offer, bestOf, nodeOf, reachOf as reachFrom, into, row, back, lastOffer, final, scanned, answerOf, survivor}
 use Rattle.trellis.proofs.Optimal.{Survives, survives, tab-at, length-row}
 use Rattle.trellis.proofs.Least.{survivor-right, survivor-least}
 use Rattle.trellis.proofs.Ladder.{ladder, ladder-cong}
@@ -18,7 +17,7 @@ use Rattle.forwarding.specs.Schedule.{starts, routeTrellis, routeAnswer}
 use Rattle.forwarding.specs.Forwarding.{stage}
 use Rattle.forwarding.specs.Checked.{Ready, noHop}
 use Rattle.forwarding.proofs.ByHops.{stageNext, route-ladder}
-use Rattle.search.specs.Rows.{reachOf, wayOf, ends, chainOf, ChainFits, hopAt, stageAt, trellisTo, fromAt, Swept}
+use Rattle.search.specs.Rows.{wayOf, ends, chainOf, ChainFits, hopAt, stageAt, trellisTo, fromAt, Swept}
 use Rattle.search.specs.Reading.{inPlaces}
 use Rattle.search.proofs.Sweeping.{width-to}
 

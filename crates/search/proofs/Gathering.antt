@@ -1,17 +1,17 @@
 -- Visiting the frames of the hop before one after the other gathers the best way into each frame of the next. Assumes nothing.
-use mathlib.Core.Path.{_≡_, refl, sym, _∙_, ap, ap₂, subst, fun-ext}
-use mathlib.Core.Bool.{Bool, true, false, _&&_}
+use mathlib.Core.Path.{_≡_, refl, sym, _∙_, ap, ap₂, fun-ext}
+use mathlib.Core.Bool.{false, _&&_}
 use mathlib.Core.List.{List}
-use Prim.Native.Nat.{ℕ, zero, suc, _+_, _-_, _*_, _/_, _%_, _<_, _≤_}
+use Prim.Native.Nat.{ℕ, zero, suc, _+_, _-_, _*_, _<_, _≤_}
 use native.Mathlib.Nat.{mul-div-le}
 use native.Mathlib.Numerals.{add-one}
 use native.Mathlib.Omega.{arith}
 use lib.ListN.{getD, length, replicate, length-replicate}
-use Rattle.trellis.specs.Trellis.{Reach, never, after, Stage}
-use Rattle.trellis.specs.Count.{sumBelow, countBelow}
+use Rattle.trellis.specs.Trellis.{Reach, after, Stage}
+use Rattle.trellis.specs.Count.{countBelow}
 use Rattle.trellis.specs.Paths.{reached}
 use Rattle.trellis.proofs.Count.{sum-bound, count-le}
-use Rattle.trellis.proofs.Survivor.{Best, nobody, best, better, bestOf}
+use Rattle.trellis.proofs.Survivor.{Best, nobody, better, bestOf}
 use Rattle.forwarding.specs.declared.Hop.{Hop}
 use Rattle.forwarding.specs.Forwarding.{frameTime, stageOf, stage}
 use Rattle.forwarding.specs.Checked.{Passed}

@@ -1,22 +1,20 @@
 -- A result that reads as the rule's answer, with its places and its bounds. Assumes nothing.
-use mathlib.Core.Path.{_≡_, refl, sym, _∙_, ap, ap₂, subst}
+use mathlib.Core.Path.{_≡_, sym, _∙_, ap, subst}
 use mathlib.Core.List.{List, [], _∷_, _++_}
-use Prim.Native.Nat.{ℕ, zero, suc, _+_, _*_, _<_, _≤_}
+use Prim.Native.Nat.{ℕ, _+_, _*_, _<_, _≤_}
 use native.Mathlib.Omega.{arith}
 use lib.ListN.{length, take, drop, replicate}
 use lib.Seq.{take-at, length-take-le}
 use Rattle.trellis.specs.Answer.{found, blocked, nodesOf}
 use Rattle.trellis.specs.Answer as rule
 use Rattle.forwarding.specs.declared.Hop.{Hop}
-use Rattle.forwarding.specs.declared.Delay.{Delay}
-use Rattle.forwarding.specs.Schedule.{transitionBound, transitions, routeAnswer, RouteAnswer}
-use Rattle.forwarding.specs.Checked.{Ready, noHop}
+use Rattle.forwarding.specs.Schedule.{transitionBound, routeAnswer, RouteAnswer}
+use Rattle.forwarding.specs.Checked.{Ready}
 use Rattle.forwarding.proofs.Bounds.{AllPassed, delay-at-most, count-bound}
 use Rattle.forwarding.proofs.ByHops.{all-passed}
 use Rattle.forwarding.proofs.Answers.{answer-rules}
-use Rattle.search.specs.declared.Found.{Found}
 use Rattle.search.specs.declared.Found.the-variants.{Schedule, Blocked}
-use Rattle.search.specs.Reading.{reading, delayIn, countIn, inPlaces, Answered}
+use Rattle.search.specs.Reading.{inPlaces, Answered}
 use Rattle.search.proofs.Ending.{in-places}
 
 -- an answer of the rule keeps the bounds

@@ -1,16 +1,15 @@
 -- Going over the holds of a frame one by one offers each frame its way once. Assumes nothing.
 use mathlib.Core.Path.{_≡_, refl, sym, _∙_, ap, ap₂}
 use mathlib.Core.Bool.{Bool, true, false, _&&_}
-use Prim.Native.Nat.{ℕ, zero, suc, _+_, _*_, _%_, _<_, _≤_}
+use Prim.Native.Nat.{ℕ, _+_, _*_, _%_, _<_}
 use native.Mathlib.Nat.{mod-lt, mod-add-mod, add-assoc, mul-zero}
-use native.Mathlib.Numerals.{add-one}
 use native.Mathlib.Decide.{ℕ-discrete}
 use native.Mathlib.Omega.{arith}
 use lib.Arith.{lt-of-le-ne}
 use lib.Dec.{leb}
 use borrow.Author.Tests.{le-leb, lt-leb, leb-true, leb-false}
-use Rattle.trellis.specs.Trellis.{Reach, after, Stage}
-use Rattle.trellis.specs.Count.{oneIf, sumBelow, countBelow}
+use Rattle.trellis.specs.Trellis.{after, Stage}
+use Rattle.trellis.specs.Count.{oneIf, countBelow}
 use Rattle.trellis.proofs.Count.{sum-cong, sum-const, sum-at}
 use Rattle.trellis.proofs.Survivor.{Offer, none, offer, offerIf, offerOf, Best, better}
 use Rattle.words.specs.Word.{bitOf}

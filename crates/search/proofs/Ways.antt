@@ -1,16 +1,15 @@
 -- The tests on a way kept at a frame decide as survivor search does, and storing a way turns one frame only. Assumes nothing.
-use mathlib.Core.Path.{_≡_, refl, sym, _∙_, ap, ap₂}
+use mathlib.Core.Path.{_≡_, refl, sym, _∙_, ap}
 use mathlib.Core.Bool.{Bool, true, false, _&&_, _||_}
-use mathlib.Core.List.{List}
 use Prim.Native.Nat.{ℕ, zero, suc, _+_, _-_, _<_, _≤_}
 use native.Mathlib.Numerals.{add-one}
 use native.Mathlib.Omega.{arith}
 use lib.Dec.{ltb, eqb}
-use lib.ListN.{getD, set, length, length-set}
+use lib.ListN.{set, length-set}
 use lib.Seq.{getD-set-same, getD-set-other}
 use borrow.Author.Tests.{lt-ltb, le-ltb, eq-eqb, ne-eqb}
 use Rattle.trellis.specs.Answer.{pick}
-use Rattle.trellis.proofs.Survivor.{Offer, offer, Best, nobody, best, better}
+use Rattle.trellis.proofs.Survivor.{offer, Best, nobody, best, better}
 use Rattle.search.specs.Rows.{Rows, rows, Sized, wayOf, wayAt, taken, Offered}
 
 -- the tests of `comes_before`

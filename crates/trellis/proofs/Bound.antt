@@ -1,13 +1,13 @@
 -- Bounds on the count of steps considered and on the costs. Assumes nothing.
-use mathlib.Core.Path.{_≡_, refl, sym, _∙_, ap, subst}
-use mathlib.Core.Bool.{Bool, true, false, _&&_}
+use mathlib.Core.Path.{_≡_, subst}
+use mathlib.Core.Bool.{true, _&&_}
 use mathlib.Core.List.{List, [], _∷_}
 use Prim.Native.Nat.{ℕ, _+_, _*_, _<_, _≤_}
 use native.Mathlib.Nat.{le-trans}
 use native.Mathlib.Omega.{arith}
 use lib.ListN.{getD}
 use Rattle.trellis.specs.Trellis.{Reach, never, after, costOf, Stage, Trellis, entry, _▸_, width, Leads, total}
-use Rattle.trellis.specs.Count.{oneIf, sumBelow, countBelow}
+use Rattle.trellis.specs.Count.{oneIf, countBelow}
 use Rattle.trellis.specs.Considered.{ends, considered}
 use Rattle.trellis.proofs.Count.{sum-le, sum-bound, and-right-le}
 use Rattle.trellis.proofs.Survivor.{row, back}

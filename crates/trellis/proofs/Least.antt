@@ -1,19 +1,19 @@
 -- Survivor search gives the least of the list of all paths: the answer that the rules ask for. Assumes nothing.
-use mathlib.Core.Path.{_≡_, refl, sym, _∙_, ap, ap₂, subst}
-use mathlib.Core.Bool.{Bool, true, false, _&&_}
-use mathlib.Core.List.{List, [], _∷_, reverse, reverse-reverse, List·Memᴰ, List·Memᴰ·head, List·Memᴰ·tail, List·Memᴰ·cases-cons, List·Memᴰ·not-nil}
+use mathlib.Core.Path.{_≡_, refl, sym, _∙_, ap₂, subst}
+use mathlib.Core.Bool.{Bool, true, false}
+use mathlib.Core.List.{List, [], _∷_, reverse-reverse, List·Memᴰ, List·Memᴰ·head, List·Memᴰ·tail, List·Memᴰ·cases-cons, List·Memᴰ·not-nil}
 use mathlib.Core.Logic.{_⊎_, inl, inr, ⊎-elim}
-use Prim.Native.Nat.{ℕ, zero, suc, _+_, _<_, _≤_}
+use Prim.Native.Nat.{ℕ, _+_}
 use native.Mathlib.Omega.{arith}
 use lib.ListN.{getD, length}
 use Rattle.trellis.specs.Order.{Precedes, precedes}
-use Rattle.trellis.specs.Trellis.{Reach, never, after, Stage, Trellis, entry, _▸_, width, Leads, total, behind, key, IsPath, pathCost, pathKey, Least}
+use Rattle.trellis.specs.Trellis.{Reach, never, after, Trellis, entry, _▸_, Leads, total, behind, key, IsPath, pathKey}
 use Rattle.trellis.specs.Paths.{reached, allPaths}
 use Rattle.trellis.specs.Considered.{ends, considered}
-use Rattle.trellis.specs.Answer.{Answer, found, blocked, pick, leastBy, answerFrom, answer, IsAnswer}
+use Rattle.trellis.specs.Answer.{blocked, pick, leastBy, answerFrom, answer, IsAnswer}
 use Rattle.trellis.proofs.Order.{precedes-refl, precedes-trans, test-precedes, test-follows}
 use Rattle.trellis.proofs.Paths.{path-below, path-listed, listed-path, ends-path, path-ends}
-use Rattle.trellis.proofs.Survivor.{Offer, none, offer, Best, nobody, best, bestOf, row, back, lastOffer, final, scanned, answerOf, survivor}
+use Rattle.trellis.proofs.Survivor.{Offer, none, offer, Best, nobody, best, row, back, lastOffer, final, scanned, answerOf, survivor}
 use Rattle.trellis.proofs.Select.{IsBest, is-best, offer-not-none}
 use Rattle.trellis.proofs.Optimal.{LeastTo, Survives, survives, length-row}
 use Rattle.trellis.proofs.Only.{answer-only}

@@ -2,7 +2,7 @@
 use mathlib.Core.Path.{_≡_, refl, sym, _∙_, ap, ap₂}
 use mathlib.Core.List.{List, [], _∷_, reverse, reverse-reverse}
 use Prim.Native.Nat.{ℕ, _≤_}
-use Rattle.trellis.specs.Trellis.{Stage, Trellis, entry, _▸_, Leads, total, behind, IsPath, pathCost, pathKey, Least}
+use Rattle.trellis.specs.Trellis.{Trellis, entry, _▸_, Leads, total, behind, IsPath, pathCost, pathKey, Least}
 use Rattle.trellis.specs.Answer.{Answer, found, blocked, IsAnswer}
 use Rattle.trellis.proofs.Order.{precedes-antisym, precedes-head}
 

@@ -1,11 +1,10 @@
 -- Survivor search (source document 000): for each stage the least cost to each of its nodes, from that of the stage before. Assumes nothing.
-use mathlib.Core.Path.{_≡_, refl}
 use mathlib.Core.Bool.{Bool, true, false, _&&_}
 use mathlib.Core.List.{List, [], _∷_, _++_, reverse}
-use Prim.Native.Nat.{ℕ, zero, suc, _+_, _<_}
+use Prim.Native.Nat.{ℕ, zero, suc, _+_}
 use lib.Dec.{ltb, eqb}
 use lib.ListN.{getD, length}
-use Rattle.trellis.specs.Trellis.{Reach, never, after, Stage, Trellis, entry, _▸_, width}
+use Rattle.trellis.specs.Trellis.{Reach, never, after, Stage, Trellis, entry, _▸_}
 use Rattle.trellis.specs.Count.{sumBelow, countBelow}
 use Rattle.trellis.specs.Paths.{reached}
 use Rattle.trellis.specs.Answer.{Answer, found, blocked, pick}

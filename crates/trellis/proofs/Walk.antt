@@ -1,10 +1,9 @@
 -- A path is a path so far, gone on with; so walks are the paths, read from the first stage on. Assumes nothing.
-use mathlib.Core.Path.{_≡_, refl, sym, _∙_, ap, ap₂, subst}
-use mathlib.Core.List.{List, [], _∷_, _++_, reverse, reverseAux, reverse-reverse}
-use Prim.Native.Nat.{ℕ, zero, suc, _+_, _<_, _≤_}
+use mathlib.Core.Path.{_≡_, refl, sym, _∙_, ap}
+use mathlib.Core.List.{List, [], _∷_, reverse, reverseAux, reverse-reverse}
+use Prim.Native.Nat.{ℕ, _+_, _≤_}
 use native.Mathlib.Omega.{arith}
-use Rattle.trellis.specs.Order.{Precedes}
-use Rattle.trellis.specs.Trellis.{Reach, never, after, costOf, Stage, Trellis, entry, _▸_, width, Leads, total, behind, IsPath, pathCost, pathKey, Least}
+use Rattle.trellis.specs.Trellis.{Reach, Stage, Trellis, entry, _▸_, Leads, total, behind, IsPath, pathCost, pathKey, Least}
 use Rattle.trellis.specs.Answer.{Answer, found, blocked, answer, IsAnswer}
 use Rattle.trellis.specs.Walk.{grow, Onward, onwardCost, Walk, walkCost, noted, walkKey, LeastWalk, Answers}
 use Rattle.trellis.proofs.Order.{precedes-head}

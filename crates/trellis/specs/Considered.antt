@@ -2,7 +2,7 @@
 use mathlib.Core.Bool.{Bool, true, false, _&&_}
 use mathlib.Core.List.{List, [], _∷_}
 use Prim.Native.Nat.{ℕ, _+_}
-use Rattle.trellis.specs.Trellis.{Stage, Trellis, entry, _▸_, width}
+use Rattle.trellis.specs.Trellis.{Trellis, entry, _▸_, width}
 use Rattle.trellis.specs.Count.{sumBelow, countBelow}
 use Rattle.trellis.specs.Paths.{pathsTo}
 

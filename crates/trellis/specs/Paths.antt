@@ -3,7 +3,7 @@ use mathlib.Core.Bool.{Bool, true, false, _&&_}
 use mathlib.Core.List.{List, [], _∷_, _++_, map, List·Memᴰ}
 use Prim.Native.Nat.{ℕ, zero, suc}
 use lib.Dec.{ltb}
-use Rattle.trellis.specs.Trellis.{Reach, never, after, Stage, Trellis, entry, _▸_, width}
+use Rattle.trellis.specs.Trellis.{Reach, never, after, Trellis, entry, _▸_, width}
 
 abbrev pub reached : Reach → Bool
 reached never = false

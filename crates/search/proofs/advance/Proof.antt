@@ -1,19 +1,15 @@
 -- `search::advance` meets its contract. The invariant: the frames below k are visited. Assumes nothing.
 use borrow.Author.Needs.{needs}
-use mathlib.Core.Path.{_≡_, refl, sym, _∙_, ap, subst}
+use mathlib.Core.Path.{_≡_, _∙_, ap, subst}
 use Prim.Native.Nat.{ℕ, _-_, _≤_}
 use native.Mathlib.Omega.{arith}
 use lib.ListN.{getD}
 use Rattle.trellis.specs.Trellis.{Stage}
-use Rattle.forwarding.specs.Forwarding.{frameTime, stage}
+use Rattle.forwarding.specs.Forwarding.{stage}
 use Rattle.search.specs.Rows.{rows, reachOf, stageBy, Advanced}
 use Rattle.search.proofs.Gathering.{stage-by, time-fits, Gathered, none-gathered, one-gathered, all-gathered, visit-count, counts-le}
 use Rattle.search.proofs.advance.Statement.{statement}
 use Rattle.search.proofs.advance.Tie as tie
-use Rattle.search.proofs.advance.Reads as reads
-use Rattle.search.proofs.advance.Lts as lts
-use Rattle.forwarding.proofs.frame_time.Reads as frame-time-reads
-use Rattle.search.proofs.visit.Reads as visit-reads
 
 abbrev Inv-loop : tie.InvT-loop
 Inv-loop row t before hop preds₀ base time cells₀ holds₀ count₀ k₀ preds cells holds count k =

@@ -1,15 +1,12 @@
 -- `search::comes_before` meets its contract. Assumes nothing.
 use borrow.Author.Needs.{needs}
-use mathlib.Core.Path.{_≡_, _∙_, ap}
+use mathlib.Core.Path.{_∙_, ap}
 use Prim.Native.Nat.{ℕ}
 use native.Mathlib.Omega.{arith}
 use lib.Dec.{ltb}
 use Rattle.search.proofs.Ways.{taken-first, taken-less, taken-more, taken-equal}
 use Rattle.search.proofs.comes_before.Statement.{statement}
 use Rattle.search.proofs.comes_before.Tie as tie
-use Rattle.search.proofs.comes_before.Reads as reads
-use Rattle.search.proofs.comes_before.Lts as lts
-use Rattle.search.proofs.short.Reads as short-reads
 
 returns : tie.Need-returns
 returns c k = let a = c .before .args in taken-first (a .kept) (a .held) k (a .delay .0) (a .hold .0) (c .if1 .taken)

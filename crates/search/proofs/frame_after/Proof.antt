@@ -7,8 +7,6 @@ use mathlib.Core.Path.{_≡_}
 use Prim.Native.Nat.{ℕ, _+_, _%_}
 use Rattle.search.proofs.frame_after.Statement.{statement}
 use Rattle.search.proofs.frame_after.Tie as tie
-use Rattle.search.proofs.frame_after.Reads as reads
-use Rattle.search.proofs.frame_after.Lts as lts
 
 add-if1 : tie.Need-add-if1
 add-if1 c = search needs

@@ -1,16 +1,13 @@
 -- `search::keep` meets its contract. Assumes nothing.
 use borrow.Author.Needs.{needs}
-use mathlib.Core.Path.{_≡_, refl, sym, _∙_}
-use Prim.Native.Nat.{ℕ, _+_}
+use mathlib.Core.Path.{sym, _∙_}
+use Prim.Native.Nat.{_+_}
 use native.Mathlib.Omega.{arith}
 use lib.ListN.{getD}
 use Rattle.search.specs.Rows.{rows}
 use Rattle.search.proofs.Ways.{offered-taken, offered-left}
 use Rattle.search.proofs.keep.Statement.{statement}
 use Rattle.search.proofs.keep.Tie as tie
-use Rattle.search.proofs.keep.Reads as reads
-use Rattle.search.proofs.keep.Lts as lts
-use Rattle.search.proofs.comes_before.Reads as comes-before-reads
 
 mul-comes-before : tie.Need-mul-comes-before
 mul-comes-before c = search needs

@@ -1,7 +1,7 @@
 -- `search::spread` meets its contract. The invariant: the holds up to d are done, and i is the frame that d leads to. Assumes nothing.
 use borrow.Author.Needs.{needs}
-use mathlib.Core.Path.{_≡_, refl, sym, _∙_, ap}
-use Prim.Native.Nat.{ℕ, _+_, _-_, _*_, _%_, _<_, _≤_}
+use mathlib.Core.Path.{_≡_, sym, _∙_, ap}
+use Prim.Native.Nat.{ℕ, _+_, _-_, _%_, _<_, _≤_}
 use native.Mathlib.Nat.{mod-lt, mod-eq-of-lt, add-zero, mul-le-mul-right}
 use native.Mathlib.Omega.{arith}
 use Rattle.trellis.specs.Trellis.{after}
@@ -13,14 +13,6 @@ use Rattle.search.specs.Rows.{rows, stageBy, Visited}
 use Rattle.search.proofs.Spreading.{upTo, frame-on, none-spread, spread-shut, spread-free}
 use Rattle.search.proofs.spread.Statement.{statement}
 use Rattle.search.proofs.spread.Tie as tie
-use Rattle.search.proofs.spread.Reads as reads
-use Rattle.search.proofs.spread.Lts as lts
-use Rattle.forwarding.proofs.delay_of.Reads as delay-of-reads
-use Rattle.forwarding.proofs.reference_frame.Reads as reference-frame-reads
-use Rattle.forwarding.proofs.sum.Reads as sum-reads
-use Rattle.search.proofs.frame_after.Reads as frame-after-reads
-use Rattle.search.proofs.keep.Reads as keep-reads
-use Rattle.words.proofs.has_bit.Reads as has-bit-reads
 
 abbrev Inv-loop : tie.InvT-loop
 Inv-loop cells₀ holds₀ preds₀ base k delay before time frames range free count₀ i₀ d₀ cells holds preds count i d =

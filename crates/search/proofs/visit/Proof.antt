@@ -1,13 +1,9 @@
 -- `search::visit` meets its contract. Assumes nothing.
 use borrow.Author.Needs.{needs}
-use native.Mathlib.Omega.{arith}
 use Rattle.search.specs.Rows.{rows, stageBy}
 use Rattle.search.proofs.Gathering.{visited-never, reach-some}
 use Rattle.search.proofs.visit.Statement.{statement}
 use Rattle.search.proofs.visit.Tie as tie
-use Rattle.search.proofs.visit.Reads as reads
-use Rattle.search.proofs.visit.Lts as lts
-use Rattle.search.proofs.spread.Reads as spread-reads
 
 returns : tie.Need-returns
 returns c =
