@@ -7,7 +7,7 @@ use Rattle.trellis.specs.Trellis.{Stage}
 use Rattle.words.specs.Word.{bitOf}
 use Rattle.forwarding.specs.declared.Hop.{Hop}
 
--- the reference frame: from frame k of a link with K′ frames to a link with K, "r = floor(k × K / K')"
+-- the reference frame: from frame k of a link with K′ frames to a link with K, "r = floor(k × K / K') (rules F-i to F-iii of 002)"
 unfoldable pub reference : ℕ → ℕ → ℕ → ℕ
 reference k K K′ = k * K / K′
 
@@ -19,7 +19,7 @@ leastHold = 1
 unfoldable pub gap : ℕ → ℕ → ℕ → ℕ
 gap K a i = (i + K - a) % K
 
--- the hold: "the only number from 1 to K with (r + D) mod K = i" (`hold-fits`, `hold-only`)
+-- the hold: "the only number from 1 to K with (r + D) mod K = i" (`hold-range`, `hold-unique`)
 unfoldable pub hold : ℕ → ℕ → ℕ → ℕ
 hold K r i = leastHold + gap K ((r + leastHold) % K) i
 
@@ -27,7 +27,7 @@ hold K r i = leastHold + gap K ((r + leastHold) % K) i
 unfoldable pub frameTime : ℕ → ℕ → ℕ
 frameTime T K = T / K
 
--- the delay of a hold of D frames of a link with K, in ticks: "Its delay is D × T / K"
+-- the delay of a hold of D frames of a link with K, in ticks: "Its delay is D × T / K" (002 counts frames of the first link, each T / K of hop 0 ticks)
 unfoldable pub delay : ℕ → ℕ → ℕ → ℕ
 delay T K D = D * T / K
 
