@@ -1,0 +1,50 @@
+-- `question_four::show_frames` meets its contract. The loop's invariant: j is at most n. Assumes nothing.
+use Prim.Native.Nat.{_-_, _≤_}
+use borrow.Author.Needs.{needs}
+use Rattle.question_four.proofs.show_frames.Statement.{statement}
+use Rattle.question_four.proofs.show_frames.Tie as tie
+
+abbrev Inv-loop : tie.InvT-loop
+Inv-loop frames n j₀ j = j ≤ n
+
+abbrev μ-loop : tie.MeasureT-loop
+μ-loop frames n j₀ j = n - j
+
+loop-holds : tie.Need-loop-holds Inv-loop μ-loop
+loop-holds c = search needs
+
+element-copy-out-frame-number : tie.Need-element-copy-out-frame-number Inv-loop μ-loop
+element-copy-out-frame-number c = search needs
+
+frame-number-requires : tie.Need-frame-number-requires Inv-loop μ-loop
+frame-number-requires c κs = search needs
+
+next-number-requires : tie.Need-next-number-requires Inv-loop μ-loop
+next-number-requires c κs = search needs
+
+add-j : tie.Need-add-j Inv-loop μ-loop
+add-j c = search needs
+
+loop-less : tie.Need-loop-less Inv-loop μ-loop
+loop-less c = search needs
+
+loop-again : tie.Need-loop-again Inv-loop μ-loop
+loop-again c = search needs
+
+returns : tie.Need-returns Inv-loop μ-loop
+returns c = search needs
+
+pub show-frames-spec : {M : Type 1} → statement M
+show-frames-spec =
+    tie.close
+    (tie.spec
+    Inv-loop
+    μ-loop
+    loop-holds
+    element-copy-out-frame-number
+    frame-number-requires
+    next-number-requires
+    add-j
+    loop-less
+    loop-again
+    returns)

@@ -1,0 +1,182 @@
+// Question four of document 01: its cases go through the search, starred or not, in the document's order, a line for each.
+// A line has the case as the document writes it, then `ok` with delay, count and frames, or `no` with the refusal and the count.
+// The expected lines, in the file stdout, are written by hand from the document.
+// Two cases are refused before any search and wait for the route checks: D F (15) and A A (14).
+ghost use Prim.Native.Nat.{_≤_};
+use forwarding::Hop;
+use libc::STDOUT_FILENO;
+use search::Answer;
+use search::Found;
+
+// The cycle, in ticks.
+const CYCLE: u16 = 48;
+
+// The refusal where no schedule exists.
+const NO_SCHEDULE: u16 = 18;
+
+// The word in which all 8 frames are free.
+const ALL: u64 = 255;
+
+// The words in which one frame is free.
+const F0: u64 = 1 << 0;
+
+const F1: u64 = 1 << 1;
+
+const F2: u64 = 1 << 2;
+
+const F3: u64 = 1 << 3;
+
+const F4: u64 = 1 << 4;
+
+const F5: u64 = 1 << 5;
+
+const F6: u64 = 1 << 6;
+
+const F7: u64 = 1 << 7;
+
+const F10: u64 = 1 << 10;
+
+const F11: u64 = 1 << 11;
+
+// Link A: K 8, Z 2. Links B and E are alike.
+fn link_a(free: u64) -> Hop {
+    Hop {
+        frames: 8,
+        range: 2,
+        free,
+    }
+}
+
+// Link B with Z 8.
+fn wide_b(free: u64) -> Hop {
+    Hop {
+        frames: 8,
+        range: 8,
+        free,
+    }
+}
+
+// Link C: K 16, Z 4.
+fn link_c(free: u64) -> Hop {
+    Hop {
+        frames: 16,
+        range: 4,
+        free,
+    }
+}
+
+// Link D: K 4, Z 2.
+fn link_d(free: u64) -> Hop {
+    Hop {
+        frames: 4,
+        range: 2,
+        free,
+    }
+}
+
+fn text(s: &[u8]) {
+    io::write_all(STDOUT_FILENO, s);
+}
+
+fn number(x: u16) {
+    io::print_decimal(STDOUT_FILENO, x as u64);
+}
+
+// A number after a space.
+fn next_number(x: u16) {
+    text(b" ");
+    number(x);
+}
+
+fn frame_number(x: u8) -> u16 {
+    x as u16
+}
+
+// The frames of the first n hops, each after a space.
+fn show_frames(frames: &[u8; 8], n: usize)
+    requires { ⌜ n ≤ 8 ⌝ }
+{
+    let mut j: usize = 0;
+    while j < n {
+        next_number(frame_number(frames[j]));
+        j += 1;
+    }
+}
+
+// The answer of a search over n hops, and the line's end.
+fn show(answer: Answer, n: usize)
+    requires { ⌜ n ≤ 8 ⌝ }
+{
+    let found = answer.found;
+    let frames = answer.frames;
+    match found {
+        Found::Schedule(delay, count) => {
+            text(b"ok ");
+            number(delay.0);
+            next_number(count);
+            show_frames(&frames, n);
+        }
+        Found::Blocked(count) => {
+            text(b"no ");
+            number(NO_SCHEDULE);
+            next_number(count);
+        }
+    }
+    text(b"\n");
+}
+
+// A case: its name, and its route of n hops, at most three. The other places of the array are not read.
+fn case(name: &[u8], n: usize, first: Hop, second: Hop, third: Hop) {
+    let hops = [first, second, third, third, third, third, third, third];
+    text(name);
+    text(b": ");
+    if !forwarding::ready(CYCLE, hops, n) {
+        text(b"fails the checks\n");
+        return;
+    }
+    show(search::search(CYCLE, hops, n), n);
+}
+
+// A case of link A alone, with these frames free.
+fn one_hop(name: &[u8], a: u64) {
+    let first = link_a(a);
+    case(name, 1, first, first, first);
+}
+
+// A case of link A, with these frames free, and another link.
+fn two_hops(name: &[u8], a: u64, second: Hop) {
+    case(name, 2, link_a(a), second, second);
+}
+
+// A case of links A, B and E, with these frames free.
+fn three_hops(name: &[u8], a: u64, b: u64, e: u64) {
+    case(name, 3, link_a(a), link_a(b), link_a(e));
+}
+
+// Links of one rate. On the routes of three hops the nearest frame of the second hop is the wrong one.
+fn equal_rates() {
+    one_hop(b"A, all free", ALL);
+    one_hop(b"A with none free", 0);
+    two_hops(b"A B, all free", ALL, link_a(ALL));
+    two_hops(b"A{3} B{5}", F3, link_a(F5));
+    two_hops(b"A{3} B{6}", F3, link_a(F6));
+    two_hops(b"A{3} B{3}", F3, link_a(F3));
+    two_hops(b"A{3} B{3} with Z 8 on B", F3, wide_b(F3));
+    two_hops(b"A{1,2} B{3}", F1 | F2, link_a(F3));
+    three_hops(b"A{0} B{1,2} E{4}", F0, F1 | F2, F4);
+    three_hops(b"A{0} B{1,2} E{3}", F0, F1 | F2, F3);
+}
+
+// Links of unequal rates: to a faster one and to a slower one.
+fn unequal_rates() {
+    two_hops(b"A{3} C{7}", F3, link_c(F7));
+    two_hops(b"A{3} C{10}", F3, link_c(F10));
+    two_hops(b"A{3} C{11}", F3, link_c(F11));
+    two_hops(b"A{3} C{6}", F3, link_c(F6));
+    two_hops(b"A{4,5} D{3}", F4 | F5, link_d(F3));
+}
+
+fn main() {
+    equal_rates();
+    unequal_rates();
+}
