@@ -1,0 +1,50 @@
+-- `random_routes::listed_frames` meets its contract. The loop's invariant: j is at most 8. Assumes nothing.
+use Prim.Native.Nat.{_-_, _≤_}
+use borrow.Author.Needs.{needs}
+use Rattle.random_routes.proofs.listed_frames.Statement.{statement}
+use Rattle.random_routes.proofs.listed_frames.Tie as tie
+
+abbrev Inv-loop : tie.InvT-loop
+Inv-loop places word₀ j₀ word j = j ≤ 8
+
+abbrev μ-loop : tie.MeasureT-loop
+μ-loop places word₀ j₀ word j = 8 - j
+
+loop-holds : tie.Need-loop-holds Inv-loop μ-loop
+loop-holds c = search needs
+
+mul-frame-of : tie.Need-mul-frame-of Inv-loop μ-loop
+mul-frame-of c = search needs
+
+element-copy-out-frame-of : tie.Need-element-copy-out-frame-of Inv-loop μ-loop
+element-copy-out-frame-of c = search needs
+
+frame-of-requires : tie.Need-frame-of-requires Inv-loop μ-loop
+frame-of-requires c κs = search needs
+
+add-j : tie.Need-add-j Inv-loop μ-loop
+add-j c = search needs
+
+loop-less : tie.Need-loop-less Inv-loop μ-loop
+loop-less c = search needs
+
+loop-again : tie.Need-loop-again Inv-loop μ-loop
+loop-again c = search needs
+
+returns : tie.Need-returns Inv-loop μ-loop
+returns c = search needs
+
+pub listed-frames-spec : {M : Type 1} → statement M
+listed-frames-spec =
+    tie.close
+    (tie.spec
+    Inv-loop
+    μ-loop
+    loop-holds
+    mul-frame-of
+    element-copy-out-frame-of
+    frame-of-requires
+    add-j
+    loop-less
+    loop-again
+    returns)
