@@ -38,8 +38,8 @@ const F10: u64 = 1 << 10;
 
 const F11: u64 = 1 << 11;
 
-// Link A: K 8, Z 2. Links B and E are alike.
-fn link_a(free: u64) -> Hop {
+// Links A, B and E: K 8, Z 2.
+fn link_abe(free: u64) -> Hop {
     Hop {
         frames: 8,
         range: 2,
@@ -139,30 +139,30 @@ fn case(name: &[u8], n: usize, first: Hop, second: Hop, third: Hop) {
 
 // A case of link A alone, with these frames free.
 fn one_hop(name: &[u8], a: u64) {
-    let first = link_a(a);
+    let first = link_abe(a);
     case(name, 1, first, first, first);
 }
 
 // A case of link A, with these frames free, and another link.
 fn two_hops(name: &[u8], a: u64, second: Hop) {
-    case(name, 2, link_a(a), second, second);
+    case(name, 2, link_abe(a), second, second);
 }
 
 // A case of links A, B and E, with these frames free.
 fn three_hops(name: &[u8], a: u64, b: u64, e: u64) {
-    case(name, 3, link_a(a), link_a(b), link_a(e));
+    case(name, 3, link_abe(a), link_abe(b), link_abe(e));
 }
 
 // Links of one rate. On the routes of three hops the nearest frame of the second hop is the wrong one.
 fn equal_rates() {
     one_hop(b"A, all free", ALL);
     one_hop(b"A with none free", 0);
-    two_hops(b"A B, all free", ALL, link_a(ALL));
-    two_hops(b"A{3} B{5}", F3, link_a(F5));
-    two_hops(b"A{3} B{6}", F3, link_a(F6));
-    two_hops(b"A{3} B{3}", F3, link_a(F3));
+    two_hops(b"A B, all free", ALL, link_abe(ALL));
+    two_hops(b"A{3} B{5}", F3, link_abe(F5));
+    two_hops(b"A{3} B{6}", F3, link_abe(F6));
+    two_hops(b"A{3} B{3}", F3, link_abe(F3));
     two_hops(b"A{3} B{3} with Z 8 on B", F3, wide_b(F3));
-    two_hops(b"A{1,2} B{3}", F1 | F2, link_a(F3));
+    two_hops(b"A{1,2} B{3}", F1 | F2, link_abe(F3));
     three_hops(b"A{0} B{1,2} E{4}", F0, F1 | F2, F4);
     three_hops(b"A{0} B{1,2} E{3}", F0, F1 | F2, F3);
 }
