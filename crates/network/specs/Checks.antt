@@ -1,0 +1,48 @@
+-- The checks that a network given as values meets: 2, 3, 7, 8 and 9 of the refusal list. Assumes nothing.
+use mathlib.Core.Bool.{Bool, not, _||_}
+use mathlib.Core.List.{List, [], _∷_}
+use Prim.Native.Nat.{ℕ, _/_, _%_, _^_}
+use lib.Dec.{eqb, ltb}
+use lib.ListN.{length}
+use Rattle.refusals.specs.Refusals.{Ruling, given, pass, refuseIf, orElse}
+use Rattle.network.specs.Network.{Topology}
+use Rattle.network.specs.declared.Link.{Link}
+
+-- 2: "The number of links is 0 or above 32"
+unfoldable pub badCount : ℕ → Bool
+badCount count = eqb count 0 || ltb 32 count
+
+-- 3: "T is 0 or above 960"
+unfoldable pub badCycle : ℕ → Bool
+badCycle T = eqb T 0 || ltb 960 T
+
+-- 7: "K is 0, above 64 or no divisor of T"
+unfoldable pub badFrames : ℕ → ℕ → Bool
+badFrames T K = eqb K 0 || ltb 64 K || not (eqb (T % K) 0)
+
+-- 8: "Z is 0 or above K"
+unfoldable pub badRange : ℕ → ℕ → Bool
+badRange K Z = eqb Z 0 || ltb K Z
+
+-- 9: "A closed bit stands at K or above": what the word has from bit K on isn't 0
+unfoldable pub badClosed : ℕ → ℕ → Bool
+badClosed K closed = not (eqb (closed / 2 ^ K) 0)
+
+-- the checks of a link; one that is added later stands here
+unfoldable pub linkCheck : ℕ → Link → Ruling
+linkCheck T l =
+    orElse (refuseIf (badFrames T (l .frames)) 7)
+    (orElse (refuseIf (badRange (l .frames) (l .range)) 8)
+    (refuseIf (badClosed (l .frames) (l .closed)) 9))
+
+-- "records and links in turn": all checks of one before the next
+unfoldable pub linksCheck : ℕ → List Link → Ruling
+linksCheck T [] = given pass
+linksCheck T (l ∷ ls) = orElse (linkCheck T l) (linksCheck T ls)
+
+-- "A network given as values, also to the writer, meets 2, 3, 7, 8 and 9"
+unfoldable pub networkCheck : Topology → Ruling
+networkCheck t =
+    orElse (refuseIf (badCount (length (t .links))) 2)
+    (orElse (refuseIf (badCycle (t .ticks)) 3)
+    (linksCheck (t .ticks) (t .links)))

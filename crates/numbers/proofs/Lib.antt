@@ -1,0 +1,3 @@
+pub mod Laws
+mod Loops
+pub mod Trip

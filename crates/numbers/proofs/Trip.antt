@@ -1,0 +1,31 @@
+-- Bytes and numbers, there and back.
+use Prim.Native.Nat.{ℕ, zero, suc, _+_, _*_, _/_, _%_, _^_, _-_, _≤_, _<_}
+use mathlib.Core.Path.{_≡_, refl, sym, ap, _∙_}
+use mathlib.Core.List.{List, [], _∷_, _++_}
+use native.Mathlib.Omega.{arith}
+use lib.ListN.{length, getD, drop, take, length-drop}
+use lib.Seq.{getD-drop}
+use Rattle.numbers.specs.Numbers.{numberIn, bytesOf}
+use Rattle.numbers.proofs.Laws.{pow-step}
+
+pub number-bytes : (n x : ℕ) (q : List ℕ) → x < 2 ^ (8 * n) → numberIn n (bytesOf n x ++ q) ≡ x
+unfolding numberIn bytesOf
+number-bytes zero x q h = omega arith
+number-bytes (suc n) x q h =
+    let g : x < 2 ^ (8 * n) * 256 = rw (← pow-step n) h in
+    let r : numberIn n (bytesOf n (x / 256) ++ q) ≡ x / 256 = number-bytes n (x / 256) q (omega arith) in
+    rw r (omega arith)
+
+pub bytes-number : (n : ℕ) (l : List ℕ) → ((i : ℕ) → getD l i 0 < 256) → n ≤ length l → bytesOf n (numberIn n l) ≡ take n l
+unfolding numberIn bytesOf
+bytes-number zero l b h = refl
+bytes-number (suc n) [] b h = let z : _≡_ {A = ℕ} 0 1 = omega arith in cc
+bytes-number (suc n) (x ∷ l) b h =
+    let v : ℕ = numberIn n l in
+    let p : (x + 256 * v) % 256 ≡ x = omega (arith, b 0) in
+    let q : (x + 256 * v) / 256 ≡ v = omega (arith, b 0) in
+    let r : bytesOf n v ≡ take n l = bytes-number n l (λ i. b (suc i)) (omega arith) in
+    rw (p, q, r)
+
+pub bytes-drop : (j : ℕ) (l : List ℕ) → ((i : ℕ) → getD l i 0 < 256) → (i : ℕ) → getD (drop j l) i 0 < 256
+bytes-drop j l b i = rw getD-drop (b (j + i))

@@ -1,0 +1,14 @@
+-- Numbers as bytes, low byte first. Assumes nothing.
+use mathlib.Core.List.{List, [], _∷_}
+use Prim.Native.Nat.{ℕ, zero, suc, _+_, _*_, _/_, _%_}
+use lib.ListN.{getD, drop}
+
+-- the number that the first n bytes of a list say, "low first"; a byte past the end counts as 0
+unfoldable pub numberIn : ℕ → List ℕ → ℕ
+numberIn zero l = 0
+numberIn (suc n) l = getD l 0 0 + 256 * numberIn n (drop 1 l)
+
+-- the low n bytes of x, "low first"
+unfoldable pub bytesOf : ℕ → ℕ → List ℕ
+bytesOf zero x = []
+bytesOf (suc n) x = x % 256 ∷ bytesOf n (x / 256)

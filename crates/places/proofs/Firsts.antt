@@ -1,0 +1,66 @@
+-- Laws of `firsts`. Assumes nothing.
+use mathlib.Core.Path.{_≡_, refl, sym, ap, _∙_}
+use mathlib.Core.List.{List, [], _∷_, _++_}
+use Prim.Native.Nat.{ℕ, zero, suc, _+_, _-_, _<_, _≤_}
+use native.Mathlib.Nat.{not-suc-le-zero, le-of-suc-le-suc}
+use native.Mathlib.Numerals.{add-one}
+use native.Mathlib.Omega.{arith}
+use lib.ListN.{length, getD, drop, take, set, replicate, drop-of-length-le}
+use lib.Seq.{}
+use Rattle.places.specs.Places.{firsts}
+
+module _ {A : Type 0} where
+  pub length-firsts : (n : ℕ) (l : List A) (d : A) → length (firsts n l d) ≡ n
+  unfolding firsts
+  length-firsts zero l d = refl
+  length-firsts (suc n) [] d = ap suc (length-firsts n [] d)
+  length-firsts (suc n) (x ∷ l) d = ap suc (length-firsts n l d)
+
+  pub getD-firsts : (n i : ℕ) (l : List A) (d : A) → i < n → getD (firsts n l d) i d ≡ getD l i d
+  unfolding firsts
+  getD-firsts zero i l d h = absurd (not-suc-le-zero h)
+  getD-firsts (suc n) zero [] d h = refl
+  getD-firsts (suc n) zero (x ∷ l) d h = refl
+  getD-firsts (suc n) (suc i) [] d h = getD-firsts n i [] d (le-of-suc-le-suc h)
+  getD-firsts (suc n) (suc i) (x ∷ l) d h = getD-firsts n i l d (le-of-suc-le-suc h)
+
+  next-suc : (n i : ℕ) (l : List A) (d : A) → i < n → drop i (firsts n l d) ≡ getD l i d ∷ drop (suc i) (firsts n l d)
+  unfolding firsts
+  next-suc zero i l d h = absurd (not-suc-le-zero h)
+  next-suc (suc n) zero [] d h = refl
+  next-suc (suc n) zero (x ∷ l) d h = refl
+  next-suc (suc n) (suc i) [] d h = next-suc n i [] d (le-of-suc-le-suc h)
+  next-suc (suc n) (suc i) (x ∷ l) d h = next-suc n i l d (le-of-suc-le-suc h)
+
+  -- place i and the rest
+  pub next-first : (n i : ℕ) (l : List A) (d : A) → i < n → drop i (firsts n l d) ≡ getD l i d ∷ drop (i + 1) (firsts n l d)
+  next-first n i l d h = next-suc n i l d h ∙ ap (λ (j : ℕ). getD l i d ∷ drop j (firsts n l d)) (sym (add-one i))
+
+  -- past the last place
+  pub no-first : (n i : ℕ) (l : List A) (d : A) → n ≤ i → drop i (firsts n l d) ≡ []
+  no-first n i l d h = drop-of-length-le (firsts n l d) {i = i} (omega (arith, length-firsts n l d))
+
+  -- within an array
+  pub firsts-take : (n : ℕ) (l : List A) (d : A) → n ≤ length l → firsts n l d ≡ take n l
+  unfolding firsts
+  firsts-take zero l d h = refl
+  firsts-take (suc n) [] d h = absurd (not-suc-le-zero h)
+  firsts-take (suc n) (x ∷ l) d h = ap (λ (t : List A). x ∷ t) (firsts-take n l d (le-of-suc-le-suc h))
+
+  none-first : (n : ℕ) (d : A) → replicate n d ≡ firsts n [] d
+  unfolding firsts
+  none-first zero d = refl
+  none-first (suc n) d = ap (λ (t : List A). d ∷ t) (none-first n d)
+
+  -- an array that was filled with d and then given a list from its first place on
+  pub firsts-filled : (n : ℕ) (xs : List A) (d : A) → length xs ≤ n → xs ++ drop (length xs) (replicate n d) ≡ firsts n xs d
+  unfolding firsts
+  firsts-filled n [] d h = none-first n d
+  firsts-filled zero (x ∷ xs) d h = absurd (not-suc-le-zero h)
+  firsts-filled (suc n) (x ∷ xs) d h = ap (λ (t : List A). x ∷ t) (firsts-filled n xs d (le-of-suc-le-suc h))
+
+  -- as many places as elements
+  pub firsts-all : (l : List A) (d : A) → firsts (length l) l d ≡ l
+  unfolding firsts
+  firsts-all [] d = refl
+  firsts-all (x ∷ l) d = ap (λ (t : List A). x ∷ t) (firsts-all l d)

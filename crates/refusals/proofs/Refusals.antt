@@ -1,0 +1,50 @@
+-- A refusal is told by its number and its count; what follows from a check that passed. Assumes nothing.
+use mathlib.Core.Path.{_≡_, refl, sym, ap, _∙_}
+use mathlib.Core.Bool.{Bool, true, false}
+use mathlib.Core.List.{List, [], _∷_}
+use Prim.Native.Nat.{ℕ}
+use lib.ListN.{getD}
+use Rattle.refusals.specs.declared.Refusal.{Refusal}
+use Rattle.refusals.specs.declared.Refusal.the-variants.{BrokenState, ShortFile, LinkCount, CycleLength, ShortRecord, StrayBit, AbsentWritten, FrameCount, RangeOutside, ClosedOutside, BytesFollow, UnreadableCall, RouteLength, UnknownLink, LinkTwice, RatesApart, NumberLive, PlacesFull, NoSchedule, NumberNotLive, ShortBuffer}
+use Rattle.refusals.specs.declared.Verdict.{Verdict}
+use Rattle.refusals.specs.declared.Verdict.the-variants.{Passed, Refused}
+use Rattle.refusals.specs.Refusals.{refusalNumber, refusalCount, Outcome, given, refused, pass, Ruling, refuseIf, orElse, ruling}
+
+listed : ℕ → List Refusal
+listed count = BrokenState ∷ ShortFile ∷ LinkCount ∷ CycleLength ∷ ShortRecord ∷ StrayBit ∷ AbsentWritten ∷ FrameCount ∷ RangeOutside ∷ ClosedOutside ∷ BytesFollow ∷ UnreadableCall ∷ RouteLength ∷ UnknownLink ∷ LinkTwice ∷ RatesApart ∷ NumberLive ∷ PlacesFull ∷ NoSchedule count ∷ NumberNotLive ∷ ShortBuffer ∷ []
+
+numbered : ℕ → ℕ → Refusal
+numbered n count = getD (listed count) n ShortBuffer
+
+back : (r : Refusal) → numbered (refusalNumber r) (refusalCount r) ≡ r
+unfolding numbered listed
+back BrokenState = refl
+back ShortFile = refl
+back LinkCount = refl
+back CycleLength = refl
+back ShortRecord = refl
+back StrayBit = refl
+back AbsentWritten = refl
+back FrameCount = refl
+back RangeOutside = refl
+back ClosedOutside = refl
+back BytesFollow = refl
+back UnreadableCall = refl
+back RouteLength = refl
+back UnknownLink = refl
+back LinkTwice = refl
+back RatesApart = refl
+back NumberLive = refl
+back PlacesFull = refl
+back (NoSchedule count) = refl
+back NumberNotLive = refl
+back ShortBuffer = refl
+
+-- A NUMBER AND A COUNT TELL THE REFUSAL
+pub refusal-only : (a b : Refusal) → refusalNumber a ≡ refusalNumber b → refusalCount a ≡ refusalCount b → a ≡ b
+refusal-only a b e c = sym (back a) ∙ ap (λ (n : ℕ). numbered n (refusalCount a)) e ∙ ap (numbered (refusalNumber b)) c ∙ back b
+
+-- a check that did not refuse, and what came after it
+pub past : {A : Type 0} (b : Bool) (n : ℕ) (next : Outcome A) (a : A) → orElse (refuseIf b n) next ≡ given a → (b ≡ false) × (next ≡ given a)
+past true n next a e = (cc, cc)
+past false n next a e = (refl, e)
