@@ -1,15 +1,15 @@
 -- Check 9 in the words of frames: it passes exactly where no closed bit stands at K or above. Assumes nothing.
-use mathlib.Core.Path.{_≡_, refl, sym, _∙_}
-use mathlib.Core.Bool.{Bool, true, false, not}
+use mathlib.Core.Path.{_≡_}
+use mathlib.Core.Bool.{false, not}
 use Prim.Native.Nat.{ℕ, _*_, _+_, _/_, _%_, _^_, _<_, _≤_}
-use native.Mathlib.Nat.{mod-lt, div-eq-of-lt, div-add-mod', lt-of-lt-of-le}
+use native.Mathlib.Nat.{mod-lt, div-eq-of-lt, div-add-mod'}
 use native.Mathlib.Omega.{arith}
-use borrow.Author.Tests.{eq-eqb, eqb-true, not-false, ltb-true, ltb-false}
-use lib.Dec.{eqb, ltb}
-use lib.Pow.{pow-pos, pow-mono}
+use borrow.Author.Tests.{eq-eqb, eqb-true, not-false}
+use lib.Dec.{eqb}
+use lib.Pow.{pow-pos}
 use Rattle.words.specs.Word.{bitOf}
-use Rattle.words.proofs.Bits.{bit-high, bit-mod}
-use Rattle.words.proofs.Words.{word-ext}
+use Rattle.words.proofs.Bits.{bit-high}
+use Rattle.words.proofs.Words.{word-below}
 use Rattle.network.specs.Checks.{badClosed}
 
 pub closed-below : (K closed : ℕ) → badClosed K closed ≡ false → closed < 2 ^ K
@@ -29,13 +29,5 @@ passed-none-closed K closed e i h = bit-high K closed i (closed-below K closed e
 pub none-closed-passed : (K closed : ℕ) → closed < 2 ^ 64 → K ≤ 64 → ((i : ℕ) → K ≤ i → bitOf closed i ≡ false) → badClosed K closed ≡ false
 unfolding badClosed
 none-closed-passed K closed w k h =
-    let l : closed % 2 ^ K < 2 ^ K = mod-lt closed (pow-pos K) in
-    let m : closed % 2 ^ K < 2 ^ 64 = lt-of-lt-of-le l (pow-mono k) in
-    let e : closed ≡ closed % 2 ^ K = word-ext 64 closed (closed % 2 ^ K) w m (λ i g. same i (ltb i K) refl) in
-    let b : closed < 2 ^ K = rw (← e) at l in
-    let q : closed / 2 ^ K ≡ 0 = div-eq-of-lt b in
+    let q : closed / 2 ^ K ≡ 0 = div-eq-of-lt (word-below 64 K closed w k h) in
     rw (eq-eqb (closed / 2 ^ K) 0 q)
-  where
-    same : (i : ℕ) (b : Bool) → ltb i K ≡ b → bitOf closed i ≡ bitOf (closed % 2 ^ K) i
-    same i true g = sym (bit-mod K closed i (ltb-true i K g))
-    same i false g = h i (ltb-false i K g) ∙ sym (bit-high K (closed % 2 ^ K) i (mod-lt closed (pow-pos K)) (ltb-false i K g))

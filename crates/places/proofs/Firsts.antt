@@ -64,3 +64,20 @@ module _ {A : Type 0} where
   unfolding firsts
   firsts-all [] d = refl
   firsts-all (x ∷ l) d = ap (λ (t : List A). x ∷ t) (firsts-all l d)
+
+  more : (n : ℕ) (xs : List A) (x d : A) → length xs < n → set (firsts n xs d) (length xs) x ≡ firsts n (xs ++ (x ∷ [])) d
+  unfolding firsts
+  more zero xs x d g = absurd (not-suc-le-zero g)
+  more (suc n) [] x d g = refl
+  more (suc n) (y ∷ xs) x d g = ap (λ (t : List A). y ∷ t) (more n xs x d (le-of-suc-le-suc g))
+
+  -- an array with a list in its first places, and one more element stored after it
+  pub firsts-more : (n j : ℕ) (xs : List A) (x d : A) → length xs ≡ j → j < n → set (firsts n xs d) j x ≡ firsts n (xs ++ (x ∷ [])) d
+  firsts-more n j xs x d e h = rw (← e) (more n xs x d (omega arith))
+
+  -- a list that fits in n places, back from them
+  pub firsts-back : (n : ℕ) (xs : List A) (d : A) → length xs ≤ n → firsts (length xs) (firsts n xs d) d ≡ xs
+  unfolding firsts
+  firsts-back n [] d h = refl
+  firsts-back zero (x ∷ xs) d h = absurd (not-suc-le-zero h)
+  firsts-back (suc n) (x ∷ xs) d h = ap (λ (t : List A). x ∷ t) (firsts-back n xs d (le-of-suc-le-suc h))

@@ -3,12 +3,12 @@ use mathlib.Core.Path.{_≡_, refl, sym, ap, ap₂, _∙_}
 use mathlib.Core.Bool.{Bool, false, _&&_}
 use mathlib.Core.Logic.{⊎-elim}
 use Prim.Native.Nat.{ℕ, zero, suc, _+_, _*_, _/_, _%_, _^_, _<_, _≤_}
-use native.Mathlib.Nat.{mod-lt, mod-eq-of-lt, mod-add-div', div-eq-of-lt, zero-add, add-mul-div-right, add-mul-mod-self-right, mul-le-mul-right, eq-or-lt-of-le, le-of-suc-le-suc}
+use native.Mathlib.Nat.{mod-lt, mod-eq-of-lt, lt-of-lt-of-le, mod-add-div', div-eq-of-lt, zero-add, add-mul-div-right, add-mul-mod-self-right, mul-le-mul-right, eq-or-lt-of-le, le-of-suc-le-suc}
 use native.Mathlib.Numerals.{one-add}
 use native.Mathlib.Decide.{decLt}
 use native.Mathlib.Omega.{arith}
 use lib.Dec.{ltb}
-use lib.Pow.{pow-pos, shr-lt}
+use lib.Pow.{pow-pos, pow-mono, shr-lt}
 use borrow.Author.Tests.{lt-ltb, le-ltb}
 use Rattle.trellis.specs.Count.{oneIf}
 use Rattle.trellis.proofs.Count.{one-le}
@@ -73,3 +73,14 @@ word-self K w h = word-only K w (bitOf w) h (λ i l. refl)
 -- two numbers below 2 ^ K with the same bits are equal
 pub word-ext : (K w v : ℕ) → w < 2 ^ K → v < 2 ^ K → ((i : ℕ) → i < K → bitOf w i ≡ bitOf v i) → w ≡ v
 word-ext K w v h k same = word-only K w (bitOf v) h same ∙ sym (word-self K v k)
+
+-- a number without a bit at K or above is below 2 ^ K
+pub word-below : (m K w : ℕ) → w < 2 ^ m → K ≤ m → ((i : ℕ) → K ≤ i → bitOf w i ≡ false) → w < 2 ^ K
+word-below m K w h k none =
+    let low : w % 2 ^ K < 2 ^ K = mod-lt w (pow-pos K) in
+    let e : w ≡ w % 2 ^ K = word-ext m w (w % 2 ^ K) h (lt-of-lt-of-le low (pow-mono k)) (λ i l. same low i (decLt i K)) in
+    omega (arith, low, e)
+  where
+    same : w % 2 ^ K < 2 ^ K → (i : ℕ) → Dec (i < K) → bitOf w i ≡ bitOf (w % 2 ^ K) i
+    same low i (yes l) = sym (bit-mod K w i l)
+    same low i (no n) = let g : K ≤ i = omega arith in none i g ∙ sym (bit-high K (w % 2 ^ K) i low g)

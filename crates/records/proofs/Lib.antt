@@ -1,0 +1,5 @@
+pub mod Layouts
+pub mod Sizes
+mod Turns
+mod Cases
+mod Pieces

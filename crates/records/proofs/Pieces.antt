@@ -1,0 +1,183 @@
+-- Writing: the turns of each loop over the fields, and the record that they make. Assumes nothing.
+use mathlib.Core.Path.{_≡_, refl, sym, ap, _∙_}
+use mathlib.Core.Bool.{Bool, true, false, not, _||_}
+use mathlib.Core.List.{List, [], _∷_, _++_, append-assoc, append-nil}
+use Prim.Native.Nat.{ℕ, zero, suc, _+_, _*_, _-_, _^_, _<_, _≤_}
+use native.Mathlib.Nat.{add-zero, lt-of-lt-of-le}
+use native.Mathlib.Omega.{arith}
+use borrow.Author.Tests.{ne-eqb}
+use borrow.Rule.Slice.PartMut.{putMid}
+use lib.Dec.{eqb}
+use lib.ListN.{length, getD, drop, take, set, length-append, length-set}
+use Rattle.trellis.specs.Answer.{pick}
+use Rattle.places.specs.Places.{firsts}
+use Rattle.places.specs.Put.{putAt}
+use Rattle.places.proofs.Firsts.{next-first, no-first}
+use Rattle.places.proofs.Parts.{part-rest}
+use Rattle.places.proofs.Puts.{Grown, grow, grown-none, put-length, put-nil, put-part, put-set, put-zero}
+use Rattle.numbers.specs.Numbers.{bytesOf}
+use Rattle.numbers.proofs.Laws.{length-bytes}
+use Rattle.words.specs.Word.{bitOf, withBit, wordOf}
+use Rattle.words.proofs.Bits.{bit-high}
+use Rattle.words.proofs.Words.{word-lt, word-below}
+use Rattle.words.proofs.Frames.{bit-with}
+use Rattle.records.specs.Layout.{noField, Laid}
+use Rattle.records.specs.Writing.{isWritten, mapWith, fieldOf, bodyOf, recordOf}
+use Rattle.records.specs.declared.Field.{Field}
+use Rattle.records.proofs.Layouts.{laid-at}
+use Rattle.records.proofs.Sizes.{written, unwritten, field-some, field-none, length-some, length-none, length-small, body-none, body-more, length-more}
+
+-- ---- a field
+pub map-same : (map : ℕ) (f : Field) (v : ℕ) → v ≡ f .absent → map ≡ pick (isWritten f v) (withBit map (f .bit)) map
+map-same map f v h = rw (unwritten f v h)
+
+pub map-more : (map : ℕ) (f : Field) (v : ℕ) → (v ≡ f .absent → ⊥) → (r : ℕ) → r ≡ withBit map (f .bit) → r ≡ pick (isWritten f v) (withBit map (f .bit)) map
+map-more map f v h r e = rw (written f v h) e
+
+pub none-long : (f : Field) (v : ℕ) → v ≡ f .absent → 0 ≡ length (fieldOf f v)
+none-long f v h = sym (length-none f v (unwritten f v h))
+
+pub some-long : (f : Field) (v : ℕ) → (v ≡ f .absent → ⊥) → f .size ≡ length (fieldOf f v)
+some-long f v h = sym (length-some f v (written f v h))
+
+module _ (d : List ℕ) (at : ℕ) (f : Field) (v : ℕ) where
+  pub none-put : v ≡ f .absent → (at ≡ at + length (fieldOf f v)) × (d ≡ putAt at (fieldOf f v) d)
+  none-put h = rw (field-none f v (unwritten f v h)) (sym (add-zero at), sym (put-nil at d))
+
+  module _ (h : v ≡ f .absent → ⊥) (room : at + length (fieldOf f v) ≤ length d) where
+    pub some-room : at + f .size ≤ length d
+    some-room = omega (arith, some-long f v h)
+
+    pub some-put : (p : List ℕ) → p ≡ bytesOf (f .size) v ++ drop (f .size) (take (length d - at) (drop at d)) → (at + f .size ≡ at + length (fieldOf f v)) × (putMid at (length d - at) d p ≡ putAt at (fieldOf f v) d)
+    some-put p e =
+        let l : at ≤ length d = omega (arith, some-room) in
+        (ap (λ (k : ℕ). at + k) (some-long f v h), rw (field-some f v (written f v h)) (put-part at (bytesOf (f .size) v) d p l (e ∙ rw (length-bytes (f .size) v))))
+
+-- ---- the map byte
+with-wide : (map i : ℕ) → withBit map i < 2 ^ 64
+unfolding withBit
+with-wide map i = word-lt 64 (λ j. bitOf map j || eqb j i)
+
+pub with-low : (map i : ℕ) → map < 2 ^ 8 → i < 8 → withBit map i < 2 ^ 8
+with-low map i h l = word-below 64 8 (withBit map i) (with-wide map i) (omega arith) none
+  where
+    none : (j : ℕ) → 8 ≤ j → bitOf (withBit map i) j ≡ false
+    none j g =
+        let w : map < 2 ^ 64 = omega arith in
+        let e : j ≡ i → ⊥ = λ q. omega arith in
+        bit-with map i w (omega arith) j ∙ rw (bit-high 8 map j h g, ne-eqb j i e)
+
+module _ (fields : List Field) (n : ℕ) (values : List ℕ) where
+  abbrev fs : List Field
+  fs = firsts n fields noField
+
+  abbrev vs : List ℕ
+  vs = firsts n values 0
+
+  pub record Mapped (map j : ℕ) : Type 0 where
+    pub within : j ≤ n
+    pub same : mapWith fs 0 vs ≡ mapWith (drop j fs) map (drop j vs)
+    pub low : map < 2 ^ 8
+
+  pub none-mapped : Mapped 0 0
+  none-mapped = record { within = omega arith; same = refl; low = omega arith }
+
+  low-either : (b : Bool) (map i : ℕ) → map < 2 ^ 8 → i < 8 → pick b (withBit map i) map < 2 ^ 8
+  low-either true map i h l = with-low map i h l
+  low-either false map i h l = h
+
+  pub one-mapped : (map j r : ℕ) → Laid fields n → Mapped map j → j < n → r ≡ pick (isWritten (getD fields j noField) (getD values j 0)) (withBit map (getD fields j noField .bit)) map → Mapped r (j + 1)
+  unfolding mapWith
+  one-mapped map j r l m h e = record {
+    within = omega arith;
+    same = m .same ∙ rw (next-first n j fields noField h, next-first n j values 0 h, e);
+    low = rw e (low-either (isWritten (getD fields j noField) (getD values j 0)) map (getD fields j noField .bit) (m .low) (laid-at fields n j l h .low));
+  }
+
+  pub all-mapped : (map j : ℕ) → Mapped map j → n ≤ j → (map ≡ mapWith fs 0 vs) × (map < 256)
+  unfolding mapWith
+  all-mapped map j m h = (sym (m .same ∙ rw (no-first n j fields noField h)), m .low)
+
+  -- ---- the bytes after it
+  more-body : (j : ℕ) → j < n → bodyOf (drop j fs) (drop j vs) ≡ fieldOf (getD fields j noField) (getD values j 0) ++ bodyOf (drop (j + 1) fs) (drop (j + 1) vs)
+  more-body j h = rw (next-first n j fields noField h, next-first n j values 0 h) (body-more (getD fields j noField) (drop (j + 1) fs) (getD values j 0) (drop (j + 1) vs))
+
+  more-long : (j : ℕ) → j < n → length (bodyOf (drop j fs) (drop j vs)) ≡ length (fieldOf (getD fields j noField) (getD values j 0)) + length (bodyOf (drop (j + 1) fs) (drop (j + 1) vs))
+  more-long j h = ap length (more-body j h) ∙ length-append (fieldOf (getD fields j noField) (getD values j 0)) (bodyOf (drop (j + 1) fs) (drop (j + 1) vs))
+
+  end-body : (j : ℕ) → n ≤ j → bodyOf (drop j fs) (drop j vs) ≡ []
+  end-body j h = rw (no-first n j fields noField h) (body-none (drop j vs))
+
+  pub record Measured (total j : ℕ) : Type 0 where
+    pub within : j ≤ n
+    pub sum : total + length (bodyOf (drop j fs) (drop j vs)) ≡ length (recordOf fs vs)
+    pub small : total ≤ 1 + 8 * j
+
+  pub none-measured : Measured 1 0
+  unfolding recordOf
+  none-measured = record { within = omega arith; sum = omega arith; small = omega arith }
+
+  pub one-measured : (total j r : ℕ) → Laid fields n → Measured total j → j < n → r ≡ length (fieldOf (getD fields j noField) (getD values j 0)) → Measured (total + r) (j + 1)
+  one-measured total j r l m h e = record {
+    within = omega arith;
+    sum = omega (arith, m .sum, more-long j h);
+    small = omega (arith, m .small, length-small (getD fields j noField) (getD values j 0) (laid-at fields n j l h .small));
+  }
+
+  pub all-measured : (total j : ℕ) → Laid fields n → Measured total j → n ≤ j → (total ≡ length (recordOf fs vs)) × (total ≤ 65)
+  all-measured total j l m h = (omega (arith, m .sum, ap length (end-body j h)), omega (arith, m .small, m .within, l .few))
+
+  pub record Placed (buffer₀ buffer : List ℕ) (at j : ℕ) : Type 0 where
+    pub within : j ≤ n
+    pub done : List ℕ
+    pub whole : bodyOf fs vs ≡ done ++ bodyOf (drop j fs) (drop j vs)
+    pub grown : Grown 1 buffer₀ done buffer at
+
+  module _ (buffer₀ : List ℕ) (room : 1 + length (bodyOf fs vs) ≤ length buffer₀) where
+    pub none-placed : Placed buffer₀ buffer₀ 1 0
+    none-placed = record { within = omega arith; done = []; whole = refl; grown = grown-none 1 buffer₀ (omega arith) }
+
+    module _ (buffer : List ℕ) (at j : ℕ) (p : Placed buffer₀ buffer at j) where
+      module _ (h : j < n) where
+        fits : at + length (fieldOf (getD fields j noField) (getD values j 0)) ≤ length buffer₀
+        fits = omega (arith, ap length (p .whole), length-append (p .done) (bodyOf (drop j fs) (drop j vs)), more-long j h, p .grown .next)
+
+        pub field-room : at + length (fieldOf (getD fields j noField) (getD values j 0)) ≤ length buffer
+        field-room = omega (arith, fits, p .grown .long)
+
+        pub one-placed : (r : ℕ) (b : List ℕ) → (r ≡ at + length (fieldOf (getD fields j noField) (getD values j 0))) × (b ≡ putAt at (fieldOf (getD fields j noField) (getD values j 0)) buffer) → Placed buffer₀ b r (j + 1)
+        one-placed r b e =
+            let y : List ℕ = fieldOf (getD fields j noField) (getD values j 0) in
+            record {
+              within = omega arith;
+              done = p .done ++ y;
+              whole = p .whole ∙ rw (more-body j h) (sym (append-assoc (p .done) y (bodyOf (drop (j + 1) fs) (drop (j + 1) vs))));
+              grown = grow 1 buffer₀ (p .done) buffer at (p .grown) y b r fits (e .1) (e .0);
+            }
+
+      pub all-placed : n ≤ j → (at ≡ 1 + length (bodyOf fs vs)) × (buffer ≡ putAt 1 (bodyOf fs vs) buffer₀)
+      all-placed h =
+          let e : bodyOf fs vs ≡ p .done = p .whole ∙ rw (end-body j h) (append-nil (p .done)) in
+          (rw e (p .grown .next), rw e (p .grown .holds))
+
+  -- ---- the whole record
+  module _ (rest : List ℕ) (room : length (recordOf fs vs) ≤ length rest) (map : ℕ) (em : map ≡ mapWith fs 0 vs) where
+    pub some-byte : 0 < length rest
+    unfolding recordOf
+    some-byte = omega arith
+
+    pub body-room : 1 + length (bodyOf fs vs) ≤ length (set rest 0 map)
+    unfolding recordOf
+    body-room = omega (arith, length-set rest 0 map)
+
+    pub record-put : (r : ℕ) (b : List ℕ) → (r ≡ 1 + length (bodyOf fs vs)) × (b ≡ putAt 1 (bodyOf fs vs) (set rest 0 map)) → (r ≡ length (recordOf fs vs)) × (b ≡ recordOf fs vs ++ drop r rest)
+    unfolding recordOf
+    record-put r b e =
+        let a : Grown 0 rest (map ∷ []) (set rest 0 map) 1 = record { next = refl; room = some-byte; long = length-set rest 0 map; holds = put-set 0 map rest some-byte } in
+        let g : Grown 0 rest ((map ∷ []) ++ bodyOf fs vs) b r = grow 0 rest (map ∷ []) (set rest 0 map) 1 a (bodyOf fs vs) b r (omega arith) (e .1) (e .0) in
+        let z : b ≡ (map ∷ bodyOf fs vs) ++ drop (length (map ∷ bodyOf fs vs)) rest = g .holds ∙ put-zero (map ∷ bodyOf fs vs) rest in
+        let q : length (map ∷ bodyOf fs vs) ≡ r = omega arith in
+        (omega arith, z ∙ rw em (ap (λ (k : ℕ). mapWith fs 0 vs ∷ (bodyOf fs vs ++ drop k rest)) q))
+
+    pub record-long : (b : List ℕ) → b ≡ putAt 1 (bodyOf fs vs) (set rest 0 map) → length b ≡ length rest
+    record-long b e = ap length e ∙ put-length 1 (bodyOf fs vs) (set rest 0 map) body-room ∙ length-set rest 0 map
