@@ -1,13 +1,11 @@
 -- Writing: the turns of each loop over the fields, and the record that they make. Assumes nothing.
 use mathlib.Core.Path.{_≡_, refl, sym, ap, _∙_}
-use mathlib.Core.Bool.{Bool, true, false, not, _||_}
+use mathlib.Core.Bool.{Bool, true, false}
 use mathlib.Core.List.{List, [], _∷_, _++_, append-assoc, append-nil}
 use Prim.Native.Nat.{ℕ, zero, suc, _+_, _*_, _-_, _^_, _<_, _≤_}
-use native.Mathlib.Nat.{add-zero, lt-of-lt-of-le}
+use native.Mathlib.Nat.{add-zero}
 use native.Mathlib.Omega.{arith}
-use borrow.Author.Tests.{ne-eqb}
 use borrow.Rule.Slice.PartMut.{putMid}
-use lib.Dec.{eqb}
 use lib.ListN.{length, getD, drop, take, set, length-append, length-set}
 use Rattle.trellis.specs.Answer.{pick}
 use Rattle.places.specs.Places.{firsts}
@@ -17,10 +15,8 @@ use Rattle.places.proofs.Parts.{part-rest}
 use Rattle.places.proofs.Puts.{Grown, grow, grown-none, put-length, put-nil, put-part, put-set, put-zero}
 use Rattle.numbers.specs.Numbers.{bytesOf}
 use Rattle.numbers.proofs.Laws.{length-bytes}
-use Rattle.words.specs.Word.{bitOf, withBit, wordOf}
-use Rattle.words.proofs.Bits.{bit-high}
-use Rattle.words.proofs.Words.{word-lt, word-below}
-use Rattle.words.proofs.Frames.{bit-with}
+use Rattle.words.specs.Word.{withBit}
+use Rattle.words.proofs.Frames.{with-lt}
 use Rattle.records.specs.Layout.{noField, Laid}
 use Rattle.records.specs.Writing.{isWritten, mapWith, fieldOf, bodyOf, recordOf}
 use Rattle.records.specs.declared.Field.{Field}
@@ -54,19 +50,6 @@ module _ (d : List ℕ) (at : ℕ) (f : Field) (v : ℕ) where
         (ap (λ (k : ℕ). at + k) (some-long f v h), rw (field-some f v (written f v h)) (put-part at (bytesOf (f .size) v) d p l (e ∙ rw (length-bytes (f .size) v))))
 
 -- ---- the map byte
-with-wide : (map i : ℕ) → withBit map i < 2 ^ 64
-unfolding withBit
-with-wide map i = word-lt 64 (λ j. bitOf map j || eqb j i)
-
-pub with-low : (map i : ℕ) → map < 2 ^ 8 → i < 8 → withBit map i < 2 ^ 8
-with-low map i h l = word-below 64 8 (withBit map i) (with-wide map i) (omega arith) none
-  where
-    none : (j : ℕ) → 8 ≤ j → bitOf (withBit map i) j ≡ false
-    none j g =
-        let w : map < 2 ^ 64 = omega arith in
-        let e : j ≡ i → ⊥ = λ q. omega arith in
-        bit-with map i w (omega arith) j ∙ rw (bit-high 8 map j h g, ne-eqb j i e)
-
 module _ (fields : List Field) (n : ℕ) (values : List ℕ) where
   abbrev fs : List Field
   fs = firsts n fields noField
@@ -83,7 +66,7 @@ module _ (fields : List Field) (n : ℕ) (values : List ℕ) where
   none-mapped = record { within = omega arith; same = refl; low = omega arith }
 
   low-either : (b : Bool) (map i : ℕ) → map < 2 ^ 8 → i < 8 → pick b (withBit map i) map < 2 ^ 8
-  low-either true map i h l = with-low map i h l
+  low-either true map i h l = with-lt 8 map i (omega arith) h l
   low-either false map i h l = h
 
   pub one-mapped : (map j r : ℕ) → Laid fields n → Mapped map j → j < n → r ≡ pick (isWritten (getD fields j noField) (getD values j 0)) (withBit map (getD fields j noField .bit)) map → Mapped r (j + 1)

@@ -2,7 +2,7 @@
 use mathlib.Core.Path.{_≡_}
 use mathlib.Core.Bool.{Bool, true, false, not, _&&_, _||_}
 use mathlib.Core.List.{List, [], _∷_}
-use Prim.Native.Nat.{ℕ, _*_, _^_, _≤_}
+use Prim.Native.Nat.{ℕ, _*_, _^_, _<_, _≤_}
 use lib.Dec.{eqb, ltb, leb}
 use Rattle.places.specs.Places.{firsts}
 use Rattle.words.specs.Word.{bitOf}
@@ -30,3 +30,8 @@ pub record Laid (fields : List Field) (n : ℕ) : Type 0 where
 -- whether a field's bit stands in a map byte
 unfoldable pub stands : ℕ → Field → Bool
 stands map f = bitOf map (f .bit)
+
+-- as many values as fields, and each fits in its field's bytes
+pub data Fits : List Field → List ℕ → Type 0 where
+  fits-none : Fits [] []
+  fits-more : {f : Field} {fs : List Field} {v : ℕ} {vs : List ℕ} → v < 2 ^ (8 * f .size) → Fits fs vs → Fits (f ∷ fs) (v ∷ vs)

@@ -35,7 +35,11 @@ fn size_in(map: u64, field: Field) -> usize
     requires { ⌜ field .bit < 8 ⌝ }
     ensures { λ r. ⌜ r ≡ sizeIn map field ⌝ }
 {
-    if words::has_bit(map, field.bit) { field.size } else { 0 }
+    if words::has_bit(map, field.bit) {
+        field.size
+    } else {
+        0
+    }
 }
 
 // The bytes that the bits of a map byte need.

@@ -1,6 +1,6 @@
 -- Laws of sums, of counts and of tests. Assumes nothing.
 use mathlib.Core.Path.{_≡_, refl, ap, ap₂}
-use mathlib.Core.Bool.{Bool, true, false, _&&_}
+use mathlib.Core.Bool.{Bool, true, false, _&&_, _||_}
 use mathlib.Core.Logic.{⊎-elim}
 use Prim.Native.Nat.{ℕ, zero, suc, _+_, _*_, _<_, _≤_}
 use native.Mathlib.Nat.{add-zero, add-suc, eq-or-lt-of-le, le-of-suc-le-suc}
@@ -52,6 +52,10 @@ count-le n f = omega (arith, sum-bound n 1 (λ k. oneIf (f k)) (λ k l. one-le (
 pub and-true : (a b : Bool) → a && b ≡ true → (a ≡ true) × (b ≡ true)
 and-true true b e = (refl, e)
 and-true false b e = absurd (let z : _≡_ {A = ℕ} 0 1 = cc in omega arith)
+
+pub or-false : (a b : Bool) → a || b ≡ false → (a ≡ false) × (b ≡ false)
+or-false true b e = absurd (let z : _≡_ {A = ℕ} 0 1 = cc in omega arith)
+or-false false b e = (refl, e)
 
 pub true-and : (a b : Bool) → a ≡ true → b ≡ true → a && b ≡ true
 true-and a b p q = rw (p, q)

@@ -9,7 +9,7 @@ use lib.Dec.{ltb, eqb}
 use lib.Arith.{lt-of-le-ne}
 use borrow.Author.Tests.{ltb-true, ltb-false, eqb-true, eqb-false}
 use Rattle.trellis.specs.Order.{Precedes, precedes}
-use Rattle.trellis.proofs.Count.{and-true}
+use Rattle.trellis.proofs.Count.{and-true, or-false}
 
 pub precedes-refl : (xs : List ℕ) → Precedes xs xs
 precedes-refl [] = tt
@@ -51,10 +51,6 @@ precedes-put a x y xs ys (inr e) = inr (e .0, inr (refl, e .1))
 or-cases : (a b : Bool) → a || b ≡ true → (a ≡ true) ⊎ (b ≡ true)
 or-cases true b e = inl refl
 or-cases false b e = inr e
-
-or-false : (a b : Bool) → a || b ≡ false → (a ≡ false) × (b ≡ false)
-or-false true b e = absurd (let z : _≡_ {A = ℕ} 0 1 = cc in omega arith)
-or-false false b e = (refl, e)
 
 pub test-precedes : (xs ys : List ℕ) → precedes xs ys ≡ true → Precedes xs ys
 test-precedes [] ys e = tt

@@ -1,14 +1,15 @@
 -- The words of all frames, of a frame more or less, and of the free frames. Assumes nothing.
 use mathlib.Core.Path.{_≡_, refl, _∙_}
-use mathlib.Core.Bool.{true, not, _&&_, _||_, and-true}
-use Prim.Native.Nat.{ℕ, zero, suc, _-_, _^_, _<_}
+use mathlib.Core.Bool.{true, false, not, _&&_, _||_, and-true}
+use Prim.Native.Nat.{ℕ, zero, suc, _-_, _^_, _<_, _≤_}
+use native.Mathlib.Nat.{lt-of-lt-of-le}
 use native.Mathlib.Omega.{arith}
 use lib.Dec.{eqb, ltb}
-use lib.Pow.{pow-pos}
+use lib.Pow.{pow-pos, pow-mono}
 use borrow.Author.Tests.{ne-eqb}
 use Rattle.words.specs.Word.{bitOf, wordOf, onesBelow, withBit, withoutBit, freeAt, freeWord}
 use Rattle.words.proofs.Bits.{bit-high}
-use Rattle.words.proofs.Words.{bit-word, bit-within}
+use Rattle.words.proofs.Words.{bit-word, bit-within, word-lt, word-below}
 
 -- the word of all K frames as a number
 pub ones-word : (K : ℕ) → onesBelow K ≡ 2 ^ K - 1
@@ -35,3 +36,13 @@ bit-without w i h = bit-within 64 (λ j. bitOf w j && not (eqb j i)) (λ j g. rw
 pub bit-free : (K closed held i : ℕ) → bitOf (freeWord K closed held) i ≡ (ltb i K && freeAt closed held i)
 unfolding freeWord
 bit-free K closed held i = bit-word K (freeAt closed held) i
+
+-- a word of m bits is one of m bits with bit i too
+pub with-lt : (m w i : ℕ) → m ≤ 64 → w < 2 ^ m → i < m → withBit w i < 2 ^ m
+unfolding withBit
+with-lt m w i k h l = word-below 64 m (withBit w i) (word-lt 64 (λ j. bitOf w j || eqb j i)) k none
+  where
+    none : (j : ℕ) → m ≤ j → bitOf (withBit w i) j ≡ false
+    none j g =
+        let e : j ≡ i → ⊥ = λ q. omega arith in
+        bit-with w i (lt-of-lt-of-le h (pow-mono k)) (omega arith) j ∙ rw (bit-high m w j h g, ne-eqb j i e)
