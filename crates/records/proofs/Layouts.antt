@@ -3,13 +3,14 @@ use mathlib.Core.Path.{_≡_, refl, sym, ap, _∙_}
 use mathlib.Core.Bool.{Bool, true, false, not, _&&_}
 use mathlib.Core.List.{List, [], _∷_}
 use Prim.Native.Nat.{ℕ, zero, suc, _+_, _*_, _^_, _<_, _≤_}
+use native.Mathlib.Nat.{not-suc-le-zero, le-of-suc-le-suc}
 use borrow.Author.Tests.{ltb-true, leb-true, not-true}
 use lib.Dec.{ltb, leb}
-use lib.ListN.{getD, drop}
+use lib.ListN.{length, getD, drop}
 use Rattle.trellis.proofs.Count.{and-true}
 use Rattle.places.specs.Places.{firsts}
 use Rattle.places.proofs.Firsts.{next-first}
-use Rattle.records.specs.Layout.{noField, isBit, isLayout, Laid}
+use Rattle.records.specs.Layout.{noField, isBit, isLayout, Laid, Fits, fits-none, fits-more}
 use Rattle.records.specs.declared.Field.{Field}
 
 -- a field before others of a layout
@@ -47,3 +48,9 @@ pub laid-at : (fields : List Field) (n j : ℕ) → Laid fields n → j < n → 
 laid-at fields n j l h =
     let fs : List Field = firsts n fields noField in
     leads (getD fields j noField) (drop (j + 1) fs) (sym (ap isLayout (next-first n j fields noField h)) ∙ layout-drop j fs (l .layout))
+
+-- a value that fits in its field
+pub fits-at : (fs : List Field) (vs : List ℕ) → Fits fs vs → (j : ℕ) → j < length fs → getD vs j 0 < 2 ^ (8 * getD fs j noField .size)
+fits-at [] [] fits-none j h = absurd (not-suc-le-zero h)
+fits-at (f ∷ fs) (v ∷ vs) (fits-more l r) zero h = l
+fits-at (f ∷ fs) (v ∷ vs) (fits-more l r) (suc j) h = fits-at fs vs r j (le-of-suc-le-suc h)

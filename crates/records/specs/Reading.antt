@@ -7,7 +7,7 @@ use lib.Dec.{eqb, ltb}
 use lib.ListN.{length, getD, drop}
 use Rattle.trellis.specs.Answer.{pick}
 use Rattle.places.specs.Places.{firsts}
-use Rattle.refusals.specs.Refusals.{Outcome, given, refused, Ruling, pass, refuseIf, orElse, ruling}
+use Rattle.refusals.specs.Refusals.{Outcome, given, refused, refuseIf, orElse, ruling, rulingOf, givenOr}
 use Rattle.refusals.specs.declared.Refusal.{Refusal}
 use Rattle.refusals.specs.declared.Verdict.the-variants.{Refused}
 use Rattle.numbers.specs.Numbers.{numberIn}
@@ -63,13 +63,9 @@ unfoldable pub readRecord : List Field → List ℕ → Outcome Said
 readRecord fs s = orElse (refuseIf (eqb (length s) 0) 4) (readMapped fs (getD s 0 0) s)
 
 -- ---- what the program's answer says in these words
-abbrev pub rulingOf : {A : Type 0} → Outcome A → Ruling
-rulingOf (given a) = given pass
-rulingOf (refused n) = refused n
-
+-- nothing, and 0, stand in the place of a record that is refused
 abbrev pub saidIn : Outcome Said → Said
-saidIn (given x) = x
-saidIn (refused n) = record { values = []; used = 0 }
+saidIn o = givenOr (record { values = []; used = 0 }) o
 
 -- the values of a record that is refused
 abbrev pub noRecord : Refusal → Record

@@ -3,12 +3,13 @@ use mathlib.Core.Path.{_≡_, refl, sym, ap, _∙_}
 use mathlib.Core.Bool.{Bool, true, false}
 use mathlib.Core.List.{List, [], _∷_}
 use Prim.Native.Nat.{ℕ}
+use native.Mathlib.Omega.{arith}
 use lib.ListN.{getD}
 use Rattle.refusals.specs.declared.Refusal.{Refusal}
 use Rattle.refusals.specs.declared.Refusal.the-variants.{BrokenState, ShortFile, LinkCount, CycleLength, ShortRecord, StrayBit, AbsentWritten, FrameCount, RangeOutside, ClosedOutside, BytesFollow, UnreadableCall, RouteLength, UnknownLink, LinkTwice, RatesApart, NumberLive, PlacesFull, NoSchedule, NumberNotLive, ShortBuffer}
 use Rattle.refusals.specs.declared.Verdict.{Verdict}
 use Rattle.refusals.specs.declared.Verdict.the-variants.{Passed, Refused}
-use Rattle.refusals.specs.Refusals.{refusalNumber, refusalCount, Outcome, given, refused, pass, Ruling, refuseIf, orElse, ruling}
+use Rattle.refusals.specs.Refusals.{refusalNumber, refusalCount, Outcome, given, refused, pass, Ruling, refuseIf, orElse, ruling, rulingOf, givenOr}
 
 listed : ℕ → List Refusal
 listed count = BrokenState ∷ ShortFile ∷ LinkCount ∷ CycleLength ∷ ShortRecord ∷ StrayBit ∷ AbsentWritten ∷ FrameCount ∷ RangeOutside ∷ ClosedOutside ∷ BytesFollow ∷ UnreadableCall ∷ RouteLength ∷ UnknownLink ∷ LinkTwice ∷ RatesApart ∷ NumberLive ∷ PlacesFull ∷ NoSchedule count ∷ NumberNotLive ∷ ShortBuffer ∷ []
@@ -44,7 +45,22 @@ back ShortBuffer = refl
 pub refusal-only : (a b : Refusal) → refusalNumber a ≡ refusalNumber b → refusalCount a ≡ refusalCount b → a ≡ b
 refusal-only a b e c = sym (back a) ∙ ap (λ (n : ℕ). numbered n (refusalCount a)) e ∙ ap (numbered (refusalNumber b)) c ∙ back b
 
+-- what is refused is not given
+pub not-given : {A : Type 0} (n : ℕ) (a : A) → refused n ≡ given a → ⊥
+not-given n a e = let z : _≡_ {A = ℕ} 0 1 = cc in omega arith
+
 -- a check that did not refuse, and what came after it
 pub past : {A : Type 0} (b : Bool) (n : ℕ) (next : Outcome A) (a : A) → orElse (refuseIf b n) next ≡ given a → (b ≡ false) × (next ≡ given a)
 past true n next a e = (cc, cc)
 past false n next a e = (refl, e)
+
+-- ---- what a ruling tells of the call
+pub refused-is : {A : Type 0} (o : Outcome A) (n : ℕ) → refused n ≡ rulingOf o → o ≡ refused n
+refused-is (given a) n e = cc
+refused-is (refused m) n e =
+    let q : n ≡ m = cc in
+    ap refused (sym q)
+
+pub given-is : {A : Type 0} (o : Outcome A) (a : A) → given pass ≡ rulingOf o → o ≡ given (givenOr a o)
+given-is (given x) a e = refl
+given-is (refused n) a e = cc

@@ -81,6 +81,16 @@ abbrev pub onGiven : {A B : Type 0} → Outcome A → (A → Outcome B) → Outc
 onGiven (given a) f = f a
 onGiven (refused n) f = refused n
 
+-- whether a call is refused, and with which number
+abbrev pub rulingOf : {A : Type 0} → Outcome A → Ruling
+rulingOf (given a) = given pass
+rulingOf (refused n) = refused n
+
+-- what a call gives, or else what stands in its place
+abbrev pub givenOr : {A : Type 0} → A → Outcome A → A
+givenOr a (given x) = x
+givenOr a (refused n) = a
+
 -- what the program's answer says in these words
 abbrev pub ruling : Verdict → Ruling
 ruling Passed = given pass

@@ -1,0 +1,12 @@
+-- The worked example of document 01 ("Network file"). Assumes nothing.
+use mathlib.Core.List.{List, [], _∷_}
+use Prim.Native.Nat.{ℕ}
+use Rattle.network.specs.Network.{Topology}
+
+-- "T = 48 with link 0 (16, 4) and link 1 (8, 2), none closed"
+unfoldable pub example : Topology
+example = record { ticks = 48; links = record { frames = 16; range = 4; closed = 0 } ∷ record { frames = 8; range = 2; closed = 0 } ∷ [] }
+
+-- "30 00 02 00 03 08 02"
+unfoldable pub exampleBytes : List ℕ
+exampleBytes = 48 ∷ 0 ∷ 2 ∷ 0 ∷ 3 ∷ 8 ∷ 2 ∷ []

@@ -1,0 +1,72 @@
+-- What a network file says: a network, or the refusal, 1, 2, 3, 4 to 9 for each record, then 10. Assumes nothing.
+use mathlib.Core.Path.{_≡_}
+use mathlib.Core.Bool.{not}
+use mathlib.Core.List.{List, [], _∷_}
+use Prim.Native.Nat.{ℕ, zero, suc}
+use lib.Dec.{eqb, ltb}
+use lib.ListN.{length, getD, drop}
+use Rattle.places.specs.Places.{firsts}
+use Rattle.refusals.specs.Refusals.{Outcome, given, refused, refuseIf, orElse, onGiven, refusalNumber, ruling, rulingOf}
+use Rattle.refusals.specs.declared.Refusal.{Refusal}
+use Rattle.refusals.specs.declared.Verdict.the-variants as verdict
+use Rattle.numbers.specs.Numbers.{numberIn}
+use Rattle.network.specs.Network.{Topology, noLink}
+use Rattle.network.specs.Checks.{badCount, badCycle, linkCheck}
+use Rattle.network.specs.declared.Link.{Link}
+use Rattle.network.specs.declared.Network.{Network}
+use Rattle.records.specs.Reading.{readRecord}
+use Rattle.network_file.specs.Fields.{linkLayout, linkOf}
+use Rattle.network_file.specs.declared.Loaded.{Loaded}
+use Rattle.network_file.specs.declared.LinkRecord.{LinkRecord}
+use Rattle.network_file.specs.declared.LinkRecord.the-variants.{Fields, Refused}
+
+-- a link, and the length of its record
+pub record Linked : Type 0 where
+  pub link : Link
+  pub used : ℕ
+
+-- "Each link record is read from the part of the file that starts at it": 4, 5, 6, then 7, 8, 9
+unfoldable pub readLink : ℕ → List ℕ → Outcome Linked
+readLink T s = onGiven (readRecord linkLayout s) (λ x. orElse (linkCheck T (linkOf (x .values))) (given (record { link = linkOf (x .values); used = x .used })))
+
+-- "then a record per link", all checks of one before the next; then 10: "Bytes follow the last record"
+unfoldable pub readLinks : ℕ → ℕ → List ℕ → Outcome (List Link)
+readLinks T zero s = orElse (refuseIf (not (eqb (length s) 0)) 10) (given [])
+readLinks T (suc n) s = onGiven (readLink T s) (λ x. onGiven (readLinks T n (drop (x .used) s)) (λ ls. given (x .link ∷ ls)))
+
+-- the network of some links
+abbrev pub within : ℕ → Outcome (List Link) → Outcome Topology
+within T o = onGiven o (λ ls. given (record { ticks = T; links = ls }))
+
+-- WHAT A FILE SAYS: "T in two bytes, low first; the number of links, one byte; then a record per link"
+unfoldable pub readNetwork : List ℕ → Outcome Topology
+readNetwork s =
+    let T = numberIn 2 s in
+    let count = getD s 2 0 in
+    orElse (refuseIf (ltb (length s) 3) 1)
+    (orElse (refuseIf (badCount count) 2)
+    (orElse (refuseIf (badCycle T) 3)
+    (within T (readLinks T count (drop 3 s)))))
+
+-- ---- what the program's answers say in these words
+-- the answer of a link record's reader
+abbrev pub linkRead : LinkRecord → Outcome Linked
+linkRead (Fields l used) = given (record { link = l; used = used })
+linkRead (Refused r) = refused (refusalNumber r)
+
+-- the values in which a network is stored: "unused hop and link places hold 0"
+abbrev pub stored : ℕ → List Link → Network
+stored T ls = record { ticks = T; count = length ls; links = firsts 32 ls noLink }
+
+-- those of what a file says; nothing where it is refused
+abbrev pub storedIn : Outcome Topology → Network
+storedIn (given t) = stored (t .ticks) (t .links)
+storedIn (refused n) = stored 0 []
+
+abbrev pub nothing : Refusal → Loaded
+nothing r = record { verdict = verdict.Refused r; network = stored 0 [] }
+
+-- the answer of the file's reader
+pub record Reads (o : Outcome Topology) (r : Loaded) : Type 0 where
+  pub verdict : ruling (r .verdict) ≡ rulingOf o
+  pub network : r .network ≡ storedIn o
