@@ -1,6 +1,6 @@
 -- Numbers as bytes, low byte first. Assumes nothing.
 use mathlib.Core.List.{List, [], _∷_}
-use Prim.Native.Nat.{ℕ, zero, suc, _+_, _*_, _/_, _%_}
+use Prim.Native.Nat.{ℕ, zero, suc, _+_, _*_, _/_, _%_, _<_}
 use lib.ListN.{getD, drop}
 
 -- the number that the first n bytes of a list say, "low first"; a byte past the end counts as 0
@@ -12,3 +12,7 @@ numberIn (suc n) l = getD l 0 0 + 256 * numberIn n (drop 1 l)
 unfoldable pub bytesOf : ℕ → ℕ → List ℕ
 bytesOf zero x = []
 bytesOf (suc n) x = x % 256 ∷ bytesOf n (x / 256)
+
+-- a list of bytes, as a file is
+abbrev pub IsBytes : List ℕ → Type 0
+IsBytes s = (i : ℕ) → getD s i 0 < 256

@@ -54,3 +54,8 @@ pub fits-at : (fs : List Field) (vs : List ℕ) → Fits fs vs → (j : ℕ) →
 fits-at [] [] fits-none j h = absurd (not-suc-le-zero h)
 fits-at (f ∷ fs) (v ∷ vs) (fits-more l r) zero h = l
 fits-at (f ∷ fs) (v ∷ vs) (fits-more l r) (suc j) h = fits-at fs vs r j (le-of-suc-le-suc h)
+
+-- as many values as fields
+pub length-fits : (fs : List Field) (vs : List ℕ) → Fits fs vs → length vs ≡ length fs
+length-fits [] [] fits-none = refl
+length-fits (f ∷ fs) (v ∷ vs) (fits-more l r) = ap suc (length-fits fs vs r)
