@@ -1,4 +1,6 @@
 pub mod Records
 pub mod Files
 pub mod Images
-pub mod OneFile
+pub mod Inverse
+pub mod RoundTrip
+pub mod Worked

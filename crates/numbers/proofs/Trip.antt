@@ -5,7 +5,7 @@ use mathlib.Core.List.{List, [], _∷_, _++_}
 use native.Mathlib.Omega.{arith}
 use lib.ListN.{length, getD, drop, take, length-drop}
 use lib.Seq.{getD-drop}
-use Rattle.numbers.specs.Numbers.{numberIn, bytesOf}
+use Rattle.numbers.specs.Numbers.{numberIn, bytesOf, IsBytes}
 use Rattle.numbers.proofs.Laws.{pow-step}
 
 pub number-bytes : (n x : ℕ) (q : List ℕ) → x < 2 ^ (8 * n) → numberIn n (bytesOf n x ++ q) ≡ x
@@ -29,3 +29,20 @@ bytes-number (suc n) (x ∷ l) b h =
 
 pub bytes-drop : (j : ℕ) (l : List ℕ) → ((i : ℕ) → getD l i 0 < 256) → (i : ℕ) → getD (drop j l) i 0 < 256
 bytes-drop j l b i = rw getD-drop (b (j + i))
+
+-- ---- lists of bytes
+pub bytes-cons : (x : ℕ) (l : List ℕ) → x < 256 → IsBytes l → IsBytes (x ∷ l)
+bytes-cons x l h b zero = h
+bytes-cons x l h b (suc i) = b i
+
+pub bytes-none : IsBytes []
+bytes-none i = omega arith
+
+pub bytes-append : (a l : List ℕ) → IsBytes a → IsBytes l → IsBytes (a ++ l)
+bytes-append [] l p q = q
+bytes-append (x ∷ a) l p q = bytes-cons x (a ++ l) (p 0) (bytes-append a l (λ i. p (suc i)) q)
+
+pub bytes-of : (n x : ℕ) → IsBytes (bytesOf n x)
+unfolding bytesOf
+bytes-of zero x = bytes-none
+bytes-of (suc n) x = bytes-cons (x % 256) (bytesOf n (x / 256)) (omega arith) (bytes-of n (x / 256))

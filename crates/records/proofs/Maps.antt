@@ -32,9 +32,9 @@ picked-bit : (w : Bool) (map k : ℕ) → map < 2 ^ 64 → k < 64 → (i : ℕ) 
 picked-bit true map k h l i = bit-with map k h l i
 picked-bit false map k h l i = sym (or-false (bitOf map i))
 
-picked-wide : (w : Bool) (map k : ℕ) → map < 2 ^ 64 → k < 64 → pick w (withBit map k) map < 2 ^ 64
-picked-wide true map k h l = with-lt 64 map k (omega arith) h l
-picked-wide false map k h l = h
+pub picked-lt : (m : ℕ) (w : Bool) (map k : ℕ) → m ≤ 64 → map < 2 ^ m → k < m → pick w (withBit map k) map < 2 ^ m
+picked-lt m true map k s h l = with-lt m map k s h l
+picked-lt m false map k s h l = h
 
 -- the bits of the map byte that is written
 pub bit-map : (fs : List Field) (map : ℕ) (vs : List ℕ) → isLayout fs ≡ true → map < 2 ^ 64 → (i : ℕ) → bitOf (mapWith fs map vs) i ≡ (bitOf map i || writtenAt fs vs i)
@@ -44,7 +44,7 @@ bit-map (f ∷ fs) map vs l h i =
     let p : Leads f fs = leads f fs l in
     let low : f .bit < 64 = omega (arith, p .low) in
     let w : Bool = isWritten f (getD vs 0 0) in
-    bit-map fs (pick w (withBit map (f .bit)) map) (drop 1 vs) (p .others) (picked-wide w map (f .bit) h low) i
+    bit-map fs (pick w (withBit map (f .bit)) map) (drop 1 vs) (p .others) (picked-lt 64 w map (f .bit) (omega arith) h low) i
     ∙ ap (λ (b : Bool). b || writtenAt fs (drop 1 vs) i) (picked-bit w map (f .bit) h low i)
     ∙ or-assoc (bitOf map i) (w && eqb i (f .bit)) (writtenAt fs (drop 1 vs) i)
 
@@ -84,7 +84,7 @@ agreed (f ∷ fs) map vs l h clear =
     let w : Bool = isWritten f (getD vs 0 0) in
     let map′ : ℕ = pick w (withBit map (f .bit)) map in
     let low : f .bit < 64 = omega (arith, p .low) in
-    let wide : map′ < 2 ^ 64 = picked-wide w map (f .bit) h low in
+    let wide : map′ < 2 ^ 64 = picked-lt 64 w map (f .bit) (omega arith) h low in
     let own : bitOf map (f .bit) ≡ false = clear (f .bit) (here f fs) in
     let head : bitOf (mapWith fs map′ (drop 1 vs)) (f .bit) ≡ w = bit-map fs map′ (drop 1 vs) (p .others) wide (f .bit) ∙ rw (picked-bit w map (f .bit) h low (f .bit), own, written-bit fs (drop 1 vs) (f .bit) (p .alone), eq-eqb (f .bit) (f .bit) refl) (end w) in
     agrees-more head (agreed fs map′ (drop 1 vs) (p .others) wide (λ i e. picked-bit w map (f .bit) h low i ∙ rw (clear i (there f fs i e), apart f fs i (p .alone) e) (none w)))
@@ -148,21 +148,27 @@ written-agrees (f ∷ fs) map vs (agrees-more e r) i = rw (← e, written-agrees
     go false eq b eb true ea = refl
     go false eq b eb false ea = refl
 
-map-wide : (fs : List Field) (map : ℕ) (vs : List ℕ) → isLayout fs ≡ true → map < 2 ^ 64 → mapWith fs map vs < 2 ^ 64
+map-lt : (m : ℕ) (fs : List Field) (map : ℕ) (vs : List ℕ) → 8 ≤ m → m ≤ 64 → isLayout fs ≡ true → map < 2 ^ m → mapWith fs map vs < 2 ^ m
 unfolding mapWith
-map-wide [] map vs l h = h
-map-wide (f ∷ fs) map vs l h =
-    let p : Leads f fs = leads f fs l in
+map-lt m [] map vs p s l h = h
+map-lt m (f ∷ fs) map vs p s l h =
+    let q : Leads f fs = leads f fs l in
     let w : Bool = isWritten f (getD vs 0 0) in
-    map-wide fs (pick w (withBit map (f .bit)) map) (drop 1 vs) (p .others) (picked-wide w map (f .bit) h (omega (arith, p .low)))
+    map-lt m fs (pick w (withBit map (f .bit)) map) (drop 1 vs) p s (q .others) (picked-lt m w map (f .bit) s h (omega (arith, q .low)))
+
+pub map-low : (fs : List Field) (map : ℕ) (vs : List ℕ) → isLayout fs ≡ true → map < 256 → mapWith fs map vs < 256
+map-low fs map vs l h = map-lt 8 fs map vs (omega arith) (omega arith) l h
+
+map-wide : (fs : List Field) (vs : List ℕ) → isLayout fs ≡ true → mapWith fs 0 vs < 2 ^ 64
+map-wide fs vs l = map-lt 64 fs 0 vs (omega arith) (omega arith) l (omega arith)
 
 -- the map byte that is written has no bit but those of fields
 pub map-own : (fs : List Field) (vs : List ℕ) → isLayout fs ≡ true → strayBits fs (mapWith fs 0 vs) ≡ 0
-map-own fs vs l = none-stray fs (mapWith fs 0 vs) (map-wide fs 0 vs l (omega arith)) (λ i e. bit-map fs 0 vs l (omega arith) i ∙ rw (bit-zero i, written-bit fs vs i e))
+map-own fs vs l = none-stray fs (mapWith fs 0 vs) (map-wide fs vs l) (λ i e. bit-map fs 0 vs l (omega arith) i ∙ rw (bit-zero i, written-bit fs vs i e))
 
 -- a map byte is what its fields are written with, where it agrees with them and has no other bit
 pub map-only : (fs : List Field) (map : ℕ) (vs : List ℕ) → isLayout fs ≡ true → map < 2 ^ 64 → strayBits fs map ≡ 0 → Agrees map fs vs → mapWith fs 0 vs ≡ map
-map-only fs map vs l h e a = word-ext 64 (mapWith fs 0 vs) map (map-wide fs 0 vs l (omega arith)) h (λ i k. bit-map fs 0 vs l (omega arith) i ∙ rw (bit-zero i) (written-agrees fs map vs a i ∙ go i (isBit fs i) refl))
+map-only fs map vs l h e a = word-ext 64 (mapWith fs 0 vs) map (map-wide fs vs l) h (λ i k. bit-map fs 0 vs l (omega arith) i ∙ rw (bit-zero i) (written-agrees fs map vs a i ∙ go i (isBit fs i) refl))
   where
     go : (i : ℕ) (b : Bool) → isBit fs i ≡ b → (bitOf map i && isBit fs i) ≡ bitOf map i
     go i true q = rw q (and-true (bitOf map i))

@@ -14,16 +14,16 @@ use Rattle.trellis.specs.Answer.{pick}
 use Rattle.trellis.proofs.Count.{or-false}
 use Rattle.refusals.specs.Refusals.{Outcome, given, refuseIf, orElse}
 use Rattle.refusals.proofs.Refusals.{past}
-use Rattle.numbers.specs.Numbers.{numberIn, bytesOf}
+use Rattle.numbers.specs.Numbers.{numberIn, bytesOf, IsBytes}
 use Rattle.numbers.proofs.Laws.{number-bound, length-bytes}
-use Rattle.numbers.proofs.Trip.{number-bytes, bytes-number, bytes-drop}
+use Rattle.numbers.proofs.Trip.{number-bytes, bytes-number, bytes-drop, bytes-cons, bytes-none, bytes-append, bytes-of}
 use Rattle.records.specs.Layout.{isLayout, stands, Fits, fits-none, fits-more}
 use Rattle.records.specs.Reading.{sizeIn, needed, valueIn, valuesIn, strayBits, restated, Said, readMapped, readRecord, saidIn}
 use Rattle.records.specs.Writing.{isWritten, mapWith, fieldOf, bodyOf, recordOf}
 use Rattle.records.specs.declared.Field.{Field}
 use Rattle.records.proofs.Layouts.{Leads, leads}
 use Rattle.records.proofs.Sizes.{size-some, size-none, needed-more, field-some, field-none, length-some, length-none, length-more}
-use Rattle.records.proofs.Maps.{Agrees, agrees-none, agrees-more, map-agrees, map-own, map-only}
+use Rattle.records.proofs.Maps.{Agrees, agrees-none, agrees-more, map-low, map-agrees, map-own, map-only}
 
 -- ---- written, then read
 -- a field takes the bytes that it is written in
@@ -175,3 +175,21 @@ record-only fs [] x l b e = absurd (let z : _≡_ {A = ℕ} 0 1 = cc in omega ar
 record-only fs (map ∷ t) x l b e =
     let p : (eqb (length (map ∷ t)) 0 ≡ false) × (readMapped fs map (map ∷ t) ≡ given x) = past (eqb (length (map ∷ t)) 0) 4 (readMapped fs map (map ∷ t)) x e in
     mapped-whole fs map t x l b (p .1)
+
+-- ---- the bytes of a record are bytes
+field-bytes : (f : Field) (v : ℕ) → IsBytes (fieldOf f v)
+unfolding fieldOf
+field-bytes f v = go (isWritten f v)
+  where
+    go : (b : Bool) → IsBytes (pick b (bytesOf (f .size) v) [])
+    go true = bytes-of (f .size) v
+    go false = bytes-none
+
+body-bytes : (fs : List Field) (vs : List ℕ) → IsBytes (bodyOf fs vs)
+unfolding bodyOf
+body-bytes [] vs = bytes-none
+body-bytes (f ∷ fs) vs = bytes-append (fieldOf f (getD vs 0 0)) (bodyOf fs (drop 1 vs)) (field-bytes f (getD vs 0 0)) (body-bytes fs (drop 1 vs))
+
+pub record-bytes : (fs : List Field) (vs : List ℕ) → isLayout fs ≡ true → IsBytes (recordOf fs vs)
+unfolding recordOf
+record-bytes fs vs l = bytes-cons (mapWith fs 0 vs) (bodyOf fs vs) (map-low fs 0 vs l (omega arith)) (body-bytes fs vs)

@@ -1,4 +1,4 @@
--- Each network has exactly one file: written, then read; and read, then written. Assumes nothing.
+-- Reading and writing undo each other: a link's record, the records of all links, the file. Assumes nothing.
 use mathlib.Core.Path.{_≡_, refl, sym, ap, ap₂, _∙_}
 use mathlib.Core.Bool.{Bool, true, false, not}
 use mathlib.Core.List.{List, [], _∷_, _++_, append-nil}
@@ -30,7 +30,6 @@ use Rattle.records.proofs.OneRecord.{Whole, record-back}
 use Rattle.network_file.specs.Fields.{linkLayout, valuesOf, linkOf}
 use Rattle.network_file.specs.Reading.{Linked, readLink, readLinks, within, readNetwork}
 use Rattle.network_file.specs.Writing.{linkBytes, linksBytes, imageOf}
-use Rattle.network_file.specs.OneFile.{OneFile}
 use Rattle.network_file.proofs.Records.{link-layout, link-said}
 use Rattle.network_file.proofs.Files.{Was, was, was-whole}
 
@@ -61,7 +60,7 @@ links-read T (l ∷ ls) e =
     let p : (linkCheck T l ≡ given pass) × (linksCheck T ls ≡ given pass) = links-good T l ls e in
     rw (link-reads T l (linksBytes ls) (p .0), drop-append-seam (linkBytes l) (linksBytes ls), links-read T ls (p .1))
 
-image-reads : (t : Topology) → networkCheck t ≡ given pass → readNetwork (imageOf t) ≡ given t
+pub image-reads : (t : Topology) → networkCheck t ≡ given pass → readNetwork (imageOf t) ≡ given t
 unfolding readNetwork imageOf bytesOf
 image-reads t e =
     let g = network-good t e in

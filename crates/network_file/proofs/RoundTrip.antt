@@ -1,0 +1,108 @@
+-- Each network has exactly one file, and the calls that read and write it agree. Assumes nothing.
+use mathlib.Core.Path.{_≡_, refl, sym, ap, subst, _∙_}
+use mathlib.Core.Bool.{Bool, false}
+use mathlib.Core.List.{List, [], _∷_, _++_}
+use Prim.Native.Nat.{ℕ, _≤_, _<_}
+use native.Mathlib.Omega.{arith}
+use borrow.Author.Tests.{le-ltb, ltb-false}
+use lib.Dec.{ltb}
+use lib.ListN.{length, drop, take}
+use lib.Seq.{take-at}
+use Rattle.places.specs.Places.{firsts}
+use Rattle.places.proofs.Firsts.{firsts-back}
+use Rattle.refusals.specs.Refusals.{Outcome, given, refused, pass, Ruling, refuseIf, orElse, refusalNumber, ruling, rulingOf, givenOr}
+use Rattle.refusals.specs.declared.Verdict.the-variants.{Passed}
+use Rattle.refusals.proofs.Refusals.{past, not-given, given-is}
+use Rattle.numbers.specs.Numbers.{bytesOf, IsBytes}
+use Rattle.numbers.proofs.Trip.{bytes-cons, bytes-none, bytes-append, bytes-of}
+use Rattle.network.specs.Network.{Topology, noLink, topologyOf}
+use Rattle.network.specs.Checks.{networkCheck}
+use Rattle.network.specs.declared.Link.{Link}
+use Rattle.network.specs.declared.Network.{Network}
+use Rattle.network.proofs.Tests.{count-passed}
+use Rattle.network.proofs.Checks.{network-good}
+use Rattle.records.proofs.OneRecord.{record-bytes}
+use Rattle.network_file.specs.Fields.{linkLayout, valuesOf}
+use Rattle.network_file.specs.Reading.{readNetwork, stored, storedIn, Reads}
+use Rattle.network_file.specs.Writing.{linkBytes, linksBytes, imageOf, writeNetwork, lengthRead, bufferAfter, Writes}
+use Rattle.network_file.specs.OneFile.{OneFile}
+use Rattle.network_file.specs.declared.Loaded.{Loaded}
+use Rattle.network_file.specs.declared.Written.{Written}
+use Rattle.network_file.specs.declared.Written.the-variants.{Length, Refused}
+use Rattle.network_file.proofs.Records.{link-layout}
+use Rattle.network_file.proofs.Inverse.{image-reads, Is, file-only}
+
+links-bytes : (ls : List Link) → IsBytes (linksBytes ls)
+unfolding linksBytes linkBytes
+links-bytes [] = bytes-none
+links-bytes (l ∷ ls) = bytes-append (linkBytes l) (linksBytes ls) (record-bytes linkLayout (valuesOf l) link-layout) (links-bytes ls)
+
+image-bytes : (t : Topology) → networkCheck t ≡ given pass → IsBytes (imageOf t)
+unfolding imageOf
+image-bytes t e =
+    let c = count-passed (length (t .links)) (network-good t e .count) in
+    bytes-append (bytesOf 2 (t .ticks)) (length (t .links) ∷ linksBytes (t .links)) (bytes-of 2 (t .ticks)) (bytes-cons (length (t .links)) (linksBytes (t .links)) (omega (arith, c .1)) (links-bytes (t .links)))
+
+-- EACH NETWORK THAT PASSES ITS CHECKS HAS EXACTLY ONE FILE
+pub one-file : (t : Topology) → networkCheck t ≡ given pass → OneFile t
+one-file t e = record { bytes = image-bytes t e; reads = image-reads t e; only = λ s b r. sym (file-only s t b r .image) }
+
+-- AND EVERY FILE THAT READS AS A NETWORK READS AS ONE THAT PASSES ITS CHECKS
+pub read-passes : (s : List ℕ) (t : Topology) → IsBytes s → readNetwork s ≡ given t → networkCheck t ≡ given pass
+read-passes s t b e = file-only s t b e .passed
+
+-- what is stored of a network that passed stands for it
+stored-back : (t : Topology) → networkCheck t ≡ given pass → topologyOf (stored (t .ticks) (t .links)) ≡ t
+unfolding topologyOf
+stored-back t e =
+    let c = count-passed (length (t .links)) (network-good t e .count) in
+    rw (firsts-back 32 (t .links) noLink (c .1))
+
+-- a write that was not refused
+record Done (t : Topology) (room size : ℕ) : Type 0 where
+  pub passed : networkCheck t ≡ given pass
+  pub enough : length (imageOf t) ≤ room
+  pub is : size ≡ length (imageOf t)
+
+done : (t : Topology) (room size : ℕ) → given size ≡ writeNetwork t room → Done t room size
+unfolding writeNetwork
+done t room size e = go (networkCheck t) refl (sym e)
+  where
+    go : (r : Ruling) → networkCheck t ≡ r → orElse r (orElse (refuseIf (ltb room (length (imageOf t))) 20) (given (length (imageOf t)))) ≡ given size → Done t room size
+    go (refused n) q f = absurd (not-given n size f)
+    go (given pass) q f =
+        let p : (ltb room (length (imageOf t)) ≡ false) × (given (length (imageOf t)) ≡ given size) = past (ltb room (length (imageOf t))) 20 (given (length (imageOf t))) size f in
+        record { passed = q; enough = ltb-false room (length (imageOf t)) (p .0); is = sym (ap (givenOr 0) (p .1)) }
+
+-- WRITTEN, THEN READ: whatever `write_network` wrote, `read_network` reads as that network
+pub written-reads : (n : Network) (before after : List ℕ) (size : ℕ) (r : Loaded) → Writes (topologyOf n) before after (Length size) → Reads (readNetwork (take size after)) r → (ruling (r .verdict) ≡ given pass) × (topologyOf (r .network) ≡ topologyOf n)
+written-reads n before after size r w d =
+    let t : Topology = topologyOf n in
+    let k : Done t (length before) size = done t (length before) size (w .answer) in
+    let a : after ≡ imageOf t ++ drop size before = w .buffer ∙ ap (λ (o : Outcome ℕ). bufferAfter t o before) (sym (w .answer)) in
+    let i : take size after ≡ imageOf t = ap (take size) a ∙ take-at (imageOf t) (drop size before) size (sym (k .is)) in
+    let e : readNetwork (take size after) ≡ given t = ap readNetwork i ∙ image-reads t (k .passed) in
+    (d .verdict ∙ ap rulingOf e, ap topologyOf (d .network ∙ ap storedIn e) ∙ stored-back t (k .passed))
+
+length-is : (w : Written) (n : ℕ) → lengthRead w ≡ given n → w ≡ Length n
+length-is (Length m) n e = ap Length (ap (givenOr 0) e)
+length-is (Refused r) n e = absurd (not-given (refusalNumber r) n e)
+
+passes : (t : Topology) (room : ℕ) → networkCheck t ≡ given pass → length (imageOf t) ≤ room → writeNetwork t room ≡ given (length (imageOf t))
+unfolding writeNetwork
+passes t room e h = rw (e, le-ltb room (length (imageOf t)) h)
+
+-- READ, THEN WRITTEN: whatever `read_network` reads as a network, `write_network` writes as that file
+pub read-writes : (file : List ℕ) (r : Loaded) (before after : List ℕ) (w : Written) → IsBytes file → Reads (readNetwork file) r → r .verdict ≡ Passed → length file ≤ length before → Writes (topologyOf (r .network)) before after w → (w ≡ Length (length file)) × (after ≡ file ++ drop (length file) before)
+read-writes file r before after w b d p room x =
+    let o : Outcome Topology = readNetwork file in
+    let nothing : Topology = record { ticks = 0; links = [] } in
+    let t : Topology = givenOr nothing o in
+    let e : o ≡ given t = given-is o nothing (sym (ap ruling p) ∙ d .verdict) in
+    let q : Is file t = file-only file t b e in
+    let same : topologyOf (r .network) ≡ t = ap topologyOf (d .network ∙ ap storedIn e) ∙ stored-back t (q .passed) in
+    let y : Writes t before after w = subst (λ (z : Topology). Writes z before after w) same x in
+    let fits : length (imageOf t) ≤ length before = omega (arith, ap length (q .image)) in
+    let g : writeNetwork t (length before) ≡ given (length (imageOf t)) = passes t (length before) (q .passed) fits in
+    let a : after ≡ imageOf t ++ drop (length (imageOf t)) before = y .buffer ∙ ap (λ (z : Outcome ℕ). bufferAfter t z before) g in
+    (length-is w (length file) (y .answer ∙ g ∙ ap given (ap length (q .image))), a ∙ ap (λ (z : List ℕ). z ++ drop (length z) before) (q .image))

@@ -1,0 +1,28 @@
+-- The worked example of document 01, computed by the rules. Assumes nothing.
+use mathlib.Core.Path.{_≡_, refl}
+use Rattle.refusals.specs.Refusals.{given, pass}
+use Rattle.numbers.specs.Numbers.{numberIn, bytesOf}
+use Rattle.words.specs.Word.{bitOf, wordOf, withBit, withoutBit}
+use Rattle.network.specs.Checks.{badCount, badCycle, badFrames, badRange, badClosed, linkCheck, linksCheck, networkCheck}
+use Rattle.records.specs.Layout.{stands}
+use Rattle.records.specs.Reading.{sizeIn, needed, valueIn, valuesIn, strayBits, restated, readMapped, readRecord}
+use Rattle.records.specs.Writing.{isWritten, mapWith, fieldOf, bodyOf, recordOf}
+use Rattle.network_file.specs.Fields.{linkLayout, valuesOf, linkOf}
+use Rattle.network_file.specs.Reading.{readLink, readLinks, readNetwork}
+use Rattle.network_file.specs.Writing.{linkBytes, linksBytes, imageOf}
+use Rattle.network_file.specs.Example.{example, exampleBytes}
+
+-- it passes its checks
+pub example-passes : networkCheck example ≡ given pass
+unfolding example networkCheck badCount badCycle linksCheck linkCheck badFrames badRange badClosed
+example-passes = refl
+
+-- THE FILE OF THE EXAMPLE IS 30 00 02 00 03 08 02
+pub example-image : imageOf example ≡ exampleBytes
+unfolding example exampleBytes imageOf bytesOf linksBytes linkBytes linkLayout valuesOf recordOf mapWith bodyOf fieldOf isWritten withBit wordOf bitOf
+example-image = refl
+
+-- AND READS AS IT
+pub example-reads : readNetwork exampleBytes ≡ given example
+unfolding example exampleBytes readNetwork numberIn badCount badCycle readLinks readLink readRecord readMapped needed sizeIn stands strayBits withoutBit wordOf bitOf restated valuesIn valueIn linkLayout linkOf linkCheck badFrames badRange badClosed
+example-reads = refl
