@@ -229,11 +229,11 @@ fn write_links(buffer: &mut [u8], links: [Link; 32], count: usize)
     ensures { λ _. ⌜ now (buffer .exit) ≡ putAt 3 (linksBytes (firsts count links noLink)) (now (buffer .entry)) ⌝ }
 {
     let mut at = 3;
-    let mut i = 0;
-    while i < count {
-        let link = links[i];
+    let mut placed = 0;
+    while placed < count {
+        let link = links[placed];
         at += write_link(&mut buffer[at..], link);
-        i += 1;
+        placed += 1;
     }
 }
 

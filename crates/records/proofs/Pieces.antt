@@ -1,11 +1,12 @@
 -- Writing: the turns of each loop over the fields, and the record that they make. Assumes nothing.
 use mathlib.Core.Path.{_≡_, refl, sym, ap, _∙_}
-use mathlib.Core.Bool.{Bool, true, false}
+use mathlib.Core.Bool.{Bool, true, false, not}
 use mathlib.Core.List.{List, [], _∷_, _++_, append-assoc, append-nil}
 use Prim.Native.Nat.{ℕ, zero, suc, _+_, _*_, _-_, _^_, _<_, _≤_}
 use native.Mathlib.Nat.{add-zero}
 use native.Mathlib.Omega.{arith}
 use borrow.Rule.Slice.PartMut.{putMid}
+use lib.Dec.{eqb}
 use lib.ListN.{length, getD, drop, take, set, length-append, length-set}
 use Rattle.trellis.specs.Answer.{pick}
 use Rattle.places.specs.Places.{firsts}
@@ -21,33 +22,38 @@ use Rattle.records.specs.Layout.{noField, Laid}
 use Rattle.records.specs.Writing.{isWritten, mapWith, fieldOf, bodyOf, recordOf}
 use Rattle.records.specs.declared.Field.{Field}
 use Rattle.records.proofs.Layouts.{laid-at}
-use Rattle.records.proofs.Sizes.{written, unwritten, field-some, field-none, length-some, length-none, length-small, body-none, body-more, length-more}
+use Rattle.records.proofs.Sizes.{field-some, field-none, length-some, length-none, length-small, body-none, body-more, length-more}
 
 -- ---- a field
-pub map-same : (map : ℕ) (f : Field) (v : ℕ) → v ≡ f .absent → map ≡ pick (isWritten f v) (withBit map (f .bit)) map
-map-same map f v h = rw (unwritten f v h)
+pub is-written : (f : Field) (v : ℕ) → not (eqb v (f .absent)) ≡ isWritten f v
+unfolding isWritten
+is-written f v = refl
 
-pub map-more : (map : ℕ) (f : Field) (v : ℕ) → (v ≡ f .absent → ⊥) → (r : ℕ) → r ≡ withBit map (f .bit) → r ≡ pick (isWritten f v) (withBit map (f .bit)) map
-map-more map f v h r e = rw (written f v h) e
+module _ (f : Field) (v : ℕ) (b : Bool) (eb : b ≡ isWritten f v) where
+  pub map-more : (map : ℕ) → b ≡ true → (r : ℕ) → r ≡ withBit map (f .bit) → r ≡ pick (isWritten f v) (withBit map (f .bit)) map
+  map-more map h r e = rw (← eb, h) e
 
-pub none-long : (f : Field) (v : ℕ) → v ≡ f .absent → 0 ≡ length (fieldOf f v)
-none-long f v h = sym (length-none f v (unwritten f v h))
+  pub map-same : (map : ℕ) → b ≡ false → map ≡ pick (isWritten f v) (withBit map (f .bit)) map
+  map-same map h = rw (← eb, h)
 
-pub some-long : (f : Field) (v : ℕ) → (v ≡ f .absent → ⊥) → f .size ≡ length (fieldOf f v)
-some-long f v h = sym (length-some f v (written f v h))
+  pub some-long : b ≡ true → f .size ≡ length (fieldOf f v)
+  some-long h = sym (length-some f v (sym eb ∙ h))
 
-module _ (d : List ℕ) (at : ℕ) (f : Field) (v : ℕ) where
-  pub none-put : v ≡ f .absent → (at ≡ at + length (fieldOf f v)) × (d ≡ putAt at (fieldOf f v) d)
-  none-put h = rw (field-none f v (unwritten f v h)) (sym (add-zero at), sym (put-nil at d))
+  pub none-long : b ≡ false → 0 ≡ length (fieldOf f v)
+  none-long h = sym (length-none f v (sym eb ∙ h))
 
-  module _ (h : v ≡ f .absent → ⊥) (room : at + length (fieldOf f v) ≤ length d) where
-    pub some-room : at + f .size ≤ length d
-    some-room = omega (arith, some-long f v h)
+  module _ (d : List ℕ) (at : ℕ) where
+    pub none-put : b ≡ false → (at ≡ at + length (fieldOf f v)) × (d ≡ putAt at (fieldOf f v) d)
+    none-put h = rw (field-none f v (sym eb ∙ h)) (sym (add-zero at), sym (put-nil at d))
 
-    pub some-put : (p : List ℕ) → p ≡ bytesOf (f .size) v ++ drop (f .size) (take (length d - at) (drop at d)) → (at + f .size ≡ at + length (fieldOf f v)) × (putMid at (length d - at) d p ≡ putAt at (fieldOf f v) d)
-    some-put p e =
-        let l : at ≤ length d = omega (arith, some-room) in
-        (ap (λ (k : ℕ). at + k) (some-long f v h), rw (field-some f v (written f v h)) (put-part at (bytesOf (f .size) v) d p l (e ∙ rw (length-bytes (f .size) v))))
+    module _ (h : b ≡ true) (room : at + length (fieldOf f v) ≤ length d) where
+      pub some-room : at + f .size ≤ length d
+      some-room = omega (arith, some-long h)
+
+      pub some-put : (p : List ℕ) → p ≡ bytesOf (f .size) v ++ drop (f .size) (take (length d - at) (drop at d)) → (at + f .size ≡ at + length (fieldOf f v)) × (putMid at (length d - at) d p ≡ putAt at (fieldOf f v) d)
+      some-put p e =
+          let l : at ≤ length d = omega (arith, some-room) in
+          (ap (λ (k : ℕ). at + k) (some-long h), rw (field-some f v (sym eb ∙ h)) (put-part at (bytesOf (f .size) v) d p l (e ∙ rw (length-bytes (f .size) v))))
 
 -- ---- the map byte
 module _ (fields : List Field) (n : ℕ) (values : List ℕ) where

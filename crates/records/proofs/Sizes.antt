@@ -4,8 +4,6 @@ use mathlib.Core.Bool.{Bool, true, false, not}
 use mathlib.Core.List.{List, [], _∷_, _++_}
 use Prim.Native.Nat.{ℕ, zero, suc, _+_, _*_, _<_, _≤_}
 use native.Mathlib.Omega.{arith}
-use borrow.Author.Tests.{eq-eqb, ne-eqb}
-use lib.Dec.{eqb}
 use lib.ListN.{length, getD, drop, length-append}
 use Rattle.trellis.specs.Answer.{pick}
 use Rattle.numbers.specs.Numbers.{bytesOf}
@@ -40,14 +38,6 @@ needed-none map = refl
 pub needed-more : (f : Field) (fs : List Field) (map : ℕ) → needed (f ∷ fs) map ≡ sizeIn map f + needed fs map
 unfolding needed
 needed-more f fs map = refl
-
-pub written : (f : Field) (v : ℕ) → (v ≡ f .absent → ⊥) → isWritten f v ≡ true
-unfolding isWritten
-written f v h = rw (ne-eqb v (f .absent))
-
-pub unwritten : (f : Field) (v : ℕ) → v ≡ f .absent → isWritten f v ≡ false
-unfolding isWritten
-unwritten f v h = rw (eq-eqb v (f .absent))
 
 pub field-some : (f : Field) (v : ℕ) → isWritten f v ≡ true → fieldOf f v ≡ bytesOf (f .size) v
 unfolding fieldOf

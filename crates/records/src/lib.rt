@@ -112,13 +112,13 @@ fn restated(map: u64, values: [u64; 8], fields: [Field; 8], n: usize) -> bool
     requires { ⌜ Laid fields n ⌝ }
     ensures { λ r. ⌜ r ≡ restated (firsts n fields noField) map (firsts n values 0) ⌝ }
 {
-    let mut j = 0;
-    while j < n {
-        let field = fields[j];
-        if is_restated(map, field, values[j]) {
+    let mut i = 0;
+    while i < n {
+        let field = fields[i];
+        if is_restated(map, field, values[i]) {
             return true;
         }
-        j += 1;
+        i += 1;
     }
     false
 }
@@ -143,10 +143,11 @@ pub fn read_record(rest: &[u8], fields: [Field; 8], n: usize) -> Record
     }
     let map = rest[0] as u64;
     let used = 1 + needed(map, fields, n);
+    let stray = stray_bits(map, fields, n);
     if rest.len() < used {
         return refused(Refusal::ShortRecord);
     }
-    if stray_bits(map, fields, n) != 0 {
+    if stray != 0 {
         return refused(Refusal::StrayBit);
     }
     let values = values_in(rest, map, fields, n);
@@ -160,15 +161,22 @@ pub fn read_record(rest: &[u8], fields: [Field; 8], n: usize) -> Record
     }
 }
 
+// Whether a field is written: one equal to its absent value never is.
+fn is_written(field: Field, value: u64) -> bool
+    ensures { λ r. ⌜ r ≡ isWritten field value ⌝ }
+{
+    value != field.absent
+}
+
 // A map byte with the bit of a field, where the field is written.
 fn map_with(map: u64, field: Field, value: u64) -> u64
     requires { ⌜ field .bit < 8 ⌝ }
     ensures { λ r. ⌜ r ≡ pick (isWritten field value) (withBit map (field .bit)) map ⌝ }
 {
-    if value == field.absent {
-        return map;
+    if is_written(field, value) {
+        return words::set_bit(map, field.bit);
     }
-    words::set_bit(map, field.bit)
+    map
 }
 
 // The map byte of a record.
@@ -190,7 +198,11 @@ fn map_of(values: [u64; 8], fields: [Field; 8], n: usize) -> u64
 fn field_length(field: Field, value: u64) -> usize
     ensures { λ r. ⌜ r ≡ length (fieldOf field value) ⌝ }
 {
-    if value == field.absent { 0 } else { field.size }
+    if is_written(field, value) {
+        field.size
+    } else {
+        0
+    }
 }
 
 // The length of a record.
@@ -213,11 +225,11 @@ fn put_field(buffer: &mut [u8], at: usize, field: Field, value: u64) -> usize
     requires { ⌜ at + length (fieldOf field value) ≤ length (now buffer) ⌝ }
     ensures { λ r. ⌜ (r ≡ at + length (fieldOf field value)) × (now (buffer .exit) ≡ putAt at (fieldOf field value) (now (buffer .entry))) ⌝ }
 {
-    if value == field.absent {
-        return at;
+    if is_written(field, value) {
+        numbers::write_number(&mut buffer[at..], field.size, value);
+        return at + field.size;
     }
-    numbers::write_number(&mut buffer[at..], field.size, value);
-    at + field.size
+    at
 }
 
 // The fields of a record from place 1 of a buffer on, and the place after them.
