@@ -1,23 +1,22 @@
 -- The checks one after the other: what each says where those before it passed, and what a check that passed shows. Assumes nothing.
-use mathlib.Core.Path.{_≡_, refl, sym, ap, _∙_}
+use mathlib.Core.Path.{_≡_, refl, sym, _∙_}
 use mathlib.Core.Bool.{Bool, true, false}
-use mathlib.Core.List.{List, [], _∷_}
+use mathlib.Core.List.{List, _∷_}
 use Prim.Native.Nat.{ℕ, _+_, _<_, _≤_}
 use native.Mathlib.Omega.{arith}
 use lib.ListN.{length, getD, drop}
 use Rattle.places.specs.Places.{firsts}
 use Rattle.places.proofs.Firsts.{length-firsts, next-first, no-first}
-use Rattle.refusals.specs.Refusals.{Ruling, given, refused, pass, Pass, refuseIf, orElse, ruling, refusalNumber}
-use Rattle.refusals.specs.declared.Refusal.{Refusal}
+use Rattle.refusals.specs.Refusals.{Ruling, given, refused, pass, refuseIf, orElse, ruling, refusalNumber}
 use Rattle.refusals.specs.declared.Verdict.{Verdict}
 use Rattle.refusals.specs.declared.Verdict.the-variants.{Passed, Refused}
+use Rattle.refusals.specs.declared.Refusal.{Refusal}
 use Rattle.refusals.proofs.Refusals.{past}
 use Rattle.network.specs.Network.{Topology, noLink, topologyOf}
+use Rattle.network.specs.declared.Network.{Network}
 use Rattle.network.specs.Checks.{badCount, badCycle, badFrames, badRange, badClosed, linkCheck, linksCheck, networkCheck}
 use Rattle.network.specs.declared.Link.{Link}
-use Rattle.network.specs.declared.Network.{Network}
-use Rattle.network.proofs.Tests.{frames-passed, range-passed, count-passed, cycle-passed}
-use Rattle.network.proofs.Closed.{closed-below}
+use Rattle.network.proofs.Tests.{frames-passed, range-passed, count-passed}
 
 module _ (T : ℕ) (l : Link) (b : Bool) (eb : b ≡ badFrames T (l .frames)) where
   pub frames-refused : b ≡ true → _≡_ {A = Ruling} (refused 7) (linkCheck T l)

@@ -1,12 +1,12 @@
 -- Check 9 in the words of frames: it passes exactly where no closed bit stands at K or above. Assumes nothing.
 use mathlib.Core.Path.{_≡_}
-use mathlib.Core.Bool.{false, not}
+use mathlib.Core.Bool.{false}
 use Prim.Native.Nat.{ℕ, _*_, _+_, _/_, _%_, _^_, _<_, _≤_}
-use native.Mathlib.Nat.{mod-lt, div-eq-of-lt, div-add-mod'}
 use native.Mathlib.Omega.{arith}
+use native.Mathlib.Nat.{mod-lt, div-eq-of-lt, div-add-mod'}
 use borrow.Author.Tests.{eq-eqb, eqb-true, not-false}
-use lib.Dec.{eqb}
 use lib.Pow.{pow-pos}
+use lib.Dec.{eqb}
 use Rattle.words.specs.Word.{bitOf}
 use Rattle.words.proofs.Bits.{bit-high}
 use Rattle.words.proofs.Words.{word-below}

@@ -2,8 +2,8 @@
 use mathlib.Core.Bool.{Bool, not, _||_}
 use mathlib.Core.List.{List, [], _∷_}
 use Prim.Native.Nat.{ℕ, _/_, _%_, _^_}
-use lib.Dec.{eqb, ltb}
 use lib.ListN.{length}
+use lib.Dec.{eqb, ltb}
 use Rattle.refusals.specs.Refusals.{Ruling, given, pass, refuseIf, orElse}
 use Rattle.network.specs.Network.{Topology}
 use Rattle.network.specs.declared.Link.{Link}

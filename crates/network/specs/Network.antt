@@ -2,8 +2,8 @@
 use mathlib.Core.List.{List}
 use Prim.Native.Nat.{ℕ}
 use Rattle.places.specs.Places.{firsts}
-use Rattle.network.specs.declared.Link.{Link}
 use Rattle.network.specs.declared.Network.{Network}
+use Rattle.network.specs.declared.Link.{Link}
 
 -- a network ("Network"): "a cycle of T ticks" and its links "numbered from 0"
 pub record Topology : Type 0 where

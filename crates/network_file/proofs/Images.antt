@@ -1,35 +1,34 @@
 -- Writing a file: its links one after the other, and the whole. Assumes nothing.
 use mathlib.Core.Path.{_≡_, refl, sym, ap, _∙_}
 use mathlib.Core.List.{List, [], _∷_, _++_, append-assoc, append-nil}
-use Prim.Native.Nat.{ℕ, zero, suc, _+_, _*_, _-_, _<_, _≤_}
+use Prim.Native.Nat.{ℕ, _+_, _*_, _-_, _<_, _≤_}
 use native.Mathlib.Omega.{arith}
-use borrow.Author.Tests.{lt-ltb, le-ltb}
 use borrow.Rule.Slice.PartMut.{putMid}
+use borrow.Author.Tests.{lt-ltb, le-ltb}
 use lib.ListN.{length, getD, drop, take, set, length-append, length-drop}
 use Rattle.places.specs.Places.{firsts}
 use Rattle.places.specs.Put.{putAt}
-use Rattle.places.proofs.Firsts.{length-firsts, next-first, no-first}
-use Rattle.places.proofs.Parts.{part-rest}
 use Rattle.places.proofs.Puts.{Grown, grow, grow-part, grown-none, put-length, put-set, put-zero}
-use Rattle.refusals.specs.Refusals.{Outcome, given, refused, pass, Ruling, orElse, refusalNumber, ruling}
-use Rattle.refusals.specs.declared.Refusal.{Refusal}
+use Rattle.places.proofs.Parts.{part-rest}
+use Rattle.places.proofs.Firsts.{length-firsts, next-first, no-first}
 use Rattle.refusals.specs.declared.Verdict.{Verdict}
 use Rattle.refusals.specs.declared.Verdict.the-variants as verdicts
+use Rattle.refusals.specs.Refusals.{given, refused, pass, refusalNumber, ruling}
+use Rattle.refusals.specs.declared.Refusal.{Refusal}
 use Rattle.numbers.specs.Numbers.{bytesOf}
 use Rattle.numbers.proofs.Laws.{length-bytes}
-use Rattle.network.specs.Network.{Topology, noLink, topologyOf}
-use Rattle.network.specs.Checks.{networkCheck}
+use Rattle.network.specs.Network.{noLink, topologyOf}
 use Rattle.network.specs.declared.Link.{Link}
 use Rattle.network.specs.declared.Network.{Network}
+use Rattle.network.specs.Checks.{networkCheck}
 use Rattle.network.proofs.Tests.{count-passed}
 use Rattle.network.proofs.Checks.{network-good}
 use Rattle.records.specs.Layout.{noField}
-use Rattle.records.specs.Writing.{recordOf}
 use Rattle.records.specs.declared.Field.{Field}
+use Rattle.records.specs.Writing.{recordOf}
+use Rattle.network_file.specs.declared.Written.the-variants.{Length, Refused}
 use Rattle.network_file.specs.Fields.{linkLayout, valuesOf}
 use Rattle.network_file.specs.Writing.{linkBytes, linksBytes, imageOf, writeNetwork, Writable, Writes}
-use Rattle.network_file.specs.declared.Written.{Written}
-use Rattle.network_file.specs.declared.Written.the-variants.{Length, Refused}
 use Rattle.network_file.proofs.Records.{layout-back, values-back}
 
 -- ---- a link's record

@@ -1,27 +1,27 @@
 -- A link record: its layout, its values, and the cases of reading it. Assumes nothing.
 use mathlib.Core.Path.{_≡_, refl, sym, ap, _∙_}
 use mathlib.Core.Bool.{true}
-use mathlib.Core.List.{List, [], _∷_}
-use Prim.Native.Nat.{ℕ, _+_, _*_, _^_, _<_, _≤_}
+use mathlib.Core.List.{List, []}
+use Prim.Native.Nat.{ℕ, _<_}
 use native.Mathlib.Omega.{arith}
-use lib.ListN.{length, getD}
+use lib.ListN.{getD}
 use Rattle.places.specs.Places.{firsts}
 use Rattle.places.proofs.Firsts.{getD-firsts}
-use Rattle.refusals.specs.Refusals.{Outcome, given, refused, pass, Ruling, orElse, onGiven, refusalNumber, ruling, rulingOf}
-use Rattle.refusals.specs.declared.Refusal.{Refusal}
+use Rattle.refusals.specs.Refusals.{Outcome, given, refused, orElse, refusalNumber, ruling}
 use Rattle.refusals.specs.declared.Verdict.{Verdict}
 use Rattle.refusals.specs.declared.Verdict.the-variants.{Passed, Refused}
+use Rattle.refusals.specs.declared.Refusal.{Refusal}
 use Rattle.refusals.proofs.Refusals.{refused-is, given-is}
-use Rattle.network.specs.Checks.{linkCheck}
 use Rattle.network.specs.declared.Link.{Link}
-use Rattle.records.specs.Layout.{noField, isBit, isLayout, Laid, Fits}
-use Rattle.records.specs.Reading.{Said, readRecord, saidIn, Told}
-use Rattle.records.specs.declared.Field.{Field}
+use Rattle.network.specs.Checks.{linkCheck}
 use Rattle.records.specs.declared.Record.{Record}
+use Rattle.records.specs.declared.Field.{Field}
+use Rattle.records.specs.Reading.{Said, readRecord, saidIn, Told}
+use Rattle.records.specs.Layout.{noField, isBit, isLayout, Laid, Fits}
 use Rattle.records.proofs.Layouts.{fits-at}
 use Rattle.records.proofs.OneRecord.{Whole, record-only}
 use Rattle.network_file.specs.Fields.{linkLayout, valuesOf, linkOf}
-use Rattle.network_file.specs.Reading.{Linked, readLink}
+use Rattle.network_file.specs.Reading.{readLink}
 
 pub link-layout : isLayout linkLayout ≡ true
 unfolding isLayout isBit linkLayout

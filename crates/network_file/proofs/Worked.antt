@@ -4,13 +4,13 @@ use Rattle.refusals.specs.Refusals.{given, pass}
 use Rattle.numbers.specs.Numbers.{numberIn, bytesOf}
 use Rattle.words.specs.Word.{bitOf, wordOf, withBit, withoutBit}
 use Rattle.network.specs.Checks.{badCount, badCycle, badFrames, badRange, badClosed, linkCheck, linksCheck, networkCheck}
-use Rattle.records.specs.Layout.{stands}
-use Rattle.records.specs.Reading.{sizeIn, needed, valueIn, valuesIn, strayBits, restated, readMapped, readRecord}
 use Rattle.records.specs.Writing.{isWritten, mapWith, fieldOf, bodyOf, recordOf}
-use Rattle.network_file.specs.Fields.{linkLayout, valuesOf, linkOf}
-use Rattle.network_file.specs.Reading.{readLink, readLinks, readNetwork}
-use Rattle.network_file.specs.Writing.{linkBytes, linksBytes, imageOf}
+use Rattle.records.specs.Reading.{sizeIn, needed, valueIn, valuesIn, strayBits, restated, readMapped, readRecord}
+use Rattle.records.specs.Layout.{stands}
 use Rattle.network_file.specs.Example.{example, exampleBytes}
+use Rattle.network_file.specs.Reading.{readLink, readLinks, readNetwork}
+use Rattle.network_file.specs.Fields.{linkLayout, valuesOf, linkOf}
+use Rattle.network_file.specs.Writing.{linkBytes, linksBytes, imageOf}
 
 -- it passes its checks
 pub example-passes : networkCheck example ≡ given pass

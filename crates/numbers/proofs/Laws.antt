@@ -1,13 +1,12 @@
 -- Laws of `numberIn` and `bytesOf`. Assumes nothing.
-use Prim.Native.Nat.{ℕ, zero, suc, _+_, _*_, _/_, _%_, _^_, _-_, _≤_, _<_}
-use mathlib.Core.Path.{_≡_, refl, sym, ap, _∙_}
-use mathlib.Core.List.{List, [], _∷_, _++_, append-assoc}
-use native.Mathlib.Omega.{arith}
+use mathlib.Core.Path.{_≡_, refl, ap}
+use mathlib.Core.List.{List, [], _∷_}
+use Prim.Native.Nat.{ℕ, zero, suc, _+_, _*_, _/_, _%_, _^_, _<_}
 use native.Mathlib.Nat.{add-zero, mul-suc}
-use native.Mathlib.Numerals.{add-one}
+use native.Mathlib.Omega.{arith}
+use lib.ListN.{length, getD, drop}
+use lib.Seq.{getD-drop, drop-drop}
 use lib.Pow.{pow-add}
-use lib.ListN.{length, getD, drop, take, length-drop}
-use lib.Seq.{getD-drop, drop-drop, take-all}
 use Rattle.numbers.specs.Numbers.{numberIn, bytesOf}
 
 pub number-step : (n : ℕ) (l : List ℕ) (j : ℕ) → numberIn (suc n) (drop j l) ≡ getD l j 0 + 256 * numberIn n (drop (j + 1) l)

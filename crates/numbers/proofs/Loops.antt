@@ -1,13 +1,13 @@
 -- A turn of each loop of this crate, over plain values.
-use Prim.Native.Nat.{ℕ, zero, suc, _+_, _-_, _*_, _/_, _%_, _^_, _≤_, _<_}
 use mathlib.Core.Path.{_≡_, refl, sym, ap, _∙_}
-use mathlib.Core.List.{List, [], _∷_, _++_, append-assoc, append-nil}
-use native.Mathlib.Omega.{arith}
-use native.Mathlib.Nat.{sub-self, sub-zero, le-refl, lt-of-lt-of-le}
+use mathlib.Core.List.{List, _++_, append-assoc, append-nil}
+use Prim.Native.Nat.{ℕ, suc, _+_, _-_, _*_, _/_, _%_, _^_, _≤_, _<_}
 use native.Mathlib.Numerals.{add-one}
-use lib.Pow.{pow-mono}
+use native.Mathlib.Nat.{sub-self, sub-zero, le-refl, lt-of-lt-of-le}
+use native.Mathlib.Omega.{arith}
 use lib.ListN.{length, getD, drop, take, set, length-set, take-append-drop}
-use lib.Seq.{drop-cons, take-suc-set, drop-set-lt, drop-drop}
+use lib.Seq.{take-suc-set, drop-set-lt, drop-drop}
+use lib.Pow.{pow-mono}
 use Rattle.numbers.specs.Numbers.{numberIn, bytesOf}
 use Rattle.numbers.proofs.Laws.{number-step, number-none, pow-step, bytes-step, bytes-none}
 

@@ -1,10 +1,10 @@
 -- Bytes and numbers, there and back.
-use Prim.Native.Nat.{ℕ, zero, suc, _+_, _*_, _/_, _%_, _^_, _-_, _≤_, _<_}
-use mathlib.Core.Path.{_≡_, refl, sym, ap, _∙_}
+use mathlib.Core.Path.{_≡_, refl}
 use mathlib.Core.List.{List, [], _∷_, _++_}
+use Prim.Native.Nat.{ℕ, zero, suc, _+_, _*_, _/_, _%_, _^_, _≤_, _<_}
 use native.Mathlib.Omega.{arith}
-use lib.ListN.{length, getD, drop, take, length-drop}
 use lib.Seq.{getD-drop}
+use lib.ListN.{length, getD, drop, take}
 use Rattle.numbers.specs.Numbers.{numberIn, bytesOf, IsBytes}
 use Rattle.numbers.proofs.Laws.{pow-step}
 

@@ -1,19 +1,18 @@
 -- The cases of reading a record, in the order of the refusal list. Assumes nothing.
-use mathlib.Core.Path.{_≡_, refl, sym, ap, _∙_}
-use mathlib.Core.Bool.{Bool, true, false, not}
+use mathlib.Core.Path.{_≡_, refl, ap, _∙_}
+use mathlib.Core.Bool.{Bool, true, false}
 use mathlib.Core.List.{List, [], _∷_}
-use Prim.Native.Nat.{ℕ, zero, suc, _+_, _<_, _≤_}
+use Prim.Native.Nat.{ℕ, suc, _+_, _<_, _≤_}
 use native.Mathlib.Omega.{arith}
 use borrow.Author.Tests.{lt-ltb, le-ltb, eq-eqb, ne-eqb}
-use lib.Dec.{eqb, ltb}
 use lib.ListN.{length, getD, drop}
 use Rattle.places.specs.Places.{firsts}
 use Rattle.places.proofs.Firsts.{length-firsts, firsts-back}
-use Rattle.refusals.specs.Refusals.{Outcome, given, refused, refuseIf, orElse, refusalNumber}
-use Rattle.refusals.specs.declared.Refusal.{Refusal}
 use Rattle.refusals.specs.declared.Verdict.the-variants.{Passed, Refused}
+use Rattle.refusals.specs.declared.Refusal.{Refusal}
+use Rattle.refusals.specs.Refusals.{Outcome, refused, refusalNumber}
 use Rattle.records.specs.Layout.{noField, Laid}
-use Rattle.records.specs.Reading.{sizeIn, needed, valueIn, valuesIn, strayBits, restated, Said, readMapped, readRecord, noRecord, Told}
+use Rattle.records.specs.Reading.{sizeIn, needed, valuesIn, strayBits, restated, Said, readMapped, readRecord, noRecord, Told}
 use Rattle.records.specs.declared.Field.{Field}
 use Rattle.records.specs.declared.Record.{Record}
 

@@ -1,19 +1,17 @@
 -- The bytes that fields take: laws of `sizeIn`, `needed`, `fieldOf` and `bodyOf`. Assumes nothing.
-use mathlib.Core.Path.{_≡_, refl, sym, ap, _∙_}
-use mathlib.Core.Bool.{Bool, true, false, not}
+use mathlib.Core.Path.{_≡_, refl, ap, _∙_}
+use mathlib.Core.Bool.{Bool, true, false}
 use mathlib.Core.List.{List, [], _∷_, _++_}
-use Prim.Native.Nat.{ℕ, zero, suc, _+_, _*_, _<_, _≤_}
+use Prim.Native.Nat.{ℕ, _+_, _≤_}
 use native.Mathlib.Omega.{arith}
-use lib.ListN.{length, getD, drop, length-append}
+use lib.ListN.{length, length-append}
 use Rattle.trellis.specs.Answer.{pick}
 use Rattle.numbers.specs.Numbers.{bytesOf}
 use Rattle.numbers.proofs.Laws.{length-bytes}
-use Rattle.words.specs.Word.{bitOf}
-use Rattle.records.specs.Layout.{isLayout, stands}
-use Rattle.records.specs.Reading.{sizeIn, needed}
+use Rattle.records.specs.Layout.{stands}
 use Rattle.records.specs.Writing.{isWritten, fieldOf, bodyOf}
 use Rattle.records.specs.declared.Field.{Field}
-use Rattle.records.proofs.Layouts.{leads}
+use Rattle.records.specs.Reading.{sizeIn, needed}
 
 pub size-some : (map : ℕ) (f : Field) → stands map f ≡ true → sizeIn map f ≡ f .size
 unfolding sizeIn

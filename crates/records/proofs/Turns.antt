@@ -1,28 +1,22 @@
 -- Reading: the turns of each loop over the fields, and the cases of a record. Assumes nothing.
 use mathlib.Core.Path.{_≡_, refl, sym, ap, _∙_}
-use mathlib.Core.Bool.{Bool, true, false, not, _&&_, _||_}
+use mathlib.Core.Bool.{Bool, true, false, _&&_, _||_}
 use mathlib.Core.List.{List, [], _∷_, _++_, append-assoc, append-nil}
-use Prim.Native.Nat.{ℕ, zero, suc, _+_, _*_, _-_, _<_, _≤_}
+use Prim.Native.Nat.{ℕ, _+_, _*_, _-_, _<_, _≤_}
 use native.Mathlib.Omega.{arith}
-use borrow.Author.Tests.{lt-ltb, le-ltb, eq-eqb, ne-eqb}
-use lib.Dec.{eqb, ltb}
-use lib.ListN.{length, getD, drop, take, set, length-append, length-drop}
+use lib.Dec.{eqb}
 use lib.Seq.{drop-drop}
-use Rattle.trellis.specs.Answer.{pick}
+use lib.ListN.{length, getD, drop, take, set, length-append, length-drop}
 use Rattle.places.specs.Places.{firsts}
-use Rattle.places.proofs.Firsts.{length-firsts, next-first, no-first, firsts-more, firsts-back}
 use Rattle.places.proofs.Parts.{part-rest}
-use Rattle.refusals.specs.Refusals.{Outcome, given, refused, refuseIf, orElse, refusalNumber}
-use Rattle.refusals.specs.declared.Refusal.{Refusal}
-use Rattle.refusals.specs.declared.Verdict.the-variants.{Passed}
+use Rattle.places.proofs.Firsts.{next-first, no-first, firsts-more}
 use Rattle.numbers.specs.Numbers.{numberIn}
 use Rattle.words.specs.Word.{bitOf, withoutBit}
-use Rattle.records.specs.Layout.{noField, Laid, stands}
-use Rattle.records.specs.Reading.{sizeIn, needed, valueIn, valuesIn, strayBits, restated, Said, readMapped, readRecord, saidIn, noRecord, Told}
 use Rattle.records.specs.declared.Field.{Field}
-use Rattle.records.specs.declared.Record.{Record}
-use Rattle.records.proofs.Layouts.{laid-at}
+use Rattle.records.specs.Reading.{sizeIn, needed, valueIn, valuesIn, strayBits, restated}
+use Rattle.records.specs.Layout.{noField, Laid, stands}
 use Rattle.records.proofs.Sizes.{size-small, needed-none, needed-more}
+use Rattle.records.proofs.Layouts.{laid-at}
 
 -- ---- a field
 pub size-here : (map : ℕ) (f : Field) (b : Bool) → b ≡ bitOf map (f .bit) → b ≡ true → f .size ≡ sizeIn map f

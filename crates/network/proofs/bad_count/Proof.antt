@@ -1,14 +1,11 @@
-use Rattle.network.proofs.Tests.{no-links, some-links}
-use Rattle.network.proofs.bad_count.Statement.{statement}
+-- `network::bad_count` meets its contract. Assumes nothing.
 use Rattle.network.proofs.bad_count.Tie as tie
-use Rattle.network.proofs.bad_count.Reads as reads
-use Rattle.network.proofs.bad_count.Lts as lts
+use Rattle.network.proofs.bad_count.Statement.{statement}
+use Rattle.network.proofs.Tests.{no-links, some-links}
 
--- src/lib.rt:26:1
 returns : tie.Need-returns
 returns c = no-links _ (c .if1 .taken)
 
--- src/lib.rt:26:1
 returns-2 : tie.Need-returns-2
 returns-2 c = some-links _ (c .if1 .left)
 

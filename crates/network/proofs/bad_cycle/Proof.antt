@@ -1,14 +1,11 @@
+-- `network::bad_cycle` meets its contract. Assumes nothing.
+use Rattle.network.proofs.bad_cycle.Tie as tie
 use Rattle.network.proofs.Tests.{no-ticks, some-ticks}
 use Rattle.network.proofs.bad_cycle.Statement.{statement}
-use Rattle.network.proofs.bad_cycle.Tie as tie
-use Rattle.network.proofs.bad_cycle.Reads as reads
-use Rattle.network.proofs.bad_cycle.Lts as lts
 
--- src/lib.rt:33:1
 returns : tie.Need-returns
 returns c = no-ticks _ (c .if1 .taken)
 
--- src/lib.rt:33:1
 returns-2 : tie.Need-returns-2
 returns-2 c = some-ticks _ (c .if1 .left)
 

@@ -1,14 +1,11 @@
+-- `network::bad_range` meets its contract. Assumes nothing.
 use Rattle.network.proofs.Tests.{no-range, some-range}
 use Rattle.network.proofs.bad_range.Statement.{statement}
 use Rattle.network.proofs.bad_range.Tie as tie
-use Rattle.network.proofs.bad_range.Reads as reads
-use Rattle.network.proofs.bad_range.Lts as lts
 
--- src/lib.rt:50:1
 returns : tie.Need-returns
 returns c = no-range _ _ (c .if1 .taken)
 
--- src/lib.rt:50:1
 returns-2 : tie.Need-returns-2
 returns-2 c = some-range _ _ (c .if1 .left)
 

@@ -1,38 +1,27 @@
-use Rattle.network.proofs.Checks.{frames-refused, frames-few, range-refused, closed-refused, link-passes}
+-- `network::check_link` meets its contract. Assumes nothing.
 use borrow.Author.Needs.{needs}
+use Rattle.network.proofs.Checks.{frames-refused, frames-few, range-refused, closed-refused, link-passes}
 use Rattle.network.proofs.check_link.Statement.{statement}
 use Rattle.network.proofs.check_link.Tie as tie
-use Rattle.network.proofs.check_link.Reads as reads
-use Rattle.network.proofs.check_link.Lts as lts
-use Rattle.network.proofs.bad_closed.Reads as bad-closed-reads
-use Rattle.network.proofs.bad_frames.Reads as bad-frames-reads
-use Rattle.network.proofs.bad_range.Reads as bad-range-reads
 
--- src/lib.rt:68:8
 bad-frames-requires : tie.Need-bad-frames-requires
 bad-frames-requires c κs = search needs
 
--- src/lib.rt:69:9
 returns : tie.Need-returns
 returns c = frames-refused _ _ _ (c .before .bad-frames .ensures) (c .if1 .taken)
 
--- src/lib.rt:71:8
 bad-range-requires : tie.Need-bad-range-requires
 bad-range-requires c κs = search needs
 
--- src/lib.rt:72:9
 returns-2 : tie.Need-returns-2
 returns-2 c = range-refused _ _ _ (c .before .before .before .bad-frames .ensures) (c .before .before .if1 .left) _ (c .before .bad-range .ensures) (c .if2 .taken)
 
--- src/lib.rt:74:8
 bad-closed-requires : tie.Need-bad-closed-requires
 bad-closed-requires c κs = frames-few _ (c .before .before .before .before .args .link) _ (c .before .before .before .bad-frames .ensures) (c .before .before .if1 .left)
 
--- src/lib.rt:75:9
 returns-3 : tie.Need-returns-3
 returns-3 c = closed-refused _ _ _ (c .before .before .before .before .before .bad-frames .ensures) (c .before .before .before .before .if1 .left) _ (c .before .before .before .bad-range .ensures) (c .before .before .if2 .left) _ (c .before .bad-closed .ensures) (c .if3 .taken)
 
--- src/lib.rt:65:1
 returns-4 : tie.Need-returns-4
 returns-4 c = link-passes _ _ _ (c .before .before .before .before .before .bad-frames .ensures) (c .before .before .before .before .if1 .left) _ (c .before .before .before .bad-range .ensures) (c .before .before .if2 .left) _ (c .before .bad-closed .ensures) (c .if3 .left)
 

@@ -1,12 +1,9 @@
 -- `network::check_links` meets its contract. The invariant: the links below i passed. Assumes nothing.
 use Prim.Native.Nat.{_-_}
-use Rattle.network.proofs.Checks.{Reached, none-reached, one-refused, one-passed, all-passed}
 use borrow.Author.Needs.{needs}
 use Rattle.network.proofs.check_links.Statement.{statement}
 use Rattle.network.proofs.check_links.Tie as tie
-use Rattle.network.proofs.check_links.Reads as reads
-use Rattle.network.proofs.check_links.Lts as lts
-use Rattle.network.proofs.check_link.Reads as check-link-reads
+use Rattle.network.proofs.Checks.{Reached, none-reached, one-refused, one-passed, all-passed}
 
 abbrev Inv-loop : tie.InvT-loop
 Inv-loop ticks count links i₀ i = Reached ticks count links i
@@ -14,46 +11,36 @@ Inv-loop ticks count links i₀ i = Reached ticks count links i
 abbrev μ-loop : tie.MeasureT-loop
 μ-loop ticks count links i₀ i = count - i
 
--- src/lib.rt:86:5
 loop-holds : tie.Need-loop-holds Inv-loop μ-loop
 loop-holds c = none-reached _ _ _
 
--- src/lib.rt:87:20
 mul-link : tie.Need-mul-link Inv-loop μ-loop
 mul-link c = search needs
 
--- src/lib.rt:87:20
 array-copy-out-link : tie.Need-array-copy-out-link Inv-loop μ-loop
 array-copy-out-link c = search needs
 
--- src/lib.rt:88:15
 check-link-requires : tie.Need-check-link-requires Inv-loop μ-loop
 check-link-requires c κs = search needs
 
--- src/lib.rt:89:30
 enum-known-refusal : tie.Need-enum-known-refusal Inv-loop μ-loop
 enum-known-refusal c = search needs
 
--- src/lib.rt:89:42
 returns : tie.Need-returns Inv-loop μ-loop
 returns c = one-refused _ _ _ _ (c .before .before .before .before .before .before .loop .inv) (c .before .before .before .before .before .loop-test .taken) _ (c .before .before .before .check-link .ensures) _ (c .before .refusal .given .1)
 
 enum-told : tie.Need-enum-told Inv-loop μ-loop
 enum-told c = search needs
 
--- src/lib.rt:92:9
 add-i : tie.Need-add-i Inv-loop μ-loop
 add-i c = search needs
 
--- src/lib.rt:86:5
 loop-less : tie.Need-loop-less Inv-loop μ-loop
 loop-less c = search needs
 
--- src/lib.rt:86:5
 loop-again : tie.Need-loop-again Inv-loop μ-loop
 loop-again c = one-passed _ _ _ _ (c .before .before .before .before .before .loop .inv) (c .before .before .before .before .loop-test .taken) _ (c .before .before .check-link .ensures) (c .enum-told .given .1)
 
--- src/lib.rt:81:1
 returns-2 : tie.Need-returns-2 Inv-loop μ-loop
 returns-2 c = all-passed _ _ _ _ (c .before .loop .inv) (c .loop-test .left)
 

@@ -1,35 +1,24 @@
 -- `network::check_network` meets its contract. Assumes nothing.
-use Rattle.network.proofs.Checks.{count-refused, count-few, cycle-refused, links-rule}
 use borrow.Author.Needs.{needs}
 use Rattle.network.proofs.check_network.Statement.{statement}
+use Rattle.network.proofs.Checks.{count-refused, count-few, cycle-refused, links-rule}
 use Rattle.network.proofs.check_network.Tie as tie
-use Rattle.network.proofs.check_network.Reads as reads
-use Rattle.network.proofs.check_network.Lts as lts
-use Rattle.network.proofs.bad_count.Reads as bad-count-reads
-use Rattle.network.proofs.bad_cycle.Reads as bad-cycle-reads
-use Rattle.network.proofs.check_links.Reads as check-links-reads
 
--- src/lib.rt:101:8
 bad-count-requires : tie.Need-bad-count-requires
 bad-count-requires c κs = search needs
 
--- src/lib.rt:102:9
 returns : tie.Need-returns
 returns c = count-refused _ _ (c .before .bad-count .ensures) (c .if1 .taken)
 
--- src/lib.rt:104:8
 bad-cycle-requires : tie.Need-bad-cycle-requires
 bad-cycle-requires c κs = search needs
 
--- src/lib.rt:105:9
 returns-2 : tie.Need-returns-2
 returns-2 c = cycle-refused _ _ (c .before .before .before .bad-count .ensures) (c .before .before .if1 .left) _ (c .before .bad-cycle .ensures) (c .if2 .taken)
 
--- src/lib.rt:108:5
 check-links-requires : tie.Need-check-links-requires
 check-links-requires c κs = count-few (c .before .before .before .before .before .args .network) _ (c .before .before .before .before .bad-count .ensures) (c .before .before .before .if1 .left)
 
--- src/lib.rt:98:1
 returns-3 : tie.Need-returns-3
 returns-3 c = links-rule (c .before .before .before .before .before .before .args .network) _ (c .before .before .before .before .before .bad-count .ensures) (c .before .before .before .before .if1 .left) _ (c .before .before .before .bad-cycle .ensures) (c .before .before .if2 .left) _ (c .check-links .ensures)
 

@@ -1,25 +1,20 @@
+-- `network_file::link_fields` meets its contract. Assumes nothing.
 use mathlib.Core.Path.{refl}
+use borrow.Author.Needs.{needs}
 use Rattle.places.specs.Places.{firsts}
 use Rattle.network_file.specs.Fields.{linkLayout}
-use borrow.Author.Needs.{needs}
-use Rattle.network_file.proofs.link_fields.Statement.{statement}
 use Rattle.network_file.proofs.link_fields.Tie as tie
-use Rattle.network_file.proofs.link_fields.Reads as reads
-use Rattle.network_file.proofs.link_fields.Lts as lts
+use Rattle.network_file.proofs.link_fields.Statement.{statement}
 
--- src/lib.rt:51:5
 array-set-from-fields : tie.Need-array-set-from-fields
 array-set-from-fields c = search needs
 
--- src/lib.rt:56:5
 array-set-from-fields-2 : tie.Need-array-set-from-fields-2
 array-set-from-fields-2 c = search needs
 
--- src/lib.rt:61:5
 array-set-from-fields-3 : tie.Need-array-set-from-fields-3
 array-set-from-fields-3 c = search needs
 
--- src/lib.rt:43:1
 returns : tie.Need-returns
 unfolding firsts linkLayout
 returns c = refl

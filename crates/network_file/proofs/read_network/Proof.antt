@@ -1,83 +1,59 @@
-use Prim.Native.Nat.{ℕ, _+_, _*_, _-_, _<_, _≤_}
-use native.Mathlib.Omega.{arith}
-use Rattle.network_file.proofs.Files.{file-short, count-bad, ticks-small, cycle-bad, count-good, head-good}
+-- `network_file::read_network` meets its contract. Assumes nothing.
 use mathlib.Core.Path.{refl}
+use native.Mathlib.Omega.{arith}
 use borrow.Author.Needs.{needs}
+use Rattle.network_file.proofs.Files.{file-short, count-bad, ticks-small, cycle-bad, count-good, head-good}
 use Rattle.network_file.proofs.read_network.Statement.{statement}
 use Rattle.network_file.proofs.read_network.Tie as tie
-use Rattle.network_file.proofs.read_network.Reads as reads
-use Rattle.network_file.proofs.read_network.Lts as lts
-use Rattle.network.proofs.bad_count.Reads as bad-count-reads
-use Rattle.network.proofs.bad_cycle.Reads as bad-cycle-reads
-use Rattle.network_file.proofs.read_links.Reads as read-links-reads
-use Rattle.network_file.proofs.refused.Reads as refused-reads
-use Rattle.numbers.proofs.read_number.Reads as read-number-reads
 
--- src/lib.rt:176:9
 refused-requires : tie.Need-refused-requires
 refused-requires c κs = search needs
 
--- src/lib.rt:176:9
 returns : tie.Need-returns
 returns c = file-short _ (c .before .if1 .taken) _ refl _ (c .refused .ensures)
 
--- src/lib.rt:178:17
 shared-slice-read-count : tie.Need-shared-slice-read-count
 shared-slice-read-count c = search needs
 
--- src/lib.rt:178:17
 cast-count : tie.Need-cast-count
 cast-count c = omega (arith, c .shared-slice-known2 .given 2)
 
--- src/lib.rt:179:8
 bad-count-requires : tie.Need-bad-count-requires
 bad-count-requires c κs = search needs
 
--- src/lib.rt:180:9
 refused-requires-2 : tie.Need-refused-requires-2
 refused-requires-2 c κs = search needs
 
--- src/lib.rt:180:9
 returns-2 : tie.Need-returns-2
 returns-2 c = count-bad _ (c .before .before .before .before .if1 .left) _ refl _ (c .before .before .bad-count .ensures) (c .before .if2 .taken) _ refl _ (c .refused2 .ensures)
 
--- src/lib.rt:182:17
 read-number-requires : tie.Need-read-number-requires
 read-number-requires c κs = search needs
 
--- src/lib.rt:182:17
 cast-ticks : tie.Need-cast-ticks
 cast-ticks c = record { fits = ticks-small _ (λ i. c .before .before .before .before .before .shared-slice-known .given i .fits) _ (c .read-number .ensures) }
 
--- src/lib.rt:183:8
 bad-cycle-requires : tie.Need-bad-cycle-requires
 bad-cycle-requires c κs = search needs
 
--- src/lib.rt:184:9
 refused-requires-3 : tie.Need-refused-requires-3
 refused-requires-3 c κs = search needs
 
--- src/lib.rt:184:9
 returns-3 : tie.Need-returns-3
 returns-3 c = cycle-bad _ (c .before .before .before .before .before .before .before .if1 .left) _ refl _ (c .before .before .before .before .before .bad-count .ensures) (c .before .before .before .before .if2 .left) _ (c .before .before .before .read-number .ensures) _ (c .before .before .bad-cycle .ensures) (c .before .if3 .taken) _ refl _ (c .refused3 .ensures)
 
--- src/lib.rt:186:16
 sub-read-links : tie.Need-sub-read-links
 sub-read-links c = search needs
 
--- src/lib.rt:186:16
 part-read-links-start : tie.Need-part-read-links-start
 part-read-links-start c = search needs
 
--- src/lib.rt:186:16
 part-read-links-end : tie.Need-part-read-links-end
 part-read-links-end c = search needs
 
--- src/lib.rt:186:5
 read-links-requires : tie.Need-read-links-requires
 read-links-requires c κs = count-good (c .before .before .before .before .before .before .before .before .before .args .file .now) (c .before .before .before .before .before .before .before .if1 .left) _ refl _ (c .before .before .before .before .before .bad-count .ensures) (c .before .before .before .before .if2 .left)
 
--- src/lib.rt:172:1
 returns-4 : tie.Need-returns-4
 returns-4 c = head-good _ (c .before .before .before .before .before .before .before .before .if1 .left) _ refl _ (c .before .before .before .before .before .before .bad-count .ensures) (c .before .before .before .before .before .if2 .left) _ (c .before .before .before .before .read-number .ensures) _ (c .before .before .before .bad-cycle .ensures) (c .before .before .if3 .left) _ (c .read-links .ensures)
 

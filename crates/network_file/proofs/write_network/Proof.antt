@@ -1,37 +1,27 @@
-use Rattle.network_file.proofs.Images.{check-passed, check-refused}
+-- `network_file::write_network` meets its contract. Assumes nothing.
 use borrow.Author.Needs.{needs}
-use Rattle.network_file.proofs.write_network.Statement.{statement}
 use Rattle.network_file.proofs.write_network.Tie as tie
-use Rattle.network_file.proofs.write_network.Reads as reads
-use Rattle.network_file.proofs.write_network.Lts as lts
-use Rattle.network.proofs.check_network.Reads as check-network-reads
-use Rattle.network_file.proofs.write_passed.Reads as write-passed-reads
+use Rattle.network_file.proofs.write_network.Statement.{statement}
+use Rattle.network_file.proofs.Images.{check-passed, check-refused}
 
--- src/lib.rt:267:11
 check-network-requires : tie.Need-check-network-requires
 check-network-requires c κs = search needs
 
--- src/lib.rt:268:26
 enum-known-refusal : tie.Need-enum-known-refusal
 enum-known-refusal c = search needs
 
--- src/lib.rt:269:50
 enum-told : tie.Need-enum-told
 enum-told c = search needs
 
--- src/lib.rt:269:28
 write-passed-requires : tie.Need-write-passed-requires
 write-passed-requires c κs = check-passed (c .before .before .before .before .before .args .network) _ (c .before .before .before .check-network .ensures) (c .before .enum-told .given .1)
 
--- src/lib.rt:264:1
 returns : tie.Need-returns
 returns c = check-refused (c .before .before .before .before .before .args .network) _ (c .before .before .before .check-network .ensures) _ (c .before .refusal .given .1) _
 
--- src/lib.rt:264:1
 same-length : tie.Need-same-length
 same-length c = search needs
 
--- src/lib.rt:264:1
 returns-2 : tie.Need-returns-2
 returns-2 c = search needs
 

@@ -1,19 +1,12 @@
 -- `word::read_number` meets its contract: from the last byte down, the number read so far is that of the bytes from i on.
-use Prim.Native.Nat.{ℕ, suc, _+_, _*_, _-_, _^_, _≤_, _<_}
-use mathlib.Core.Path.{_≡_, sym, ap, _∙_}
+use mathlib.Core.Path.{_≡_, _∙_}
+use Prim.Native.Nat.{_-_}
 use native.Mathlib.Omega.{arith}
-use borrow.Author.Needs.{needs}
-use lib.ListN.{length, drop, getD}
-use mathlib.Core.Path.{refl}
-use lib.Seq.{drop-length}
 use native.Mathlib.Nat.{sub-zero}
-use Rattle.numbers.specs.Numbers.{numberIn}
+use borrow.Author.Needs.{needs}
 use Rattle.numbers.proofs.Loops.{Got, got-none, got-more, got-room}
-use Rattle.numbers.proofs.read_number.Statement.{statement}
 use Rattle.numbers.proofs.read_number.Tie as tie
-use Rattle.numbers.proofs.read_number.Reads as reads
-use Rattle.numbers.proofs.read_number.Lts as lts
-use Rattle.numbers.proofs.wide.Reads as wide-reads
+use Rattle.numbers.proofs.read_number.Statement.{statement}
 
 abbrev Inv-loop : tie.InvT-loop
 Inv-loop s n x₀ i₀ x i = Got s n x i

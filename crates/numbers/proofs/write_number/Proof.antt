@@ -1,12 +1,9 @@
-use Prim.Native.Nat.{ℕ, suc, _+_, _*_, _-_, _^_, _≤_, _<_}
-use mathlib.Core.Path.{_≡_, sym, ap, _∙_}
-use native.Mathlib.Omega.{arith}
+-- `numbers::write_number` meets its contract. Assumes nothing.
+use Prim.Native.Nat.{_-_}
 use borrow.Author.Needs.{needs}
+use Rattle.numbers.proofs.write_number.Tie as tie
 use Rattle.numbers.proofs.Loops.{Put, put-none, put-more, put-all}
 use Rattle.numbers.proofs.write_number.Statement.{statement}
-use Rattle.numbers.proofs.write_number.Tie as tie
-use Rattle.numbers.proofs.write_number.Reads as reads
-use Rattle.numbers.proofs.write_number.Lts as lts
 
 abbrev Inv-loop : tie.InvT-loop
 Inv-loop s₀ n x rest₀ i₀ s rest i = Put s₀ n x s rest i

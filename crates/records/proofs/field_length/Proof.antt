@@ -1,21 +1,15 @@
 -- `records::field_length` meets its contract. Assumes nothing.
-use Rattle.records.proofs.Pieces.{some-long, none-long}
 use borrow.Author.Needs.{needs}
-use Rattle.records.proofs.field_length.Statement.{statement}
 use Rattle.records.proofs.field_length.Tie as tie
-use Rattle.records.proofs.field_length.Reads as reads
-use Rattle.records.proofs.field_length.Lts as lts
-use Rattle.records.proofs.is_written.Reads as is-written-reads
+use Rattle.records.proofs.field_length.Statement.{statement}
+use Rattle.records.proofs.Pieces.{some-long, none-long}
 
--- src/lib.rt:201:8
 is-written-requires : tie.Need-is-written-requires
 is-written-requires c κs = search needs
 
--- src/lib.rt:198:1
 returns : tie.Need-returns
 returns c = some-long _ _ _ (c .before .is-written .ensures) (c .if1 .taken)
 
--- src/lib.rt:198:1
 returns-2 : tie.Need-returns-2
 returns-2 c = none-long _ _ _ (c .before .is-written .ensures) (c .if1 .left)
 

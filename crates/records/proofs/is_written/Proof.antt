@@ -1,12 +1,8 @@
 -- `records::is_written` meets its contract. Assumes nothing.
-use Rattle.records.proofs.Pieces.{is-written}
-use borrow.Author.Needs.{needs}
-use Rattle.records.proofs.is_written.Statement.{statement}
 use Rattle.records.proofs.is_written.Tie as tie
-use Rattle.records.proofs.is_written.Reads as reads
-use Rattle.records.proofs.is_written.Lts as lts
+use Rattle.records.proofs.Pieces.{is-written}
+use Rattle.records.proofs.is_written.Statement.{statement}
 
--- src/lib.rt:165:1
 returns : tie.Need-returns
 returns c = is-written _ _
 

@@ -1,13 +1,10 @@
-use Prim.Native.Nat.{_+_, _*_, _-_, _<_, _≤_}
+-- `records::map_of` meets its contract. Assumes nothing.
+use Prim.Native.Nat.{_-_}
 use native.Mathlib.Omega.{arith}
-use Rattle.records.proofs.Layouts.{laid-at}
 use Rattle.records.proofs.Pieces.{Mapped, none-mapped, one-mapped, all-mapped}
-use borrow.Author.Needs.{needs}
+use Rattle.records.proofs.Layouts.{laid-at}
 use Rattle.records.proofs.map_of.Statement.{statement}
 use Rattle.records.proofs.map_of.Tie as tie
-use Rattle.records.proofs.map_of.Reads as reads
-use Rattle.records.proofs.map_of.Lts as lts
-use Rattle.records.proofs.map_with.Reads as map-with-reads
 
 abbrev Inv-loop : tie.InvT-loop
 Inv-loop n values fields map₀ j₀ map j = Mapped fields n values map j
@@ -15,43 +12,33 @@ Inv-loop n values fields map₀ j₀ map j = Mapped fields n values map j
 abbrev μ-loop : tie.MeasureT-loop
 μ-loop n values fields map₀ j₀ map j = n - j
 
--- src/lib.rt:177:5
 loop-holds : tie.Need-loop-holds Inv-loop μ-loop
 loop-holds c = none-mapped _ _ _
 
--- src/lib.rt:178:21
 mul-field : tie.Need-mul-field Inv-loop μ-loop
 mul-field c = omega (arith, c .before .before .pre .few)
 
--- src/lib.rt:178:21
 array-copy-out-field : tie.Need-array-copy-out-field Inv-loop μ-loop
 array-copy-out-field c = omega (arith, c .before .before .pre .few)
 
--- src/lib.rt:179:36
 mul-map-with : tie.Need-mul-map-with Inv-loop μ-loop
 mul-map-with c = omega (arith, c .before .before .before .pre .few)
 
--- src/lib.rt:179:36
 array-read-map-with : tie.Need-array-read-map-with Inv-loop μ-loop
 array-read-map-with c = omega (arith, c .before .before .before .pre .few)
 
--- src/lib.rt:179:9
 map-with-requires : tie.Need-map-with-requires Inv-loop μ-loop
 map-with-requires c κs = laid-at _ _ _ (c .before .before .before .pre) (c .before .loop-test .taken) .low
 
--- src/lib.rt:180:9
 add-j : tie.Need-add-j Inv-loop μ-loop
 add-j c = omega (arith, c .before .before .before .before .pre .few)
 
--- src/lib.rt:177:5
 loop-less : tie.Need-loop-less Inv-loop μ-loop
 loop-less c = omega arith
 
--- src/lib.rt:177:5
 loop-again : tie.Need-loop-again Inv-loop μ-loop
 loop-again c = one-mapped _ _ _ _ _ _ (c .before .before .before .before .pre) (c .before .before .before .loop .inv) (c .before .before .loop-test .taken) (c .map-with .ensures)
 
--- src/lib.rt:171:1
 returns : tie.Need-returns Inv-loop μ-loop
 returns c = all-mapped _ _ _ _ _ (c .before .loop .inv) (c .loop-test .left)
 

@@ -1,56 +1,42 @@
 -- `records::put_field` meets its contract. Assumes nothing.
-use Prim.Native.Nat.{_+_, _*_, _-_, _<_, _≤_}
 use native.Mathlib.Omega.{arith}
-use Rattle.records.proofs.Pieces.{some-room, some-put, none-put}
+use borrow.Author.Needs.{needs}
 use lib.ListN.{length-drop}
 use Rattle.places.proofs.Parts.{part-rest}
-use borrow.Author.Needs.{needs}
-use Rattle.records.proofs.put_field.Statement.{statement}
 use Rattle.records.proofs.put_field.Tie as tie
-use Rattle.records.proofs.put_field.Reads as reads
-use Rattle.records.proofs.put_field.Lts as lts
-use Rattle.numbers.proofs.write_number.Reads as write-number-reads
-use Rattle.records.proofs.is_written.Reads as is-written-reads
+use Rattle.records.proofs.put_field.Statement.{statement}
+use Rattle.records.proofs.Pieces.{some-room, some-put, none-put}
 
--- src/lib.rt:224:8
 is-written-requires : tie.Need-is-written-requires
 is-written-requires c κs = search needs
 
--- src/lib.rt:225:31
 sub-write-number : tie.Need-sub-write-number
 sub-write-number c = search needs
 
--- src/lib.rt:225:31
 part-write-number-start : tie.Need-part-write-number-start
 part-write-number-start c = search needs
 
--- src/lib.rt:225:31
 part-write-number-end : tie.Need-part-write-number-end
 part-write-number-end c = search needs
 
--- src/lib.rt:225:9
 write-number-requires : tie.Need-write-number-requires
 write-number-requires c κs =
     let s = c .before .before .before .before in
     rw (part-rest (s .args .at) (s .args .buffer .now), length-drop) (omega (arith, some-room (s .args .field) (s .args .value) _ (c .before .before .is-written .ensures) (s .args .buffer .now) (s .args .at) (c .before .if1 .taken) (s .pre)))
 
--- src/lib.rt:226:16
 add-result : tie.Need-add-result
 add-result c =
     let s = c .before .before .before .before .before .before .before .before in
     omega (arith, some-room (s .args .field) (s .args .value) _ (c .before .before .before .before .before .before .is-written .ensures) (s .args .buffer .now) (s .args .at) (c .before .before .before .before .before .if1 .taken) (s .pre))
 
--- src/lib.rt:226:9
 same-length : tie.Need-same-length
 same-length c = search needs
 
--- src/lib.rt:226:9
 returns : tie.Need-returns
 returns c =
     let s = c .before .before .before .before .before .before .before .before in
     some-put (s .args .field) (s .args .value) _ (c .before .before .before .before .before .before .is-written .ensures) (s .args .buffer .now) (s .args .at) (c .before .before .before .before .before .if1 .taken) (s .pre) _ (c .before .before .before .write-number .ensures)
 
--- src/lib.rt:220:1
 returns-2 : tie.Need-returns-2
 returns-2 c = none-put (c .before .before .before .args .field) _ _ (c .before .is-written .ensures) _ _ (c .if1 .left)
 

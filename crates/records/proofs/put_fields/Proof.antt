@@ -1,12 +1,9 @@
-use Prim.Native.Nat.{_+_, _*_, _-_, _<_, _≤_}
+-- `records::put_fields` meets its contract. Assumes nothing.
+use Prim.Native.Nat.{_-_}
 use native.Mathlib.Omega.{arith}
-use Rattle.records.proofs.Pieces.{Placed, none-placed, field-room, one-placed, all-placed}
-use borrow.Author.Needs.{needs}
-use Rattle.records.proofs.put_fields.Statement.{statement}
 use Rattle.records.proofs.put_fields.Tie as tie
-use Rattle.records.proofs.put_fields.Reads as reads
-use Rattle.records.proofs.put_fields.Lts as lts
-use Rattle.records.proofs.put_field.Reads as put-field-reads
+use Rattle.records.proofs.Pieces.{Placed, none-placed, field-room, one-placed, all-placed}
+use Rattle.records.proofs.put_fields.Statement.{statement}
 
 abbrev Inv-loop : tie.InvT-loop
 Inv-loop buffer₀ n values fields at₀ j₀ buffer at j = Placed fields n values buffer₀ buffer at j
@@ -14,47 +11,36 @@ Inv-loop buffer₀ n values fields at₀ j₀ buffer at j = Placed fields n valu
 abbrev μ-loop : tie.MeasureT-loop
 μ-loop buffer₀ n values fields at₀ j₀ buffer at j = n - j
 
--- src/lib.rt:226:5
 loop-holds : tie.Need-loop-holds Inv-loop μ-loop
 loop-holds c = none-placed _ _ _ _ (c .before .pre .1)
 
--- src/lib.rt:227:21
 mul-field : tie.Need-mul-field Inv-loop μ-loop
 mul-field c = omega (arith, c .before .before .before .pre .0 .few)
 
--- src/lib.rt:227:21
 array-copy-out-field : tie.Need-array-copy-out-field Inv-loop μ-loop
 array-copy-out-field c = omega (arith, c .before .before .before .pre .0 .few)
 
--- src/lib.rt:228:43
 mul-put-field : tie.Need-mul-put-field Inv-loop μ-loop
 mul-put-field c = omega (arith, c .before .before .before .before .before .pre .0 .few)
 
--- src/lib.rt:228:43
 array-read-put-field : tie.Need-array-read-put-field Inv-loop μ-loop
 array-read-put-field c = omega (arith, c .before .before .before .before .before .pre .0 .few)
 
--- src/lib.rt:228:9
 put-field-requires : tie.Need-put-field-requires Inv-loop μ-loop
 put-field-requires c κs = field-room _ _ _ _ (c .before .before .before .before .before .pre .1) _ _ _ (c .before .before .before .loop .inv) (c .before .before .loop-test .taken)
 
--- src/lib.rt:229:9
 add-j : tie.Need-add-j Inv-loop μ-loop
 add-j c = omega (arith, c .before .before .before .before .before .before .before .before .pre .0 .few)
 
--- src/lib.rt:226:5
 loop-less : tie.Need-loop-less Inv-loop μ-loop
 loop-less c = omega arith
 
--- src/lib.rt:226:5
 loop-again : tie.Need-loop-again Inv-loop μ-loop
 loop-again c = one-placed _ _ _ _ (c .before .before .before .before .before .before .before .before .pre .1) _ _ _ (c .before .before .before .before .before .before .loop .inv) (c .before .before .before .before .before .loop-test .taken) _ _ (c .before .before .put-field .ensures)
 
--- src/lib.rt:220:1
 same-length : tie.Need-same-length Inv-loop μ-loop
 same-length c = c .before .loop .inv .grown .long
 
--- src/lib.rt:220:1
 returns : tie.Need-returns Inv-loop μ-loop
 returns c = all-placed _ _ _ _ (c .before .before .before .pre .1) _ _ _ (c .before .loop .inv) (c .loop-test .left)
 

@@ -1,12 +1,10 @@
-use Prim.Native.Nat.{_+_, _*_, _-_, _<_, _≤_}
+-- `records::record_length` meets its contract. Assumes nothing.
+use Prim.Native.Nat.{_-_}
 use native.Mathlib.Omega.{arith}
-use Rattle.records.proofs.Pieces.{Measured, none-measured, one-measured, all-measured}
 use borrow.Author.Needs.{needs}
-use Rattle.records.proofs.record_length.Statement.{statement}
+use Rattle.records.proofs.Pieces.{Measured, none-measured, one-measured, all-measured}
 use Rattle.records.proofs.record_length.Tie as tie
-use Rattle.records.proofs.record_length.Reads as reads
-use Rattle.records.proofs.record_length.Lts as lts
-use Rattle.records.proofs.field_length.Reads as field-length-reads
+use Rattle.records.proofs.record_length.Statement.{statement}
 
 abbrev Inv-loop : tie.InvT-loop
 Inv-loop n values fields total₀ j₀ total j = Measured fields n values total j
@@ -14,47 +12,36 @@ Inv-loop n values fields total₀ j₀ total j = Measured fields n values total 
 abbrev μ-loop : tie.MeasureT-loop
 μ-loop n values fields total₀ j₀ total j = n - j
 
--- src/lib.rt:199:5
 loop-holds : tie.Need-loop-holds Inv-loop μ-loop
 loop-holds c = none-measured _ _ _
 
--- src/lib.rt:200:21
 mul-field : tie.Need-mul-field Inv-loop μ-loop
 mul-field c = omega (arith, c .before .before .pre .few)
 
--- src/lib.rt:200:21
 array-copy-out-field : tie.Need-array-copy-out-field Inv-loop μ-loop
 array-copy-out-field c = omega (arith, c .before .before .pre .few)
 
--- src/lib.rt:201:38
 mul-field-length : tie.Need-mul-field-length Inv-loop μ-loop
 mul-field-length c = omega (arith, c .before .before .before .pre .few)
 
--- src/lib.rt:201:38
 array-read-field-length : tie.Need-array-read-field-length Inv-loop μ-loop
 array-read-field-length c = omega (arith, c .before .before .before .pre .few)
 
--- src/lib.rt:201:18
 field-length-requires : tie.Need-field-length-requires Inv-loop μ-loop
 field-length-requires c κs = search needs
 
--- src/lib.rt:201:9
 add-total : tie.Need-add-total Inv-loop μ-loop
 add-total c = omega (arith, one-measured _ _ _ _ _ _ (c .before .before .before .before .pre) (c .before .before .before .loop .inv) (c .before .before .loop-test .taken) (c .field-length .ensures) .small, c .before .before .before .before .pre .few)
 
--- src/lib.rt:202:9
 add-j : tie.Need-add-j Inv-loop μ-loop
 add-j c = omega (arith, c .before .before .before .before .pre .few)
 
--- src/lib.rt:199:5
 loop-less : tie.Need-loop-less Inv-loop μ-loop
 loop-less c = omega arith
 
--- src/lib.rt:199:5
 loop-again : tie.Need-loop-again Inv-loop μ-loop
 loop-again c = one-measured _ _ _ _ _ _ (c .before .before .before .before .pre) (c .before .before .before .loop .inv) (c .before .before .loop-test .taken) (c .field-length .ensures)
 
--- src/lib.rt:193:1
 returns : tie.Need-returns Inv-loop μ-loop
 returns c = all-measured _ _ _ _ _ (c .before .before .pre) (c .before .loop .inv) (c .loop-test .left)
 

@@ -1,13 +1,10 @@
-use Prim.Native.Nat.{_+_, _*_, _-_, _<_, _≤_}
+-- `records::stray_bits` meets its contract. Assumes nothing.
+use Prim.Native.Nat.{_-_}
 use native.Mathlib.Omega.{arith}
 use Rattle.records.proofs.Turns.{Cleared, none-cleared, one-cleared, all-cleared}
 use Rattle.records.proofs.Layouts.{laid-at}
-use borrow.Author.Needs.{needs}
 use Rattle.records.proofs.stray_bits.Statement.{statement}
 use Rattle.records.proofs.stray_bits.Tie as tie
-use Rattle.records.proofs.stray_bits.Reads as reads
-use Rattle.records.proofs.stray_bits.Lts as lts
-use Rattle.words.proofs.clear_bit.Reads as clear-bit-reads
 
 abbrev Inv-loop : tie.InvT-loop
 Inv-loop map n fields left₀ j₀ left j = Cleared fields n map left j
@@ -15,35 +12,27 @@ Inv-loop map n fields left₀ j₀ left j = Cleared fields n map left j
 abbrev μ-loop : tie.MeasureT-loop
 μ-loop map n fields left₀ j₀ left j = n - j
 
--- src/lib.rt:63:5
 loop-holds : tie.Need-loop-holds Inv-loop μ-loop
 loop-holds c = none-cleared _ _ _
 
--- src/lib.rt:64:39
 mul-clear-bit : tie.Need-mul-clear-bit Inv-loop μ-loop
 mul-clear-bit c = omega (arith, c .before .before .pre .few)
 
--- src/lib.rt:64:39
 element-copy-out-clear-bit : tie.Need-element-copy-out-clear-bit Inv-loop μ-loop
 element-copy-out-clear-bit c = omega (arith, c .before .before .pre .few)
 
--- src/lib.rt:64:9
 clear-bit-requires : tie.Need-clear-bit-requires Inv-loop μ-loop
 clear-bit-requires c κs = omega (arith, laid-at (c .before .before .args .t2) (c .before .before .args .n) (c .before .loop .j) (c .before .before .pre) (c .loop-test .taken) .low)
 
--- src/lib.rt:65:9
 add-j : tie.Need-add-j Inv-loop μ-loop
 add-j c = omega (arith, c .before .before .before .pre .few)
 
--- src/lib.rt:63:5
 loop-less : tie.Need-loop-less Inv-loop μ-loop
 loop-less c = omega arith
 
--- src/lib.rt:63:5
 loop-again : tie.Need-loop-again Inv-loop μ-loop
 loop-again c = one-cleared _ _ _ _ _ _ (c .before .before .loop .inv) (c .before .loop-test .taken) (c .clear-bit .ensures)
 
--- src/lib.rt:57:1
 returns : tie.Need-returns Inv-loop μ-loop
 returns c = all-cleared _ _ _ _ _ (c .before .loop .inv) (c .loop-test .left)
 

@@ -1,25 +1,18 @@
-use Rattle.records.proofs.Turns.{value-here, value-absent, value-room}
+-- `records::value_in` meets its contract. Assumes nothing.
 use borrow.Author.Needs.{needs}
 use Rattle.records.proofs.value_in.Statement.{statement}
+use Rattle.records.proofs.Turns.{value-here, value-absent, value-room}
 use Rattle.records.proofs.value_in.Tie as tie
-use Rattle.records.proofs.value_in.Reads as reads
-use Rattle.records.proofs.value_in.Lts as lts
-use Rattle.numbers.proofs.read_number.Reads as read-number-reads
-use Rattle.words.proofs.has_bit.Reads as has-bit-reads
 
--- src/lib.rt:75:8
 has-bit-requires : tie.Need-has-bit-requires
 has-bit-requires c κs = search needs
 
--- src/lib.rt:76:9
 read-number-requires : tie.Need-read-number-requires
 read-number-requires c κs = (value-room _ (c .before .before .before .args .field) _ (c .before .has-bit .ensures) (c .if1 .taken) _ (c .before .before .before .pre .2), c .before .before .before .pre .1)
 
--- src/lib.rt:76:9
 returns : tie.Need-returns
 returns c = value-here _ (c .before .before .before .before .args .field) _ _ (c .before .before .has-bit .ensures) (c .before .if1 .taken) _ (c .read-number .ensures)
 
--- src/lib.rt:71:1
 returns-2 : tie.Need-returns-2
 returns-2 c = value-absent _ (c .before .before .before .args .field) _ _ (c .before .has-bit .ensures) (c .if1 .left)
 

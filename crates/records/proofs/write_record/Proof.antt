@@ -1,41 +1,30 @@
-use Prim.Native.Nat.{_+_, _*_, _-_, _<_, _≤_}
-use native.Mathlib.Omega.{arith}
-use Rattle.records.proofs.Pieces.{some-byte, body-room, record-put, record-long}
+-- `records::write_record` meets its contract. Assumes nothing.
 use borrow.Author.Needs.{needs}
-use Rattle.records.proofs.write_record.Statement.{statement}
 use Rattle.records.proofs.write_record.Tie as tie
-use Rattle.records.proofs.write_record.Reads as reads
-use Rattle.records.proofs.write_record.Lts as lts
-use Rattle.records.proofs.map_of.Reads as map-of-reads
-use Rattle.records.proofs.put_fields.Reads as put-fields-reads
+use Rattle.records.proofs.Pieces.{some-byte, body-room, record-put, record-long}
+use Rattle.records.proofs.write_record.Statement.{statement}
 
--- src/lib.rt:239:15
 map-of-requires : tie.Need-map-of-requires
 map-of-requires c κs = search needs
 
--- src/lib.rt:239:15
 cast-rest : tie.Need-cast-rest
 cast-rest c = search needs
 
--- src/lib.rt:239:5
 slice-write-rest : tie.Need-slice-write-rest
 slice-write-rest c =
     let s = c .before .before in
     some-byte (s .args .fields) (s .args .n) (s .args .values) (s .args .rest .now) (s .pre .1) _ (c .map-of .ensures .0)
 
--- src/lib.rt:240:5
 put-fields-requires : tie.Need-put-fields-requires
 put-fields-requires c κs =
     let s = c .before .before .before in
     (s .pre .0, body-room (s .args .fields) (s .args .n) (s .args .values) (s .args .rest .now) (s .pre .1) _ (c .before .map-of .ensures .0))
 
--- src/lib.rt:235:1
 same-length : tie.Need-same-length
 same-length c =
     let s = c .before .before .before .before .before .before in
     record-long (s .args .fields) (s .args .n) (s .args .values) (s .args .rest .now) (s .pre .1) _ (c .before .before .before .before .map-of .ensures .0) _ (c .before .before .put-fields .ensures .1)
 
--- src/lib.rt:235:1
 returns : tie.Need-returns
 returns c =
     let s = c .before .before .before .before .before .before in
