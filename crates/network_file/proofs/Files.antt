@@ -29,7 +29,7 @@ use Rattle.records.proofs.OneRecord.{Whole, record-only}
 use Rattle.network_file.specs.Fields.{linkLayout, linkOf}
 use Rattle.network_file.specs.declared.Loaded.{Loaded}
 use Rattle.network_file.specs.declared.LinkRecord.the-variants.{Fields, Refused}
-use Rattle.network_file.specs.Reading.{Linked, readLink, readLinks, within, readNetwork, linkRead, nothing, Reads}
+use Rattle.network_file.specs.Reading.{Linked, readLink, readLinks, within, readNetwork, linkRead, noNetwork, Reads}
 use Rattle.network_file.specs.declared.LinkRecord.{LinkRecord}
 use Rattle.network_file.proofs.Records.{link-layout}
 
@@ -83,10 +83,10 @@ pub record Gone (T count : ℕ) (records : List ℕ) (links : List Link) (at i :
   pub held : links ≡ firsts 32 done noLink
   pub same : readLinks T count records ≡ after done (readLinks T (count - i) (drop at records))
 
-reads-refused : (o : Outcome Topology) (r : Refusal) → o ≡ refused (refusalNumber r) → (x : Loaded) → x ≡ nothing r → Reads o x
+reads-refused : (o : Outcome Topology) (r : Refusal) → o ≡ refused (refusalNumber r) → (x : Loaded) → x ≡ noNetwork r → Reads o x
 reads-refused o r e x q = rw (q, e) (record { verdict = refl; network = refl })
 
-pub no-network : (r : Refusal) (links : List Link) → links ≡ firsts 32 [] noLink → _≡_ {A = Loaded} (record { verdict = verdicts.Refused r; network = record { ticks = 0; count = 0; links = links } }) (nothing r)
+pub no-network : (r : Refusal) (links : List Link) → links ≡ firsts 32 [] noLink → _≡_ {A = Loaded} (record { verdict = verdicts.Refused r; network = record { ticks = 0; count = 0; links = links } }) (noNetwork r)
 no-network r links e = rw e
 
 module _ (T count : ℕ) (records : List ℕ) where
@@ -101,7 +101,7 @@ module _ (T count : ℕ) (records : List ℕ) where
       here : readLink T (drop at records) ≡ linkRead x
       here = sym (ex ∙ ap (readLink T) (part-rest at records))
 
-      pub one-refused : (r : Refusal) → x ≡ Refused r → (y : Loaded) → y ≡ nothing r → Reads (within T (readLinks T count records)) y
+      pub one-refused : (r : Refusal) → x ≡ Refused r → (y : Loaded) → y ≡ noNetwork r → Reads (within T (readLinks T count records)) y
       unfolding readLinks
       one-refused r e y q =
           let z : readLinks T count records ≡ refused (refusalNumber r) = g .same ∙ rw (step, here, e) in
@@ -129,7 +129,7 @@ module _ (T count : ℕ) (records : List ℕ) where
       unfolding readLinks
       last = let z : count - i ≡ 0 = omega arith in g .same ∙ rw z
 
-      pub bytes-follow : at < length records → (r : Refusal) → refusalNumber r ≡ 10 → (y : Loaded) → y ≡ nothing r → Reads (within T (readLinks T count records)) y
+      pub bytes-follow : at < length records → (r : Refusal) → refusalNumber r ≡ 10 → (y : Loaded) → y ≡ noNetwork r → Reads (within T (readLinks T count records)) y
       bytes-follow k r c y q =
           let z : length (drop at records) ≡ 0 → ⊥ = λ d. omega (arith, length-drop at records) in
           reads-refused (within T (readLinks T count records)) r (rw (last, ne-eqb (length (drop at records)) 0 z, c)) y q
@@ -145,12 +145,12 @@ module _ (T count : ℕ) (records : List ℕ) where
 pub ticks-small : (s : List ℕ) → ((i : ℕ) → getD s i 0 < 256) → (T : ℕ) → T ≡ numberIn 2 s → T < 65536
 ticks-small s b T e = rw e (number-bound 2 s b)
 
-pub file-short : (s : List ℕ) → length s < 3 → (r : Refusal) → refusalNumber r ≡ 1 → (x : Loaded) → x ≡ nothing r → Reads (readNetwork s) x
+pub file-short : (s : List ℕ) → length s < 3 → (r : Refusal) → refusalNumber r ≡ 1 → (x : Loaded) → x ≡ noNetwork r → Reads (readNetwork s) x
 unfolding readNetwork
 file-short s h r c x q = reads-refused (readNetwork s) r (rw (lt-ltb (length s) 3 h, c)) x q
 
 module _ (s : List ℕ) (h : 3 ≤ length s) (n : ℕ) (en : n ≡ getD s 2 0) (b : Bool) (eb : b ≡ badCount n) where
-  pub count-bad : b ≡ true → (r : Refusal) → refusalNumber r ≡ 2 → (x : Loaded) → x ≡ nothing r → Reads (readNetwork s) x
+  pub count-bad : b ≡ true → (r : Refusal) → refusalNumber r ≡ 2 → (x : Loaded) → x ≡ noNetwork r → Reads (readNetwork s) x
   unfolding readNetwork
   count-bad g r c x q = reads-refused (readNetwork s) r (rw (le-ltb (length s) 3 h, ← en, ← eb, g, c)) x q
 
@@ -158,7 +158,7 @@ module _ (s : List ℕ) (h : 3 ≤ length s) (n : ℕ) (en : n ≡ getD s 2 0) (
   count-good g = count-passed n (sym eb ∙ g) .1
 
   module _ (g : b ≡ false) (T : ℕ) (et : T ≡ numberIn 2 s) (d : Bool) (ed : d ≡ badCycle T) where
-    pub cycle-bad : d ≡ true → (r : Refusal) → refusalNumber r ≡ 3 → (x : Loaded) → x ≡ nothing r → Reads (readNetwork s) x
+    pub cycle-bad : d ≡ true → (r : Refusal) → refusalNumber r ≡ 3 → (x : Loaded) → x ≡ noNetwork r → Reads (readNetwork s) x
     unfolding readNetwork
     cycle-bad f r c x q = reads-refused (readNetwork s) r (rw (le-ltb (length s) 3 h, ← en, ← eb, g, ← et, ← ed, f, c)) x q
 

@@ -1,9 +1,10 @@
 -- A link record: its layout, its values, and the cases of reading it. Assumes nothing.
 use mathlib.Core.Path.{_≡_, refl, sym, ap, _∙_}
-use mathlib.Core.Bool.{true}
+use mathlib.Core.Bool.{true, false, true≢false}
 use mathlib.Core.List.{List, []}
-use Prim.Native.Nat.{ℕ, _<_}
+use Prim.Native.Nat.{ℕ, zero, suc, _<_, _≤_}
 use native.Mathlib.Omega.{arith}
+use borrow.Author.Tests.{ne-eqb}
 use lib.ListN.{getD}
 use Rattle.places.specs.Places.{firsts}
 use Rattle.places.proofs.Firsts.{getD-firsts}
@@ -13,12 +14,15 @@ use Rattle.refusals.specs.declared.Verdict.the-variants.{Passed, Refused}
 use Rattle.refusals.specs.declared.Refusal.{Refusal}
 use Rattle.refusals.proofs.Refusals.{refused-is, given-is}
 use Rattle.network.specs.declared.Link.{Link}
+use Rattle.words.proofs.Bits.{bit-high}
+use Rattle.words.proofs.Words.{word-below}
 use Rattle.network.specs.Checks.{linkCheck}
 use Rattle.records.specs.declared.Record.{Record}
 use Rattle.records.specs.declared.Field.{Field}
-use Rattle.records.specs.Reading.{Said, readRecord, saidIn, Told}
+use Rattle.records.specs.Reading.{strayBits, Said, readRecord, saidIn, Told}
 use Rattle.records.specs.Layout.{noField, isBit, isLayout, Laid, Fits}
 use Rattle.records.proofs.Layouts.{fits-at}
+use Rattle.records.proofs.Maps.{none-stray, stray-none}
 use Rattle.records.proofs.OneRecord.{Whole, record-only}
 use Rattle.network_file.specs.Fields.{linkLayout, valuesOf, linkOf}
 use Rattle.network_file.specs.Reading.{readLink}
@@ -37,6 +41,24 @@ values-back l = refl
 
 pub link-laid : (fields : List Field) → fields ≡ firsts 8 linkLayout noField → Laid fields 3
 link-laid fields e = record { few = omega arith; layout = rw (e, layout-back) link-layout }
+
+-- 5 of document 01, "A map byte has a bit above bit 2", in its own words: no bit is stray exactly where the map byte is below 8
+no-bit : (i : ℕ) → 3 ≤ i → isBit linkLayout i ≡ false
+unfolding isBit linkLayout
+no-bit i h = rw (ne-eqb i 0 (λ e. omega arith), ne-eqb i 1 (λ e. omega arith), ne-eqb i 2 (λ e. omega arith))
+
+some-bit : (i : ℕ) → isBit linkLayout i ≡ false → 3 ≤ i
+unfolding isBit linkLayout
+some-bit zero e = absurd (true≢false e)
+some-bit (suc zero) e = absurd (true≢false e)
+some-bit (suc (suc zero)) e = absurd (true≢false e)
+some-bit (suc (suc (suc i))) e = omega arith
+
+pub stray-above : (map : ℕ) → map < 256 → strayBits linkLayout map ≡ 0 → map < 8
+stray-above map h e = word-below 64 3 map (omega arith) (omega arith) (λ i g. stray-none linkLayout map (omega arith) e i (no-bit i g))
+
+pub above-stray : (map : ℕ) → map < 8 → strayBits linkLayout map ≡ 0
+above-stray map h = none-stray linkLayout map (omega arith) (λ i e. bit-high 3 map i h (some-bit i e))
 
 -- K and Z that fit in their fields fit in a byte
 pub fields-small : (vs : List ℕ) → Fits linkLayout vs → (getD vs 0 0 < 256) × (getD vs 1 0 < 256)

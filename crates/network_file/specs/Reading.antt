@@ -8,7 +8,7 @@ use lib.ListN.{length, getD, drop}
 use Rattle.places.specs.Places.{firsts}
 use Rattle.refusals.specs.Refusals.{Outcome, given, refused, refuseIf, orElse, onGiven, refusalNumber, ruling, rulingOf}
 use Rattle.refusals.specs.declared.Refusal.{Refusal}
-use Rattle.refusals.specs.declared.Verdict.the-variants as verdict
+use Rattle.refusals.specs.declared.Verdict.the-variants as verdicts
 use Rattle.numbers.specs.Numbers.{numberIn}
 use Rattle.network.specs.Checks.{badCount, badCycle, linkCheck}
 use Rattle.network.specs.declared.Link.{Link}
@@ -63,8 +63,9 @@ abbrev pub storedIn : Outcome Topology → Network
 storedIn (given t) = stored (t .ticks) (t .links)
 storedIn (refused n) = stored 0 []
 
-abbrev pub nothing : Refusal → Loaded
-nothing r = record { verdict = verdict.Refused r; network = stored 0 [] }
+-- the answer where a file is refused
+abbrev pub noNetwork : Refusal → Loaded
+noNetwork r = record { verdict = verdicts.Refused r; network = stored 0 [] }
 
 -- the answer of the file's reader
 pub record Reads (o : Outcome Topology) (r : Loaded) : Type 0 where

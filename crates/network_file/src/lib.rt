@@ -15,7 +15,7 @@ ghost use Rattle.refusals.specs.Refusals.{given, pass};
 ghost use Rattle.network.specs.Checks.{networkCheck};
 ghost use Rattle.records.specs.Layout.{noField};
 ghost use Rattle.network_file.specs.Fields.{linkLayout, valuesOf, linkOf};
-ghost use Rattle.network_file.specs.Reading.{readLink, readLinks, readNetwork, linkRead, nothing, Reads, within};
+ghost use Rattle.network_file.specs.Reading.{readLink, readLinks, readNetwork, linkRead, noNetwork, Reads, within};
 ghost use Rattle.network_file.specs.Writing.{linkBytes, linksBytes, imageOf, Writable, Writes};
 
 // What a link record says: the link and the length used, or the refusal.
@@ -126,7 +126,7 @@ fn no_links() -> [Link; 32]
 }
 
 fn refused(refusal: Refusal) -> Loaded
-    ensures { λ r. ⌜ r ≡ nothing refusal ⌝ }
+    ensures { λ r. ⌜ r ≡ noNetwork refusal ⌝ }
 {
     let links = no_links();
     Loaded {

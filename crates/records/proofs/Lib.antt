@@ -3,5 +3,5 @@ pub mod Sizes
 mod Turns
 mod Cases
 mod Pieces
-mod Maps
+pub mod Maps
 pub mod OneRecord
