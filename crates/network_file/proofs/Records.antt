@@ -9,23 +9,23 @@ use lib.ListN.{getD}
 use Rattle.places.specs.Places.{firsts}
 use Rattle.places.proofs.Firsts.{getD-firsts}
 use Rattle.refusals.specs.Refusals.{Outcome, given, refused, orElse, refusalNumber, ruling}
-use Rattle.refusals.specs.declared.Verdict.{Verdict}
-use Rattle.refusals.specs.declared.Verdict.the-variants.{Passed, Refused}
 use Rattle.refusals.specs.declared.Refusal.{Refusal}
+use Rattle.refusals.specs.declared.Verdict.the-variants.{Passed, Refused}
+use Rattle.refusals.specs.declared.Verdict.{Verdict}
 use Rattle.refusals.proofs.Refusals.{refused-is, given-is}
-use Rattle.network.specs.declared.Link.{Link}
-use Rattle.words.proofs.Bits.{bit-high}
 use Rattle.words.proofs.Words.{word-below}
+use Rattle.words.proofs.Bits.{bit-high}
 use Rattle.network.specs.Checks.{linkCheck}
-use Rattle.records.specs.declared.Record.{Record}
+use Rattle.network.specs.declared.Link.{Link}
+use Rattle.records.specs.Layout.{noField, isBit, isLayout, Laid, Fits}
 use Rattle.records.specs.declared.Field.{Field}
 use Rattle.records.specs.Reading.{strayBits, Said, readRecord, saidIn, Told}
-use Rattle.records.specs.Layout.{noField, isBit, isLayout, Laid, Fits}
-use Rattle.records.proofs.Layouts.{fits-at}
-use Rattle.records.proofs.Maps.{none-stray, stray-none}
+use Rattle.records.specs.declared.Record.{Record}
 use Rattle.records.proofs.OneRecord.{Whole, record-only}
-use Rattle.network_file.specs.Fields.{linkLayout, valuesOf, linkOf}
+use Rattle.records.proofs.Maps.{none-stray, stray-none}
+use Rattle.records.proofs.Layouts.{fits-at}
 use Rattle.network_file.specs.Reading.{readLink}
+use Rattle.network_file.specs.Fields.{linkLayout, valuesOf, linkOf}
 
 pub link-layout : isLayout linkLayout ≡ true
 unfolding isLayout isBit linkLayout

@@ -11,12 +11,12 @@ use Rattle.refusals.specs.declared.Refusal.{Refusal}
 use Rattle.refusals.specs.declared.Verdict.the-variants as verdicts
 use Rattle.numbers.specs.Numbers.{numberIn}
 use Rattle.network.specs.Checks.{badCount, badCycle, linkCheck}
-use Rattle.network.specs.declared.Link.{Link}
-use Rattle.network.specs.declared.Network.{Network}
 use Rattle.network.specs.Network.{Topology, noLink}
+use Rattle.network.specs.declared.Network.{Network}
+use Rattle.network.specs.declared.Link.{Link}
 use Rattle.records.specs.Reading.{readRecord}
-use Rattle.network_file.specs.Fields.{linkLayout, linkOf}
 use Rattle.network_file.specs.declared.Loaded.{Loaded}
+use Rattle.network_file.specs.Fields.{linkLayout, linkOf}
 use Rattle.network_file.specs.declared.LinkRecord.the-variants.{Fields, Refused}
 use Rattle.network_file.specs.declared.LinkRecord.{LinkRecord}
 

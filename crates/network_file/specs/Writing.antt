@@ -2,17 +2,17 @@
 use mathlib.Core.Path.{_≡_}
 use mathlib.Core.List.{List, [], _∷_, _++_}
 use Prim.Native.Nat.{ℕ, _≤_}
-use lib.ListN.{length, drop}
 use lib.Dec.{ltb}
+use lib.ListN.{length, drop}
 use Rattle.refusals.specs.Refusals.{Outcome, given, refused, pass, refuseIf, orElse, refusalNumber}
 use Rattle.numbers.specs.Numbers.{bytesOf}
-use Rattle.network.specs.Network.{Topology, topologyOf}
 use Rattle.network.specs.declared.Network.{Network}
+use Rattle.network.specs.Network.{Topology, topologyOf}
 use Rattle.network.specs.declared.Link.{Link}
 use Rattle.network.specs.Checks.{networkCheck}
 use Rattle.records.specs.Writing.{recordOf}
-use Rattle.network_file.specs.Fields.{linkLayout, valuesOf}
 use Rattle.network_file.specs.declared.Written.the-variants.{Length, Refused}
+use Rattle.network_file.specs.Fields.{linkLayout, valuesOf}
 use Rattle.network_file.specs.declared.Written.{Written}
 
 -- "A record is a bit map byte, then only the fields whose bit stands"

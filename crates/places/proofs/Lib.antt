@@ -1,3 +1,4 @@
 pub mod Firsts
 pub mod Parts
 pub mod Puts
+pub mod Pieces

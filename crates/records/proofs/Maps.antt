@@ -5,16 +5,16 @@ use mathlib.Core.List.{List, [], _∷_}
 use Prim.Native.Nat.{ℕ, _^_, _<_, _≤_}
 use native.Mathlib.Omega.{arith}
 use borrow.Author.Tests.{eq-eqb, ne-eqb, eqb-true}
-use lib.ListN.{getD, drop}
 use lib.Dec.{eqb}
+use lib.ListN.{getD, drop}
 use Rattle.trellis.specs.Answer.{pick}
 use Rattle.words.specs.Word.{bitOf, withBit, withoutBit}
-use Rattle.words.proofs.Words.{word-lt, word-ext}
 use Rattle.words.proofs.Bits.{bit-zero}
+use Rattle.words.proofs.Words.{word-lt, word-ext}
 use Rattle.words.proofs.Frames.{bit-with, bit-without, with-lt}
-use Rattle.records.specs.Layout.{isBit, isLayout, stands}
 use Rattle.records.specs.Reading.{strayBits}
 use Rattle.records.specs.declared.Field.{Field}
+use Rattle.records.specs.Layout.{isBit, isLayout, stands}
 use Rattle.records.specs.Writing.{isWritten, mapWith}
 use Rattle.records.proofs.Layouts.{Leads, leads}
 

@@ -3,26 +3,26 @@ use mathlib.Core.Path.{_≡_, refl, sym, ap, ap₂, _∙_}
 use mathlib.Core.Bool.{Bool, true, false, not, _&&_, not-and-self}
 use mathlib.Core.List.{List, [], _∷_, _++_, append-assoc}
 use Prim.Native.Nat.{ℕ, suc, _+_, _*_, _^_, _<_, _≤_}
-use native.Mathlib.Numerals.{one-add}
 use native.Mathlib.Omega.{arith}
+use native.Mathlib.Numerals.{one-add}
 use borrow.Author.Tests.{le-ltb, eq-eqb, ne-eqb, ltb-false, eqb-true, not-false}
+use lib.Seq.{take-add, drop-at}
 use lib.Dec.{eqb, ltb}
 use lib.ListN.{length, getD, drop, take, length-append, length-drop}
-use lib.Seq.{take-add, drop-at}
 use Rattle.trellis.specs.Answer.{pick}
 use Rattle.trellis.proofs.Count.{or-false}
 use Rattle.refusals.specs.Refusals.{Outcome, given, refuseIf, orElse}
 use Rattle.refusals.proofs.Refusals.{past}
 use Rattle.numbers.specs.Numbers.{numberIn, bytesOf, IsBytes}
-use Rattle.numbers.proofs.Trip.{number-bytes, bytes-number, bytes-drop, bytes-cons, bytes-none, bytes-append, bytes-of}
 use Rattle.numbers.proofs.Laws.{number-bound}
+use Rattle.numbers.proofs.Trip.{number-bytes, bytes-number, bytes-drop, bytes-cons, bytes-none, bytes-append, bytes-of}
 use Rattle.records.specs.Reading.{sizeIn, needed, valueIn, valuesIn, strayBits, restated, Said, readMapped, readRecord, saidIn}
 use Rattle.records.specs.declared.Field.{Field}
 use Rattle.records.specs.Writing.{isWritten, mapWith, fieldOf, bodyOf, recordOf}
 use Rattle.records.specs.Layout.{isLayout, stands, Fits, fits-none, fits-more}
-use Rattle.records.proofs.Sizes.{size-some, size-none, field-some, field-none, length-some, length-none}
 use Rattle.records.proofs.Maps.{Agrees, agrees-none, agrees-more, map-low, map-agrees, map-own, map-only}
 use Rattle.records.proofs.Layouts.{Leads, leads}
+use Rattle.records.proofs.Sizes.{size-some, size-none, field-some, field-none, length-some, length-none}
 
 -- ---- written, then read
 -- a field takes the bytes that it is written in

@@ -1,25 +1,26 @@
 -- Writing: the turns of each loop over the fields, and the record that they make. Assumes nothing.
 use mathlib.Core.Path.{_≡_, refl, sym, ap, _∙_}
 use mathlib.Core.Bool.{Bool, true, false, not}
-use mathlib.Core.List.{List, [], _∷_, _++_, append-assoc, append-nil}
+use mathlib.Core.List.{List, [], _∷_, _++_}
 use Prim.Native.Nat.{ℕ, _+_, _*_, _-_, _^_, _<_, _≤_}
-use native.Mathlib.Omega.{arith}
 use native.Mathlib.Nat.{add-zero}
+use native.Mathlib.Omega.{arith}
 use borrow.Rule.Slice.PartMut.{putMid}
 use lib.Dec.{eqb}
-use lib.ListN.{length, getD, drop, take, set, length-append, length-set}
+use lib.ListN.{length, getD, drop, take, set, length-set}
 use Rattle.trellis.specs.Answer.{pick}
-use Rattle.places.specs.Places.{firsts}
 use Rattle.places.specs.Put.{putAt}
+use Rattle.places.specs.Places.{firsts}
+use Rattle.places.proofs.Puts.{Grown, grow, put-length, put-nil, put-part, put-set, put-zero}
 use Rattle.places.proofs.Firsts.{next-first, no-first}
-use Rattle.places.proofs.Puts.{Grown, grow, grown-none, put-length, put-nil, put-part, put-set, put-zero}
+use Rattle.places.proofs.Pieces.{Pieces}
 use Rattle.numbers.specs.Numbers.{bytesOf}
 use Rattle.numbers.proofs.Laws.{length-bytes}
 use Rattle.words.specs.Word.{withBit}
 use Rattle.words.proofs.Frames.{with-lt}
+use Rattle.records.specs.Layout.{noField, Laid}
 use Rattle.records.specs.declared.Field.{Field}
 use Rattle.records.specs.Writing.{isWritten, mapWith, fieldOf, bodyOf, recordOf}
-use Rattle.records.specs.Layout.{noField, Laid}
 use Rattle.records.proofs.Sizes.{field-some, field-none, length-some, length-none, length-small, body-none, body-more}
 use Rattle.records.proofs.Layouts.{laid-at}
 
@@ -55,6 +56,13 @@ module _ (f : Field) (v : ℕ) (b : Bool) (eb : b ≡ isWritten f v) where
           (ap (λ (k : ℕ). at + k) (some-long h), rw (field-some f v (sym eb ∙ h)) (put-part at (bytesOf (f .size) v) d p l (e ∙ rw (length-bytes (f .size) v))))
 
 -- ---- the map byte
+-- the bytes of field j, and of the fields from j on
+abbrev pub fieldAt : List Field → List ℕ → ℕ → List ℕ
+fieldAt fields values j = fieldOf (getD fields j noField) (getD values j 0)
+
+abbrev pub fieldsFrom : List Field → ℕ → List ℕ → ℕ → List ℕ
+fieldsFrom fields n values j = bodyOf (drop j (firsts n fields noField)) (drop j (firsts n values 0))
+
 module _ (fields : List Field) (n : ℕ) (values : List ℕ) where
   abbrev fs : List Field
   fs = firsts n fields noField
@@ -90,63 +98,18 @@ module _ (fields : List Field) (n : ℕ) (values : List ℕ) where
   more-body : (j : ℕ) → j < n → bodyOf (drop j fs) (drop j vs) ≡ fieldOf (getD fields j noField) (getD values j 0) ++ bodyOf (drop (j + 1) fs) (drop (j + 1) vs)
   more-body j h = rw (next-first n j fields noField h, next-first n j values 0 h) (body-more (getD fields j noField) (drop (j + 1) fs) (getD values j 0) (drop (j + 1) vs))
 
-  more-long : (j : ℕ) → j < n → length (bodyOf (drop j fs) (drop j vs)) ≡ length (fieldOf (getD fields j noField) (getD values j 0)) + length (bodyOf (drop (j + 1) fs) (drop (j + 1) vs))
-  more-long j h = ap length (more-body j h) ∙ length-append (fieldOf (getD fields j noField) (getD values j 0)) (bodyOf (drop (j + 1) fs) (drop (j + 1) vs))
-
   end-body : (j : ℕ) → n ≤ j → bodyOf (drop j fs) (drop j vs) ≡ []
   end-body j h = rw (no-first n j fields noField h) (body-none (drop j vs))
 
-  pub record Measured (total j : ℕ) : Type 0 where
-    pub within : j ≤ n
-    pub sum : total + length (bodyOf (drop j fs) (drop j vs)) ≡ length (recordOf fs vs)
-    pub small : total ≤ 1 + 8 * j
+  pub fields-pieces : Pieces n (fieldAt fields values) (fieldsFrom fields n values)
+  fields-pieces = record { more = more-body; end = end-body }
 
-  pub none-measured : Measured 1 0
+  pub field-small : (j r : ℕ) → Laid fields n → j < n → r ≡ length (fieldAt fields values j) → r ≤ 8
+  field-small j r l h e = omega (arith, length-small (getD fields j noField) (getD values j 0) (laid-at fields n j l h .small))
+
+  pub record-measured : (total : ℕ) → Laid fields n → (total ≡ 1 + length (fieldsFrom fields n values 0)) × (total ≤ 1 + 8 * n) → (total ≡ length (recordOf fs vs)) × (total ≤ 65)
   unfolding recordOf
-  none-measured = record { within = omega arith; sum = omega arith; small = omega arith }
-
-  pub one-measured : (total j r : ℕ) → Laid fields n → Measured total j → j < n → r ≡ length (fieldOf (getD fields j noField) (getD values j 0)) → Measured (total + r) (j + 1)
-  one-measured total j r l m h e = record {
-    within = omega arith;
-    sum = omega (arith, m .sum, more-long j h);
-    small = omega (arith, m .small, length-small (getD fields j noField) (getD values j 0) (laid-at fields n j l h .small));
-  }
-
-  pub all-measured : (total j : ℕ) → Laid fields n → Measured total j → n ≤ j → (total ≡ length (recordOf fs vs)) × (total ≤ 65)
-  all-measured total j l m h = (omega (arith, m .sum, ap length (end-body j h)), omega (arith, m .small, m .within, l .few))
-
-  pub record Placed (buffer₀ buffer : List ℕ) (at j : ℕ) : Type 0 where
-    pub within : j ≤ n
-    pub done : List ℕ
-    pub whole : bodyOf fs vs ≡ done ++ bodyOf (drop j fs) (drop j vs)
-    pub grown : Grown 1 buffer₀ done buffer at
-
-  module _ (buffer₀ : List ℕ) (room : 1 + length (bodyOf fs vs) ≤ length buffer₀) where
-    pub none-placed : Placed buffer₀ buffer₀ 1 0
-    none-placed = record { within = omega arith; done = []; whole = refl; grown = grown-none 1 buffer₀ (omega arith) }
-
-    module _ (buffer : List ℕ) (at j : ℕ) (p : Placed buffer₀ buffer at j) where
-      module _ (h : j < n) where
-        fits : at + length (fieldOf (getD fields j noField) (getD values j 0)) ≤ length buffer₀
-        fits = omega (arith, ap length (p .whole), length-append (p .done) (bodyOf (drop j fs) (drop j vs)), more-long j h, p .grown .next)
-
-        pub field-room : at + length (fieldOf (getD fields j noField) (getD values j 0)) ≤ length buffer
-        field-room = omega (arith, fits, p .grown .long)
-
-        pub one-placed : (r : ℕ) (b : List ℕ) → (r ≡ at + length (fieldOf (getD fields j noField) (getD values j 0))) × (b ≡ putAt at (fieldOf (getD fields j noField) (getD values j 0)) buffer) → Placed buffer₀ b r (j + 1)
-        one-placed r b e =
-            let y : List ℕ = fieldOf (getD fields j noField) (getD values j 0) in
-            record {
-              within = omega arith;
-              done = p .done ++ y;
-              whole = p .whole ∙ rw (more-body j h) (sym (append-assoc (p .done) y (bodyOf (drop (j + 1) fs) (drop (j + 1) vs))));
-              grown = grow 1 buffer₀ (p .done) buffer at (p .grown) y b r fits (e .1) (e .0);
-            }
-
-      pub all-placed : n ≤ j → (at ≡ 1 + length (bodyOf fs vs)) × (buffer ≡ putAt 1 (bodyOf fs vs) buffer₀)
-      all-placed h =
-          let e : bodyOf fs vs ≡ p .done = p .whole ∙ rw (end-body j h) (append-nil (p .done)) in
-          (rw e (p .grown .next), rw e (p .grown .holds))
+  record-measured total l e = (omega (arith, e .0), omega (arith, e .1, l .few))
 
   -- ---- the whole record
   module _ (rest : List ℕ) (room : length (recordOf fs vs) ≤ length rest) (map : ℕ) (em : map ≡ mapWith fs 0 vs) where

@@ -13,8 +13,8 @@ use Rattle.places.proofs.Firsts.{next-first, no-first, firsts-more}
 use Rattle.numbers.specs.Numbers.{numberIn}
 use Rattle.words.specs.Word.{bitOf, withoutBit}
 use Rattle.records.specs.declared.Field.{Field}
-use Rattle.records.specs.Reading.{sizeIn, needed, valueIn, valuesIn, strayBits, restated}
 use Rattle.records.specs.Layout.{noField, Laid, stands}
+use Rattle.records.specs.Reading.{sizeIn, needed, valueIn, valuesIn, strayBits, restated}
 use Rattle.records.proofs.Sizes.{size-small, needed-none, needed-more}
 use Rattle.records.proofs.Layouts.{laid-at}
 

@@ -2,8 +2,8 @@
 use mathlib.Core.Bool.{Bool, not}
 use mathlib.Core.List.{List, [], _∷_, _++_}
 use Prim.Native.Nat.{ℕ}
-use lib.ListN.{getD, drop}
 use lib.Dec.{eqb}
+use lib.ListN.{getD, drop}
 use Rattle.trellis.specs.Answer.{pick}
 use Rattle.numbers.specs.Numbers.{bytesOf}
 use Rattle.words.specs.Word.{withBit}

@@ -3,9 +3,9 @@ use mathlib.Core.Path.{refl}
 use Prim.Native.Nat.{_-_}
 use native.Mathlib.Omega.{arith}
 use borrow.Author.Needs.{needs}
+use Rattle.network_file.proofs.read_links.Tie as tie
 use Rattle.network_file.proofs.Files.{Gone, none-gone, one-refused, used-room, one-gone, bytes-follow, all-gone}
 use Rattle.network_file.proofs.read_links.Statement.{statement}
-use Rattle.network_file.proofs.read_links.Tie as tie
 
 abbrev Inv-loop : tie.InvT-loop
 Inv-loop records ticks count links₀ at₀ i₀ links at i = Gone ticks count records links at i

@@ -2,9 +2,9 @@
 use mathlib.Core.Path.{refl}
 use native.Mathlib.Omega.{arith}
 use borrow.Author.Needs.{needs}
-use Rattle.network_file.proofs.Files.{file-short, count-bad, ticks-small, cycle-bad, count-good, head-good}
-use Rattle.network_file.proofs.read_network.Statement.{statement}
 use Rattle.network_file.proofs.read_network.Tie as tie
+use Rattle.network_file.proofs.read_network.Statement.{statement}
+use Rattle.network_file.proofs.Files.{file-short, count-bad, ticks-small, cycle-bad, count-good, head-good}
 
 refused-requires : tie.Need-refused-requires
 refused-requires c κs = search needs

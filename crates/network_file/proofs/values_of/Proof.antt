@@ -3,8 +3,8 @@ use mathlib.Core.Path.{refl}
 use borrow.Author.Needs.{needs}
 use Rattle.places.specs.Places.{firsts}
 use Rattle.network_file.specs.Fields.{valuesOf}
-use Rattle.network_file.proofs.values_of.Tie as tie
 use Rattle.network_file.proofs.values_of.Statement.{statement}
+use Rattle.network_file.proofs.values_of.Tie as tie
 
 cast-t2 : tie.Need-cast-t2
 cast-t2 c = search needs

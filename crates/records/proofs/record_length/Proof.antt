@@ -2,18 +2,19 @@
 use Prim.Native.Nat.{_-_}
 use native.Mathlib.Omega.{arith}
 use borrow.Author.Needs.{needs}
-use Rattle.records.proofs.Pieces.{Measured, none-measured, one-measured, all-measured}
-use Rattle.records.proofs.record_length.Tie as tie
+use Rattle.places.proofs.Pieces.{Measured, none-measured, one-measured, all-measured}
+use Rattle.records.proofs.Pieces.{fieldsFrom, fields-pieces, field-small, record-measured}
 use Rattle.records.proofs.record_length.Statement.{statement}
+use Rattle.records.proofs.record_length.Tie as tie
 
 abbrev Inv-loop : tie.InvT-loop
-Inv-loop n values fields total₀ j₀ total j = Measured fields n values total j
+Inv-loop n values fields total₀ j₀ total j = Measured n (fieldsFrom fields n values) 1 8 total j
 
 abbrev μ-loop : tie.MeasureT-loop
 μ-loop n values fields total₀ j₀ total j = n - j
 
 loop-holds : tie.Need-loop-holds Inv-loop μ-loop
-loop-holds c = none-measured _ _ _
+loop-holds c = none-measured _ _ _ _
 
 mul-field : tie.Need-mul-field Inv-loop μ-loop
 mul-field c = omega (arith, c .before .before .pre .few)
@@ -31,7 +32,10 @@ field-length-requires : tie.Need-field-length-requires Inv-loop μ-loop
 field-length-requires c κs = search needs
 
 add-total : tie.Need-add-total Inv-loop μ-loop
-add-total c = omega (arith, one-measured _ _ _ _ _ _ (c .before .before .before .before .pre) (c .before .before .before .loop .inv) (c .before .before .loop-test .taken) (c .field-length .ensures) .small, c .before .before .before .before .pre .few)
+add-total c =
+    let l = c .before .before .before .before in
+    let small = field-small (l .args .t2) (l .args .n) (l .args .t1) (c .before .before .before .loop .j) _ (l .pre) (c .before .before .loop-test .taken) (c .field-length .ensures) in
+    omega (arith, c .before .before .before .loop .inv .small, small, l .pre .few)
 
 add-j : tie.Need-add-j Inv-loop μ-loop
 add-j c = omega (arith, c .before .before .before .before .pre .few)
@@ -40,10 +44,13 @@ loop-less : tie.Need-loop-less Inv-loop μ-loop
 loop-less c = omega arith
 
 loop-again : tie.Need-loop-again Inv-loop μ-loop
-loop-again c = one-measured _ _ _ _ _ _ (c .before .before .before .before .pre) (c .before .before .before .loop .inv) (c .before .before .loop-test .taken) (c .field-length .ensures)
+loop-again c =
+    let l = c .before .before .before .before in
+    let small = field-small (l .args .t2) (l .args .n) (l .args .t1) (c .before .before .before .loop .j) _ (l .pre) (c .before .before .loop-test .taken) (c .field-length .ensures) in
+    one-measured _ _ _ (fields-pieces _ _ _) _ _ _ _ _ (c .before .before .before .loop .inv) (c .before .before .loop-test .taken) (c .field-length .ensures) small
 
 returns : tie.Need-returns Inv-loop μ-loop
-returns c = all-measured _ _ _ _ _ (c .before .before .pre) (c .before .loop .inv) (c .loop-test .left)
+returns c = record-measured _ _ _ _ (c .before .before .pre) (all-measured _ _ _ (fields-pieces _ _ _) _ _ _ _ (c .before .loop .inv) (c .loop-test .left))
 
 pub record-length-spec : {M : Type 1} → statement M
 record-length-spec =
