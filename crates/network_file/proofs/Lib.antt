@@ -3,4 +3,5 @@ pub mod Files
 pub mod Images
 pub mod Inverse
 pub mod RoundTrip
+pub mod Longest
 pub mod Worked

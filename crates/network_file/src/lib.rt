@@ -262,7 +262,8 @@ fn write_passed(network: Network, buffer: &mut [u8]) -> Written
     Written::Length(length)
 }
 
-// A network's file at the start of a buffer, and its length. A refused call leaves the buffer as it is.
+// A network's file at the start of a buffer, and its length. A refused call leaves the buffer as it is. A buffer of 355 bytes serves for every
+// network (`image-bound`).
 pub fn write_network(network: Network, buffer: &mut [u8]) -> Written
     ensures { λ r. ⌜ Writes (topologyOf network) (now (buffer .entry)) (now (buffer .exit)) r ⌝ }
 {

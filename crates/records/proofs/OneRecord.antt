@@ -19,6 +19,7 @@ use Rattle.numbers.proofs.Trip.{number-bytes, bytes-number, bytes-drop, bytes-c
 use Rattle.records.specs.Reading.{sizeIn, needed, valueIn, valuesIn, strayBits, restated, Said, readMapped, readRecord, saidIn}
 use Rattle.records.specs.declared.Field.{Field}
 use Rattle.records.specs.Writing.{isWritten, mapWith, fieldOf, bodyOf, recordOf}
+use Rattle.records.specs.OneRecord.{OneRecord}
 use Rattle.records.specs.Layout.{isLayout, stands, Fits, fits-none, fits-more}
 use Rattle.records.proofs.Maps.{Agrees, agrees-none, agrees-more, map-low, map-agrees, map-own, map-only}
 use Rattle.records.proofs.Layouts.{Leads, leads}
@@ -192,3 +193,15 @@ body-bytes (f ∷ fs) vs = bytes-append (fieldOf f (getD vs 0 0)) (bodyOf fs (dr
 pub record-bytes : (fs : List Field) (vs : List ℕ) → isLayout fs ≡ true → IsBytes (recordOf fs vs)
 unfolding recordOf
 record-bytes fs vs l = bytes-cons (mapWith fs 0 vs) (bodyOf fs vs) (map-low fs 0 vs l (omega arith)) (body-bytes fs vs)
+
+-- FOR ANY LAYOUT, VALUES THAT FIT IN THEIR FIELDS HAVE EXACTLY ONE RECORD
+pub one-record : (fs : List Field) (vs : List ℕ) → isLayout fs ≡ true → Fits fs vs → OneRecord fs vs
+one-record fs vs l h = record {
+  bytes = record-bytes fs vs l;
+  reads = λ rest. record-back fs vs rest l h;
+  only = λ s used b e. sym (record-only fs s (record { values = vs; used = used }) l b e .bytes);
+}
+
+-- AND WHAT IS READ FITS IN ITS FIELDS
+pub read-fits : (fs : List Field) (s : List ℕ) (x : Said) → isLayout fs ≡ true → IsBytes s → readRecord fs s ≡ given x → Fits fs (x .values)
+read-fits fs s x l b e = record-only fs s x l b e .fit

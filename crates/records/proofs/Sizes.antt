@@ -4,7 +4,7 @@ use mathlib.Core.Bool.{Bool, true, false}
 use mathlib.Core.List.{List, [], _∷_, _++_}
 use Prim.Native.Nat.{ℕ, _+_, _≤_}
 use native.Mathlib.Omega.{arith}
-use lib.ListN.{length, length-append}
+use lib.ListN.{length, getD, drop, length-append}
 use Rattle.trellis.specs.Answer.{pick}
 use Rattle.numbers.specs.Numbers.{bytesOf}
 use Rattle.numbers.proofs.Laws.{length-bytes}
@@ -51,13 +51,6 @@ length-some f v e = ap length (field-some f v e) ∙ length-bytes (f .size) v
 pub length-none : (f : Field) (v : ℕ) → isWritten f v ≡ false → length (fieldOf f v) ≡ 0
 length-none f v e = ap length (field-none f v e)
 
-pub length-small : (f : Field) (v : ℕ) → f .size ≤ 8 → length (fieldOf f v) ≤ 8
-length-small f v h = go (isWritten f v) refl
-  where
-    go : (b : Bool) → isWritten f v ≡ b → length (fieldOf f v) ≤ 8
-    go true e = omega (arith, length-some f v e)
-    go false e = omega (arith, length-none f v e)
-
 pub body-none : (vs : List ℕ) → bodyOf [] vs ≡ []
 unfolding bodyOf
 body-none vs = refl
@@ -68,3 +61,25 @@ body-more f fs v vs = refl
 
 pub length-more : (f : Field) (fs : List Field) (v : ℕ) (vs : List ℕ) → length (bodyOf (f ∷ fs) (v ∷ vs)) ≡ length (fieldOf f v) + length (bodyOf fs vs)
 length-more f fs v vs = ap length (body-more f fs v vs) ∙ length-append (fieldOf f v) (bodyOf fs vs)
+
+-- the bytes of all fields of a layout
+abbrev pub allBytes : List Field → ℕ
+allBytes [] = 0
+allBytes (f ∷ fs) = f .size + allBytes fs
+
+pub field-bound : (f : Field) (v : ℕ) → length (fieldOf f v) ≤ f .size
+field-bound f v = go (isWritten f v) refl
+  where
+    go : (b : Bool) → isWritten f v ≡ b → length (fieldOf f v) ≤ f .size
+    go true e = omega (arith, length-some f v e)
+    go false e = omega (arith, length-none f v e)
+
+pub length-small : (f : Field) (v : ℕ) → f .size ≤ 8 → length (fieldOf f v) ≤ 8
+length-small f v h = omega (arith, field-bound f v)
+
+pub body-bound : (fs : List Field) (vs : List ℕ) → length (bodyOf fs vs) ≤ allBytes fs
+unfolding bodyOf
+body-bound [] vs = omega arith
+body-bound (f ∷ fs) vs =
+    let v : ℕ = getD vs 0 0 in
+    omega (arith, length-append (fieldOf f v) (bodyOf fs (drop 1 vs)), field-bound f v, body-bound fs (drop 1 vs))

@@ -1,0 +1,35 @@
+-- The longest file of a network. Assumes nothing.
+use mathlib.Core.Path.{_≡_, ap, _∙_}
+use mathlib.Core.List.{List, [], _∷_}
+use Prim.Native.Nat.{ℕ, _*_, _≤_}
+use native.Mathlib.Omega.{arith}
+use lib.ListN.{length, length-append}
+use Rattle.refusals.specs.Refusals.{given, pass}
+use Rattle.numbers.specs.Numbers.{bytesOf}
+use Rattle.numbers.proofs.Laws.{length-bytes}
+use Rattle.network.specs.Network.{Topology}
+use Rattle.network.specs.Checks.{networkCheck}
+use Rattle.network.specs.declared.Link.{Link}
+use Rattle.network.proofs.Tests.{count-passed}
+use Rattle.network.proofs.Checks.{network-good}
+use Rattle.records.specs.Writing.{bodyOf, recordOf}
+use Rattle.records.proofs.Sizes.{allBytes, body-bound}
+use Rattle.network_file.specs.Fields.{linkLayout, valuesOf}
+use Rattle.network_file.specs.Writing.{linkBytes, linksBytes, imageOf}
+
+-- a map byte, and the bytes of all fields
+link-bound : (l : Link) → length (linkBytes l) ≤ 11
+unfolding linkBytes recordOf linkLayout
+link-bound l = omega (arith, body-bound linkLayout (valuesOf l))
+
+links-bound : (ls : List Link) → length (linksBytes ls) ≤ 11 * length ls
+unfolding linksBytes
+links-bound [] = omega arith
+links-bound (l ∷ ls) = omega (arith, length-append (linkBytes l) (linksBytes ls), link-bound l, links-bound ls)
+
+-- A BUFFER OF 355 BYTES SERVES FOR EVERY NETWORK
+pub image-bound : (t : Topology) → networkCheck t ≡ given pass → length (imageOf t) ≤ 355
+unfolding imageOf
+image-bound t e =
+    let c = count-passed (length (t .links)) (network-good t e .count) in
+    omega (arith, length-append (bytesOf 2 (t .ticks)) (length (t .links) ∷ linksBytes (t .links)), length-bytes 2 (t .ticks), links-bound (t .links), c .1)

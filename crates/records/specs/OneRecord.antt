@@ -1,0 +1,16 @@
+-- For any layout, values have exactly one record. Assumes nothing.
+use mathlib.Core.Path.{_≡_}
+use mathlib.Core.List.{List, _++_}
+use Prim.Native.Nat.{ℕ, _≤_}
+use lib.ListN.{length, take}
+use Rattle.refusals.specs.Refusals.{given}
+use Rattle.numbers.specs.Numbers.{IsBytes}
+use Rattle.records.specs.declared.Field.{Field}
+use Rattle.records.specs.Reading.{readRecord}
+use Rattle.records.specs.Writing.{recordOf}
+
+-- the record of some values reads as those values, whatever follows it, and bytes that read as them start with it
+pub record OneRecord (fs : List Field) (vs : List ℕ) : Type 0 where
+  pub bytes : IsBytes (recordOf fs vs)
+  pub reads : (rest : List ℕ) → readRecord fs (recordOf fs vs ++ rest) ≡ given (record { values = vs; used = length (recordOf fs vs) })
+  pub only : (s : List ℕ) (used : ℕ) → IsBytes s → readRecord fs s ≡ given (record { values = vs; used = used }) → take used s ≡ recordOf fs vs
