@@ -63,6 +63,7 @@ pub data Outcome (A : Type 0) : Type 0 where
 pub data Pass : Type 0 where
   pass : Pass
 
+-- what a check says: it passes, or refuses with its number
 abbrev pub Ruling : Type 0
 Ruling = Outcome Pass
 
