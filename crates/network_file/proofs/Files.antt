@@ -25,7 +25,7 @@ use Rattle.network.specs.Network.{Topology, noLink}
 use Rattle.network.specs.declared.Link.{Link}
 use Rattle.network.proofs.Tests.{count-passed}
 use Rattle.records.specs.Reading.{Said, readRecord}
-use Rattle.records.proofs.OneRecord.{Whole, record-only}
+use Rattle.records.proofs.ReadWrite.{Whole, record-only}
 use Rattle.network_file.specs.declared.Loaded.{Loaded}
 use Rattle.network_file.specs.Fields.{linkLayout, linkOf}
 use Rattle.network_file.specs.declared.LinkRecord.the-variants.{Fields, Refused}

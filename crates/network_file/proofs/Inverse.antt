@@ -23,7 +23,8 @@ use Rattle.network.proofs.Checks.{link-good, link-few, network-good, good-netwo
 use Rattle.network.proofs.Closed.{closed-below}
 use Rattle.records.specs.Writing.{recordOf}
 use Rattle.records.specs.Layout.{Fits, fits-none, fits-more}
-use Rattle.records.proofs.OneRecord.{Whole, record-back}
+use Rattle.records.proofs.WriteRead.{record-back}
+use Rattle.records.proofs.ReadWrite.{Whole}
 use Rattle.records.proofs.Layouts.{length-fits}
 use Rattle.network_file.specs.Reading.{Linked, readLink, readLinks, within, readNetwork}
 use Rattle.network_file.specs.Writing.{linkBytes, linksBytes, imageOf}

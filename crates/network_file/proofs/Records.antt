@@ -21,7 +21,7 @@ use Rattle.records.specs.Layout.{noField, isBit, isLayout, Laid, Fits}
 use Rattle.records.specs.declared.Field.{Field}
 use Rattle.records.specs.Reading.{strayBits, Said, readRecord, saidIn, Told}
 use Rattle.records.specs.declared.Record.{Record}
-use Rattle.records.proofs.OneRecord.{Whole, record-only}
+use Rattle.records.proofs.ReadWrite.{Whole, record-only}
 use Rattle.records.proofs.Maps.{none-stray, stray-none}
 use Rattle.records.proofs.Layouts.{fits-at}
 use Rattle.network_file.specs.Reading.{readLink}

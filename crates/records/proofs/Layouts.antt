@@ -5,8 +5,8 @@ use mathlib.Core.List.{List, [], _∷_}
 use Prim.Native.Nat.{ℕ, zero, suc, _+_, _*_, _^_, _<_, _≤_}
 use native.Mathlib.Nat.{not-suc-le-zero, le-of-suc-le-suc}
 use borrow.Author.Tests.{ltb-true, leb-true, not-true}
-use lib.Dec.{ltb, leb}
 use lib.ListN.{length, getD, drop}
+use lib.Dec.{ltb, leb}
 use Rattle.trellis.proofs.Count.{and-true}
 use Rattle.places.specs.Places.{firsts}
 use Rattle.places.proofs.Firsts.{next-first}

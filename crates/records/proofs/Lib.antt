@@ -4,4 +4,6 @@ mod Turns
 mod Cases
 mod Pieces
 pub mod Maps
+pub mod WriteRead
+pub mod ReadWrite
 pub mod OneRecord

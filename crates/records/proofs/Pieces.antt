@@ -3,8 +3,8 @@ use mathlib.Core.Path.{_≡_, refl, sym, ap, _∙_}
 use mathlib.Core.Bool.{Bool, true, false, not}
 use mathlib.Core.List.{List, [], _∷_, _++_}
 use Prim.Native.Nat.{ℕ, _+_, _*_, _-_, _^_, _<_, _≤_}
-use native.Mathlib.Nat.{add-zero}
 use native.Mathlib.Omega.{arith}
+use native.Mathlib.Nat.{add-zero}
 use borrow.Rule.Slice.PartMut.{putMid}
 use lib.Dec.{eqb}
 use lib.ListN.{length, getD, drop, take, set, length-set}
@@ -12,17 +12,17 @@ use Rattle.trellis.specs.Answer.{pick}
 use Rattle.places.specs.Put.{putAt}
 use Rattle.places.specs.Places.{firsts}
 use Rattle.places.proofs.Puts.{Grown, grow, put-length, put-nil, put-part, put-set, put-zero}
-use Rattle.places.proofs.Firsts.{next-first, no-first}
 use Rattle.places.proofs.Pieces.{Pieces}
+use Rattle.places.proofs.Firsts.{next-first, no-first}
 use Rattle.numbers.specs.Numbers.{bytesOf}
 use Rattle.numbers.proofs.Laws.{length-bytes}
 use Rattle.words.specs.Word.{withBit}
 use Rattle.words.proofs.Frames.{with-lt}
-use Rattle.records.specs.Layout.{noField, Laid}
-use Rattle.records.specs.declared.Field.{Field}
 use Rattle.records.specs.Writing.{isWritten, mapWith, fieldOf, bodyOf, recordOf}
-use Rattle.records.proofs.Sizes.{field-some, field-none, length-some, length-none, length-small, body-none, body-more}
+use Rattle.records.specs.declared.Field.{Field}
+use Rattle.records.specs.Layout.{noField, Laid}
 use Rattle.records.proofs.Layouts.{laid-at}
+use Rattle.records.proofs.Sizes.{field-some, field-none, length-some, length-none, length-small, body-none, body-more}
 
 -- ---- a field
 pub is-written : (f : Field) (v : ℕ) → not (eqb v (f .absent)) ≡ isWritten f v

@@ -8,10 +8,10 @@ use lib.ListN.{length, getD, drop, length-append}
 use Rattle.trellis.specs.Answer.{pick}
 use Rattle.numbers.specs.Numbers.{bytesOf}
 use Rattle.numbers.proofs.Laws.{length-bytes}
+use Rattle.records.specs.Reading.{sizeIn, needed}
 use Rattle.records.specs.Layout.{stands}
 use Rattle.records.specs.declared.Field.{Field}
 use Rattle.records.specs.Writing.{isWritten, fieldOf, bodyOf}
-use Rattle.records.specs.Reading.{sizeIn, needed}
 
 pub size-some : (map : ℕ) (f : Field) → stands map f ≡ true → sizeIn map f ≡ f .size
 unfolding sizeIn

@@ -8,12 +8,12 @@ use lib.Dec.{eqb}
 use lib.Seq.{drop-drop}
 use lib.ListN.{length, getD, drop, take, set, length-append, length-drop}
 use Rattle.places.specs.Places.{firsts}
-use Rattle.places.proofs.Parts.{part-rest}
 use Rattle.places.proofs.Firsts.{next-first, no-first, firsts-more}
+use Rattle.places.proofs.Parts.{part-rest}
 use Rattle.numbers.specs.Numbers.{numberIn}
 use Rattle.words.specs.Word.{bitOf, withoutBit}
-use Rattle.records.specs.declared.Field.{Field}
 use Rattle.records.specs.Layout.{noField, Laid, stands}
+use Rattle.records.specs.declared.Field.{Field}
 use Rattle.records.specs.Reading.{sizeIn, needed, valueIn, valuesIn, strayBits, restated}
 use Rattle.records.proofs.Sizes.{size-small, needed-none, needed-more}
 use Rattle.records.proofs.Layouts.{laid-at}

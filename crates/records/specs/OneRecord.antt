@@ -1,13 +1,13 @@
 -- For any layout, values have exactly one record. Assumes nothing.
 use mathlib.Core.Path.{_≡_}
 use mathlib.Core.List.{List, _++_}
-use Prim.Native.Nat.{ℕ, _≤_}
+use Prim.Native.Nat.{ℕ}
 use lib.ListN.{length, take}
 use Rattle.refusals.specs.Refusals.{given}
 use Rattle.numbers.specs.Numbers.{IsBytes}
 use Rattle.records.specs.declared.Field.{Field}
-use Rattle.records.specs.Reading.{readRecord}
 use Rattle.records.specs.Writing.{recordOf}
+use Rattle.records.specs.Reading.{readRecord}
 
 -- the record of some values reads as those values, whatever follows it, and bytes that read as them start with it
 pub record OneRecord (fs : List Field) (vs : List ℕ) : Type 0 where

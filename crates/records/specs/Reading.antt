@@ -3,18 +3,18 @@ use mathlib.Core.Path.{_≡_}
 use mathlib.Core.Bool.{Bool, false, not, _&&_, _||_}
 use mathlib.Core.List.{List, [], _∷_}
 use Prim.Native.Nat.{ℕ, _+_}
-use lib.ListN.{length, getD, drop}
 use lib.Dec.{eqb, ltb}
+use lib.ListN.{length, getD, drop}
 use Rattle.trellis.specs.Answer.{pick}
 use Rattle.places.specs.Places.{firsts}
 use Rattle.refusals.specs.declared.Verdict.the-variants.{Refused}
-use Rattle.refusals.specs.Refusals.{Outcome, given, refused, refuseIf, orElse, ruling, rulingOf, givenOr}
 use Rattle.refusals.specs.declared.Refusal.{Refusal}
+use Rattle.refusals.specs.Refusals.{Outcome, given, refused, refuseIf, orElse, ruling, rulingOf, givenOr}
 use Rattle.numbers.specs.Numbers.{numberIn}
 use Rattle.words.specs.Word.{withoutBit}
 use Rattle.records.specs.Layout.{stands}
-use Rattle.records.specs.declared.Record.{Record}
 use Rattle.records.specs.declared.Field.{Field}
+use Rattle.records.specs.declared.Record.{Record}
 
 -- the bytes that a field takes under a map byte
 unfoldable pub sizeIn : ℕ → Field → ℕ

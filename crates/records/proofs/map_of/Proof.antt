@@ -2,9 +2,9 @@
 use Prim.Native.Nat.{_-_}
 use native.Mathlib.Omega.{arith}
 use Rattle.records.proofs.Pieces.{Mapped, none-mapped, one-mapped, all-mapped}
-use Rattle.records.proofs.Layouts.{laid-at}
-use Rattle.records.proofs.map_of.Statement.{statement}
 use Rattle.records.proofs.map_of.Tie as tie
+use Rattle.records.proofs.map_of.Statement.{statement}
+use Rattle.records.proofs.Layouts.{laid-at}
 
 abbrev Inv-loop : tie.InvT-loop
 Inv-loop n values fields map₀ j₀ map j = Mapped fields n values map j

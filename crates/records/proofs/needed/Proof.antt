@@ -1,10 +1,10 @@
 -- `records::needed` meets its contract. Assumes nothing.
 use Prim.Native.Nat.{_-_}
 use native.Mathlib.Omega.{arith}
-use Rattle.records.proofs.needed.Statement.{statement}
-use Rattle.records.proofs.Layouts.{laid-at}
 use Rattle.records.proofs.Turns.{Added, none-added, one-added, all-added}
+use Rattle.records.proofs.needed.Statement.{statement}
 use Rattle.records.proofs.needed.Tie as tie
+use Rattle.records.proofs.Layouts.{laid-at}
 
 abbrev Inv-loop : tie.InvT-loop
 Inv-loop map n fields total₀ j₀ total j = Added fields n map total j

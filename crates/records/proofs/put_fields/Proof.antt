@@ -2,9 +2,9 @@
 use Prim.Native.Nat.{_-_}
 use native.Mathlib.Omega.{arith}
 use Rattle.places.proofs.Pieces.{Placed, none-placed, piece-room, one-placed, all-placed}
+use Rattle.records.proofs.put_fields.Statement.{statement}
 use Rattle.records.proofs.Pieces.{fieldsFrom, fields-pieces}
 use Rattle.records.proofs.put_fields.Tie as tie
-use Rattle.records.proofs.put_fields.Statement.{statement}
 
 abbrev Inv-loop : tie.InvT-loop
 Inv-loop buffer₀ n values fields at₀ j₀ buffer at j = Placed n (fieldsFrom fields n values) 1 buffer₀ buffer at j

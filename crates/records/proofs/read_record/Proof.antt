@@ -3,9 +3,9 @@ use mathlib.Core.Path.{refl, ap}
 use Prim.Native.Nat.{ℕ, _+_}
 use native.Mathlib.Omega.{arith}
 use borrow.Author.Needs.{needs}
+use Rattle.records.proofs.read_record.Statement.{statement}
 use Rattle.records.proofs.read_record.Tie as tie
 use Rattle.records.proofs.Cases.{none-left, too-short, stray, again, said}
-use Rattle.records.proofs.read_record.Statement.{statement}
 
 refused-requires : tie.Need-refused-requires
 refused-requires c κs = search needs

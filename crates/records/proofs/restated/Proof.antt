@@ -3,8 +3,8 @@ use Prim.Native.Nat.{_-_}
 use native.Mathlib.Omega.{arith}
 use Rattle.records.proofs.restated.Tie as tie
 use Rattle.records.proofs.Turns.{Unstated, none-unstated, one-restated, one-unstated, all-unstated}
-use Rattle.records.proofs.Layouts.{laid-at}
 use Rattle.records.proofs.restated.Statement.{statement}
+use Rattle.records.proofs.Layouts.{laid-at}
 
 abbrev Inv-loop : tie.InvT-loop
 Inv-loop map n values fields i₀ i = Unstated fields n map values i

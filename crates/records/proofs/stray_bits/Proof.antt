@@ -2,8 +2,8 @@
 use Prim.Native.Nat.{_-_}
 use native.Mathlib.Omega.{arith}
 use Rattle.records.proofs.Turns.{Cleared, none-cleared, one-cleared, all-cleared}
-use Rattle.records.proofs.stray_bits.Statement.{statement}
 use Rattle.records.proofs.stray_bits.Tie as tie
+use Rattle.records.proofs.stray_bits.Statement.{statement}
 use Rattle.records.proofs.Layouts.{laid-at}
 
 abbrev Inv-loop : tie.InvT-loop

@@ -3,10 +3,10 @@ use mathlib.Core.List.{[]}
 use Prim.Native.Nat.{_-_}
 use native.Mathlib.Omega.{arith}
 use Rattle.places.proofs.Firsts.{firsts-filled}
-use Rattle.records.proofs.values_in.Tie as tie
 use Rattle.records.proofs.Turns.{Taken, none-taken, at-room, part-room, one-taken, all-taken}
-use Rattle.records.proofs.Layouts.{laid-at}
+use Rattle.records.proofs.values_in.Tie as tie
 use Rattle.records.proofs.values_in.Statement.{statement}
+use Rattle.records.proofs.Layouts.{laid-at}
 
 abbrev Inv-loop : tie.InvT-loop
 Inv-loop rest map n fields values₀ at₀ j₀ values at j = Taken fields n map rest values at j

@@ -1,7 +1,7 @@
 -- `records::write_record` meets its contract. Assumes nothing.
 use borrow.Author.Needs.{needs}
-use Rattle.records.proofs.Pieces.{some-byte, body-room, record-put, record-long}
 use Rattle.records.proofs.write_record.Statement.{statement}
+use Rattle.records.proofs.Pieces.{some-byte, body-room, record-put, record-long}
 use Rattle.records.proofs.write_record.Tie as tie
 
 map-of-requires : tie.Need-map-of-requires
