@@ -3,34 +3,34 @@ use mathlib.Core.Path.{_≡_, refl, sym, ap, _∙_}
 use mathlib.Core.Bool.{Bool, true, false, not}
 use mathlib.Core.List.{List, [], _∷_, _++_, append-assoc, append-nil}
 use Prim.Native.Nat.{ℕ, suc, _+_, _-_, _<_, _≤_}
-use native.Mathlib.Omega.{arith}
 use native.Mathlib.Nat.{sub-zero}
+use native.Mathlib.Omega.{arith}
 use borrow.Author.Tests.{lt-ltb, le-ltb, eq-eqb, ne-eqb}
+use lib.Seq.{drop-drop}
 use lib.ListN.{length, getD, drop, take, set, length-append, length-drop}
 use lib.Dec.{eqb}
-use lib.Seq.{drop-drop}
 use Rattle.places.specs.Places.{firsts}
-use Rattle.places.proofs.Firsts.{firsts-more}
 use Rattle.places.proofs.Parts.{part-rest}
+use Rattle.places.proofs.Firsts.{firsts-more}
+use Rattle.refusals.specs.declared.Verdict.the-variants as verdicts
 use Rattle.refusals.specs.declared.Refusal.{Refusal}
 use Rattle.refusals.specs.declared.Verdict.the-variants.{Passed}
 use Rattle.refusals.specs.Refusals.{Outcome, given, refused, pass, Ruling, refuseIf, orElse, onGiven, refusalNumber}
-use Rattle.refusals.specs.declared.Verdict.the-variants as verdicts
 use Rattle.refusals.proofs.Refusals.{not-given}
 use Rattle.numbers.specs.Numbers.{numberIn}
 use Rattle.numbers.proofs.Laws.{number-bound}
 use Rattle.numbers.proofs.Trip.{bytes-drop}
 use Rattle.network.specs.Checks.{badCount, badCycle, linkCheck}
-use Rattle.network.specs.Network.{Topology, noLink}
 use Rattle.network.specs.declared.Link.{Link}
+use Rattle.network.specs.Network.{Topology, noLink}
 use Rattle.network.proofs.Tests.{count-passed}
 use Rattle.records.specs.Reading.{Said, readRecord}
 use Rattle.records.proofs.ReadWrite.{Whole, record-only}
 use Rattle.network_file.specs.declared.Loaded.{Loaded}
+use Rattle.network_file.specs.Reading.{Linked, readLink, readLinks, within, readNetwork, linkRead, noNetwork, Reads}
 use Rattle.network_file.specs.Fields.{linkLayout, linkOf}
 use Rattle.network_file.specs.declared.LinkRecord.the-variants.{Fields, Refused}
 use Rattle.network_file.specs.declared.LinkRecord.{LinkRecord}
-use Rattle.network_file.specs.Reading.{Linked, readLink, readLinks, within, readNetwork, linkRead, noNetwork, Reads}
 use Rattle.network_file.proofs.Records.{link-layout}
 
 -- ---- a link that was read

@@ -7,27 +7,27 @@ use borrow.Author.Tests.{lt-ltb, le-ltb}
 use lib.ListN.{length, getD, drop, set, length-append}
 use Rattle.places.specs.Put.{putAt}
 use Rattle.places.specs.Places.{firsts}
-use Rattle.places.proofs.Puts.{Grown, grow, put-length, put-set, put-zero}
 use Rattle.places.proofs.Pieces.{Pieces}
+use Rattle.places.proofs.Puts.{Grown, grow, put-length, put-set, put-zero}
 use Rattle.places.proofs.Firsts.{length-firsts, next-first, no-first}
+use Rattle.refusals.specs.declared.Verdict.the-variants as verdicts
+use Rattle.refusals.specs.declared.Verdict.{Verdict}
 use Rattle.refusals.specs.declared.Refusal.{Refusal}
 use Rattle.refusals.specs.Refusals.{given, refused, pass, refusalNumber, ruling}
-use Rattle.refusals.specs.declared.Verdict.{Verdict}
-use Rattle.refusals.specs.declared.Verdict.the-variants as verdicts
 use Rattle.numbers.specs.Numbers.{bytesOf}
 use Rattle.numbers.proofs.Laws.{length-bytes}
-use Rattle.network.specs.declared.Network.{Network}
 use Rattle.network.specs.declared.Link.{Link}
 use Rattle.network.specs.Checks.{networkCheck}
+use Rattle.network.specs.declared.Network.{Network}
 use Rattle.network.specs.Network.{noLink, topologyOf}
-use Rattle.network.proofs.Tests.{count-passed}
 use Rattle.network.proofs.Checks.{network-good}
+use Rattle.network.proofs.Tests.{count-passed}
 use Rattle.records.specs.declared.Field.{Field}
-use Rattle.records.specs.Layout.{noField}
 use Rattle.records.specs.Writing.{recordOf}
-use Rattle.network_file.specs.Fields.{linkLayout, valuesOf}
-use Rattle.network_file.specs.Writing.{linkBytes, linksBytes, imageOf, writeNetwork, Writable, Writes}
+use Rattle.records.specs.Layout.{noField}
 use Rattle.network_file.specs.declared.Written.the-variants.{Length, Refused}
+use Rattle.network_file.specs.Writing.{linkBytes, linksBytes, imageOf, writeNetwork, Writable, Writes}
+use Rattle.network_file.specs.Fields.{linkLayout, valuesOf}
 use Rattle.network_file.proofs.Records.{layout-back, values-back}
 
 -- ---- a link's record

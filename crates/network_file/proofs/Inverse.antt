@@ -7,30 +7,30 @@ use native.Mathlib.Omega.{arith}
 use native.Mathlib.Nat.{lt-of-lt-of-le}
 use borrow.Author.Tests.{le-ltb, ltb-false, eqb-true, not-false}
 use lib.Seq.{drop-append-seam, split-at}
-use lib.Pow.{pow-mono}
 use lib.Dec.{eqb, ltb}
+use lib.Pow.{pow-mono}
 use lib.ListN.{length, getD, drop, take, take-append-drop}
 use Rattle.places.proofs.Firsts.{next-first, no-first, firsts-all}
 use Rattle.refusals.specs.Refusals.{Outcome, given, refused, pass, refuseIf, orElse, onGiven, givenOr}
 use Rattle.refusals.proofs.Refusals.{past, not-given}
 use Rattle.numbers.specs.Numbers.{numberIn, bytesOf, IsBytes}
 use Rattle.numbers.proofs.Trip.{number-bytes, bytes-number, bytes-drop}
-use Rattle.network.specs.Checks.{badCount, badCycle, linkCheck, linksCheck, networkCheck}
-use Rattle.network.specs.Network.{Topology}
 use Rattle.network.specs.declared.Link.{Link}
+use Rattle.network.specs.Network.{Topology}
+use Rattle.network.specs.Checks.{badCount, badCycle, linkCheck, linksCheck, networkCheck}
 use Rattle.network.proofs.Tests.{cycle-passed}
 use Rattle.network.proofs.Checks.{link-good, link-few, network-good, good-network, links-good}
 use Rattle.network.proofs.Closed.{closed-below}
-use Rattle.records.specs.Writing.{recordOf}
 use Rattle.records.specs.Layout.{Fits, fits-none, fits-more}
-use Rattle.records.proofs.WriteRead.{record-back}
+use Rattle.records.specs.Writing.{recordOf}
 use Rattle.records.proofs.ReadWrite.{Whole}
+use Rattle.records.proofs.WriteRead.{record-back}
 use Rattle.records.proofs.Layouts.{length-fits}
-use Rattle.network_file.specs.Reading.{Linked, readLink, readLinks, within, readNetwork}
 use Rattle.network_file.specs.Writing.{linkBytes, linksBytes, imageOf}
 use Rattle.network_file.specs.Fields.{linkLayout, valuesOf, linkOf}
-use Rattle.network_file.proofs.Records.{link-layout, link-said}
+use Rattle.network_file.specs.Reading.{Linked, readLink, readLinks, within, readNetwork}
 use Rattle.network_file.proofs.Files.{Was, was, was-whole}
+use Rattle.network_file.proofs.Records.{link-layout, link-said}
 
 -- ---- written, then read
 link-back : (l : Link) → linkOf (valuesOf l) ≡ l

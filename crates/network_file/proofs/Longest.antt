@@ -1,19 +1,19 @@
 -- The longest file of a network. Assumes nothing.
-use mathlib.Core.Path.{_≡_, ap, _∙_}
+use mathlib.Core.Path.{_≡_}
 use mathlib.Core.List.{List, [], _∷_}
-use Prim.Native.Nat.{ℕ, _*_, _≤_}
+use Prim.Native.Nat.{_*_, _≤_}
 use native.Mathlib.Omega.{arith}
 use lib.ListN.{length, length-append}
 use Rattle.refusals.specs.Refusals.{given, pass}
 use Rattle.numbers.specs.Numbers.{bytesOf}
 use Rattle.numbers.proofs.Laws.{length-bytes}
 use Rattle.network.specs.Network.{Topology}
-use Rattle.network.specs.Checks.{networkCheck}
 use Rattle.network.specs.declared.Link.{Link}
-use Rattle.network.proofs.Tests.{count-passed}
+use Rattle.network.specs.Checks.{networkCheck}
 use Rattle.network.proofs.Checks.{network-good}
-use Rattle.records.specs.Writing.{bodyOf, recordOf}
-use Rattle.records.proofs.Sizes.{allBytes, body-bound}
+use Rattle.network.proofs.Tests.{count-passed}
+use Rattle.records.specs.Writing.{recordOf}
+use Rattle.records.proofs.Sizes.{body-bound}
 use Rattle.network_file.specs.Fields.{linkLayout, valuesOf}
 use Rattle.network_file.specs.Writing.{linkBytes, linksBytes, imageOf}
 

@@ -8,24 +8,24 @@ use borrow.Author.Tests.{ne-eqb}
 use lib.ListN.{getD}
 use Rattle.places.specs.Places.{firsts}
 use Rattle.places.proofs.Firsts.{getD-firsts}
+use Rattle.refusals.specs.declared.Verdict.{Verdict}
 use Rattle.refusals.specs.Refusals.{Outcome, given, refused, orElse, refusalNumber, ruling}
 use Rattle.refusals.specs.declared.Refusal.{Refusal}
 use Rattle.refusals.specs.declared.Verdict.the-variants.{Passed, Refused}
-use Rattle.refusals.specs.declared.Verdict.{Verdict}
 use Rattle.refusals.proofs.Refusals.{refused-is, given-is}
 use Rattle.words.proofs.Words.{word-below}
 use Rattle.words.proofs.Bits.{bit-high}
-use Rattle.network.specs.Checks.{linkCheck}
 use Rattle.network.specs.declared.Link.{Link}
-use Rattle.records.specs.Layout.{noField, isBit, isLayout, Laid, Fits}
+use Rattle.network.specs.Checks.{linkCheck}
+use Rattle.records.specs.declared.Record.{Record}
 use Rattle.records.specs.declared.Field.{Field}
 use Rattle.records.specs.Reading.{strayBits, Said, readRecord, saidIn, Told}
-use Rattle.records.specs.declared.Record.{Record}
-use Rattle.records.proofs.ReadWrite.{Whole, record-only}
-use Rattle.records.proofs.Maps.{none-stray, stray-none}
+use Rattle.records.specs.Layout.{noField, isBit, isLayout, Laid, Fits}
 use Rattle.records.proofs.Layouts.{fits-at}
-use Rattle.network_file.specs.Reading.{readLink}
+use Rattle.records.proofs.Maps.{none-stray, stray-none}
+use Rattle.records.proofs.ReadWrite.{Whole, record-only}
 use Rattle.network_file.specs.Fields.{linkLayout, valuesOf, linkOf}
+use Rattle.network_file.specs.Reading.{readLink}
 
 pub link-layout : isLayout linkLayout ≡ true
 unfolding isLayout isBit linkLayout
@@ -55,10 +55,10 @@ some-bit (suc (suc zero)) e = absurd (true≢false e)
 some-bit (suc (suc (suc i))) e = omega arith
 
 pub stray-above : (map : ℕ) → map < 256 → strayBits linkLayout map ≡ 0 → map < 8
-stray-above map h e = word-below 64 3 map (omega arith) (omega arith) (λ i g. stray-none linkLayout map (omega arith) e i (no-bit i g))
+stray-above map h e = word-below 64 3 map (omega arith) (omega arith) (λ i g. stray-none linkLayout map h e i (no-bit i g))
 
 pub above-stray : (map : ℕ) → map < 8 → strayBits linkLayout map ≡ 0
-above-stray map h = none-stray linkLayout map (omega arith) (λ i e. bit-high 3 map i h (some-bit i e))
+above-stray map h = none-stray linkLayout map (λ i e. bit-high 3 map i h (some-bit i e))
 
 -- K and Z that fit in their fields fit in a byte
 pub fields-small : (vs : List ℕ) → Fits linkLayout vs → (getD vs 0 0 < 256) × (getD vs 1 0 < 256)

@@ -5,29 +5,29 @@ use mathlib.Core.List.{List, [], _∷_, _++_}
 use Prim.Native.Nat.{ℕ, _≤_}
 use native.Mathlib.Omega.{arith}
 use borrow.Author.Tests.{le-ltb, ltb-false}
-use lib.ListN.{length, drop, take}
-use lib.Dec.{ltb}
 use lib.Seq.{take-at}
+use lib.Dec.{ltb}
+use lib.ListN.{length, drop, take}
 use Rattle.places.proofs.Firsts.{firsts-back}
-use Rattle.refusals.specs.Refusals.{Outcome, given, refused, pass, Ruling, refuseIf, orElse, refusalNumber, ruling, rulingOf, givenOr}
 use Rattle.refusals.specs.declared.Verdict.the-variants.{Passed}
+use Rattle.refusals.specs.Refusals.{Outcome, given, refused, pass, Ruling, refuseIf, orElse, refusalNumber, ruling, rulingOf, givenOr}
 use Rattle.refusals.proofs.Refusals.{past, not-given, given-is}
 use Rattle.numbers.specs.Numbers.{bytesOf, IsBytes}
 use Rattle.numbers.proofs.Trip.{bytes-cons, bytes-none, bytes-append, bytes-of}
-use Rattle.network.specs.Network.{Topology, noLink, topologyOf}
-use Rattle.network.specs.declared.Network.{Network}
 use Rattle.network.specs.declared.Link.{Link}
 use Rattle.network.specs.Checks.{networkCheck}
-use Rattle.network.proofs.Tests.{count-passed}
+use Rattle.network.specs.Network.{Topology, noLink, topologyOf}
+use Rattle.network.specs.declared.Network.{Network}
 use Rattle.network.proofs.Checks.{network-good}
+use Rattle.network.proofs.Tests.{count-passed}
 use Rattle.records.proofs.OneRecord.{record-bytes}
-use Rattle.network_file.specs.Fields.{linkLayout, valuesOf}
-use Rattle.network_file.specs.declared.Loaded.{Loaded}
-use Rattle.network_file.specs.Reading.{readNetwork, stored, storedIn, Reads}
-use Rattle.network_file.specs.OneFile.{OneFile}
 use Rattle.network_file.specs.declared.Written.the-variants.{Length, Refused}
-use Rattle.network_file.specs.declared.Written.{Written}
+use Rattle.network_file.specs.declared.Loaded.{Loaded}
+use Rattle.network_file.specs.OneFile.{OneFile}
 use Rattle.network_file.specs.Writing.{linkBytes, linksBytes, imageOf, writeNetwork, lengthRead, bufferAfter, Writes}
+use Rattle.network_file.specs.Fields.{linkLayout, valuesOf}
+use Rattle.network_file.specs.Reading.{readNetwork, stored, storedIn, Reads}
+use Rattle.network_file.specs.declared.Written.{Written}
 use Rattle.network_file.proofs.Records.{link-layout}
 use Rattle.network_file.proofs.Inverse.{image-reads, Is, file-only}
 

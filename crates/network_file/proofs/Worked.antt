@@ -2,15 +2,15 @@
 use mathlib.Core.Path.{_≡_, refl}
 use Rattle.refusals.specs.Refusals.{given, pass}
 use Rattle.numbers.specs.Numbers.{numberIn, bytesOf}
-use Rattle.words.specs.Word.{bitOf, wordOf, withBit, withoutBit}
+use Rattle.words.specs.Word.{bitOf, wordOf}
 use Rattle.network.specs.Checks.{badCount, badCycle, badFrames, badRange, badClosed, linkCheck, linksCheck, networkCheck}
-use Rattle.records.specs.Writing.{isWritten, mapWith, fieldOf, bodyOf, recordOf}
 use Rattle.records.specs.Reading.{sizeIn, needed, valueIn, valuesIn, strayBits, restated, readMapped, readRecord}
-use Rattle.records.specs.Layout.{stands}
+use Rattle.records.specs.Layout.{isBit, stands}
+use Rattle.records.specs.Writing.{isWritten, writtenAt, mapOf, fieldOf, bodyOf, recordOf}
 use Rattle.network_file.specs.Example.{example, exampleBytes}
+use Rattle.network_file.specs.Writing.{linkBytes, linksBytes, imageOf}
 use Rattle.network_file.specs.Reading.{readLink, readLinks, readNetwork}
 use Rattle.network_file.specs.Fields.{linkLayout, valuesOf, linkOf}
-use Rattle.network_file.specs.Writing.{linkBytes, linksBytes, imageOf}
 
 -- it passes its checks
 pub example-passes : networkCheck example ≡ given pass
@@ -19,10 +19,10 @@ example-passes = refl
 
 -- THE FILE OF THE EXAMPLE IS 30 00 02 00 03 08 02
 pub example-image : imageOf example ≡ exampleBytes
-unfolding example exampleBytes imageOf bytesOf linksBytes linkBytes linkLayout valuesOf recordOf mapWith bodyOf fieldOf isWritten withBit wordOf bitOf
+unfolding example exampleBytes imageOf bytesOf linksBytes linkBytes linkLayout valuesOf recordOf mapOf writtenAt wordOf bodyOf fieldOf isWritten
 example-image = refl
 
 -- AND READS AS IT
 pub example-reads : readNetwork exampleBytes ≡ given example
-unfolding example exampleBytes readNetwork numberIn badCount badCycle readLinks readLink readRecord readMapped needed sizeIn stands strayBits withoutBit wordOf bitOf restated valuesIn valueIn linkLayout linkOf linkCheck badFrames badRange badClosed
+unfolding example exampleBytes readNetwork numberIn badCount badCycle readLinks readLink readRecord readMapped needed sizeIn stands strayBits isBit wordOf bitOf restated valuesIn valueIn linkLayout linkOf linkCheck badFrames badRange badClosed
 example-reads = refl

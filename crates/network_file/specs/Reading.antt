@@ -3,17 +3,17 @@ use mathlib.Core.Path.{_≡_}
 use mathlib.Core.Bool.{not}
 use mathlib.Core.List.{List, [], _∷_}
 use Prim.Native.Nat.{ℕ, zero, suc}
-use lib.Dec.{eqb, ltb}
 use lib.ListN.{length, getD, drop}
+use lib.Dec.{eqb, ltb}
 use Rattle.places.specs.Places.{firsts}
-use Rattle.refusals.specs.Refusals.{Outcome, given, refused, refuseIf, orElse, onGiven, refusalNumber, ruling, rulingOf}
-use Rattle.refusals.specs.declared.Refusal.{Refusal}
 use Rattle.refusals.specs.declared.Verdict.the-variants as verdicts
+use Rattle.refusals.specs.declared.Refusal.{Refusal}
+use Rattle.refusals.specs.Refusals.{Outcome, given, refused, refuseIf, orElse, onGiven, refusalNumber, ruling, rulingOf}
 use Rattle.numbers.specs.Numbers.{numberIn}
 use Rattle.network.specs.Checks.{badCount, badCycle, linkCheck}
-use Rattle.network.specs.Network.{Topology, noLink}
-use Rattle.network.specs.declared.Network.{Network}
 use Rattle.network.specs.declared.Link.{Link}
+use Rattle.network.specs.declared.Network.{Network}
+use Rattle.network.specs.Network.{Topology, noLink}
 use Rattle.records.specs.Reading.{readRecord}
 use Rattle.network_file.specs.declared.Loaded.{Loaded}
 use Rattle.network_file.specs.Fields.{linkLayout, linkOf}

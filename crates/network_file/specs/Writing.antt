@@ -11,8 +11,8 @@ use Rattle.network.specs.Network.{Topology, topologyOf}
 use Rattle.network.specs.declared.Link.{Link}
 use Rattle.network.specs.Checks.{networkCheck}
 use Rattle.records.specs.Writing.{recordOf}
-use Rattle.network_file.specs.declared.Written.the-variants.{Length, Refused}
 use Rattle.network_file.specs.Fields.{linkLayout, valuesOf}
+use Rattle.network_file.specs.declared.Written.the-variants.{Length, Refused}
 use Rattle.network_file.specs.declared.Written.{Written}
 
 -- "A record is a bit map byte, then only the fields whose bit stands"

@@ -3,9 +3,9 @@ use mathlib.Core.Path.{_≡_, refl, sym, ap, _∙_}
 use mathlib.Core.List.{List, [], _∷_, _++_}
 use Prim.Native.Nat.{ℕ, zero, suc, _+_, _<_, _≤_}
 use native.Mathlib.Numerals.{add-one}
-use native.Mathlib.Nat.{not-suc-le-zero, le-of-suc-le-suc}
 use native.Mathlib.Omega.{arith}
-use lib.ListN.{length, getD, drop, take, set, replicate, drop-of-length-le}
+use native.Mathlib.Nat.{not-suc-le-zero, le-of-suc-le-suc}
+use lib.ListN.{length, getD, drop, set, replicate, drop-of-length-le}
 use Rattle.places.specs.Places.{firsts}
 
 module _ {A : Type 0} where
@@ -38,13 +38,6 @@ module _ {A : Type 0} where
   -- past the last place
   pub no-first : (n i : ℕ) (l : List A) (d : A) → n ≤ i → drop i (firsts n l d) ≡ []
   no-first n i l d h = drop-of-length-le (firsts n l d) {i = i} (omega (arith, length-firsts n l d))
-
-  -- within an array
-  pub firsts-take : (n : ℕ) (l : List A) (d : A) → n ≤ length l → firsts n l d ≡ take n l
-  unfolding firsts
-  firsts-take zero l d h = refl
-  firsts-take (suc n) [] d h = absurd (not-suc-le-zero h)
-  firsts-take (suc n) (x ∷ l) d h = ap (λ (t : List A). x ∷ t) (firsts-take n l d (le-of-suc-le-suc h))
 
   none-first : (n : ℕ) (d : A) → replicate n d ≡ firsts n [] d
   unfolding firsts

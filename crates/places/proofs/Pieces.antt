@@ -3,13 +3,13 @@ use mathlib.Core.Path.{_≡_, refl, sym, ap, _∙_}
 use mathlib.Core.List.{List, [], _++_, append-assoc, append-nil}
 use Prim.Native.Nat.{ℕ, _+_, _-_, _*_, _<_, _≤_}
 use native.Mathlib.Numerals.{add-one}
-use native.Mathlib.Nat.{mul-suc}
 use native.Mathlib.Omega.{arith}
+use native.Mathlib.Nat.{mul-suc}
 use borrow.Rule.Slice.PartMut.{putMid}
 use lib.ListN.{length, take, drop, length-append, length-drop}
 use Rattle.places.specs.Put.{putAt}
-use Rattle.places.proofs.Parts.{part-rest}
 use Rattle.places.proofs.Puts.{Grown, grow, grow-part, grown-none}
+use Rattle.places.proofs.Parts.{part-rest}
 
 -- n pieces, and what is still to come from piece j on
 pub record Pieces (n : ℕ) (piece rest : ℕ → List ℕ) : Type 0 where

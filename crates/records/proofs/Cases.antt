@@ -8,13 +8,13 @@ use borrow.Author.Tests.{lt-ltb, le-ltb, eq-eqb, ne-eqb}
 use lib.ListN.{length, getD, drop}
 use Rattle.places.specs.Places.{firsts}
 use Rattle.places.proofs.Firsts.{length-firsts, firsts-back}
-use Rattle.refusals.specs.declared.Verdict.the-variants.{Passed, Refused}
 use Rattle.refusals.specs.declared.Refusal.{Refusal}
+use Rattle.refusals.specs.declared.Verdict.the-variants.{Passed, Refused}
 use Rattle.refusals.specs.Refusals.{Outcome, refused, refusalNumber}
-use Rattle.records.specs.Reading.{sizeIn, needed, valuesIn, strayBits, restated, Said, readMapped, readRecord, noRecord, Told}
+use Rattle.records.specs.Layout.{noField, Laid}
 use Rattle.records.specs.declared.Record.{Record}
 use Rattle.records.specs.declared.Field.{Field}
-use Rattle.records.specs.Layout.{noField, Laid}
+use Rattle.records.specs.Reading.{sizeIn, needed, valuesIn, strayBits, restated, Said, readMapped, readRecord, noRecord, Told}
 
 pub length-values : (fs : List Field) (map : ℕ) (s : List ℕ) → length (valuesIn fs map s) ≡ length fs
 unfolding valuesIn

@@ -10,8 +10,8 @@ use lib.Dec.{ltb, leb}
 use Rattle.trellis.proofs.Count.{and-true}
 use Rattle.places.specs.Places.{firsts}
 use Rattle.places.proofs.Firsts.{next-first}
-use Rattle.records.specs.Layout.{noField, isBit, isLayout, Laid, Fits, fits-none, fits-more}
 use Rattle.records.specs.declared.Field.{Field}
+use Rattle.records.specs.Layout.{noField, isBit, isLayout, Laid, Fits, fits-none, fits-more}
 
 -- a field before others of a layout
 pub record Leads (f : Field) (fs : List Field) : Type 0 where

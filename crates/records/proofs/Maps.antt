@@ -1,55 +1,103 @@
--- The bits of a map byte, for any layout: the bits that a record is written with, and the bits that are no field's. Assumes nothing.
+-- The bits of a map byte, for any layout: bits set and cleared one field after the other give the rule's bytes, and the rule's bytes tell
+-- which fields are written. Assumes nothing.
 use mathlib.Core.Path.{_≡_, refl, sym, ap, _∙_}
 use mathlib.Core.Bool.{Bool, true, false, not, _&&_, _||_, true≢false, and-true, and-false, or-false, or-assoc}
 use mathlib.Core.List.{List, [], _∷_}
-use Prim.Native.Nat.{ℕ, _^_, _<_, _≤_}
+use Prim.Native.Nat.{ℕ, _^_, _<_}
 use native.Mathlib.Omega.{arith}
-use borrow.Author.Tests.{eq-eqb, ne-eqb, eqb-true}
-use lib.Dec.{eqb}
+use borrow.Author.Tests.{eq-eqb, ne-eqb, eqb-true, ltb-true, ltb-false}
+use lib.Dec.{eqb, ltb}
 use lib.ListN.{getD, drop}
 use Rattle.trellis.specs.Answer.{pick}
 use Rattle.words.specs.Word.{bitOf, withBit, withoutBit}
-use Rattle.words.proofs.Words.{word-lt, word-ext}
+use Rattle.words.proofs.Bits.{bit-zero, bit-high}
+use Rattle.words.proofs.Words.{word-lt, word-only, word-below, bit-below}
 use Rattle.words.proofs.Frames.{bit-with, bit-without, with-lt}
-use Rattle.words.proofs.Bits.{bit-zero}
+use Rattle.records.specs.Writing.{isWritten, writtenAt, mapOf}
 use Rattle.records.specs.Layout.{isBit, isLayout, stands}
-use Rattle.records.specs.Writing.{isWritten, mapWith}
 use Rattle.records.specs.declared.Field.{Field}
 use Rattle.records.specs.Reading.{strayBits}
 use Rattle.records.proofs.Layouts.{Leads, leads}
 
--- whether the field with this bit is written
-unfoldable pub writtenAt : List Field → List ℕ → ℕ → Bool
-writtenAt [] vs i = false
-writtenAt (f ∷ fs) vs i = (isWritten f (getD vs 0 0) && eqb i (f .bit)) || writtenAt fs (drop 1 vs) i
+-- ---- one field after the other: a map byte with the bits of the fields that are written, and one without the bits of the fields
+unfoldable pub mapWith : List Field → ℕ → List ℕ → ℕ
+mapWith [] map vs = map
+mapWith (f ∷ fs) map vs = mapWith fs (pick (isWritten f (getD vs 0 0)) (withBit map (f .bit)) map) (drop 1 vs)
 
--- a map byte has the bits of exactly the fields that are written
-pub data Agrees (map : ℕ) : List Field → List ℕ → Type 0 where
-  agrees-none : {vs : List ℕ} → Agrees map [] vs
-  agrees-more : {f : Field} {fs : List Field} {vs : List ℕ} → stands map f ≡ isWritten f (getD vs 0 0) → Agrees map fs (drop 1 vs) → Agrees map (f ∷ fs) vs
+unfoldable pub mapWithout : List Field → ℕ → ℕ
+mapWithout [] map = map
+mapWithout (f ∷ fs) map = mapWithout fs (withoutBit map (f .bit))
 
 picked-bit : (w : Bool) (map k : ℕ) → map < 2 ^ 64 → k < 64 → (i : ℕ) → bitOf (pick w (withBit map k) map) i ≡ (bitOf map i || (w && eqb i k))
 picked-bit true map k h l i = bit-with map k h l i
 picked-bit false map k h l i = sym (or-false (bitOf map i))
 
-pub picked-lt : (m : ℕ) (w : Bool) (map k : ℕ) → m ≤ 64 → map < 2 ^ m → k < m → pick w (withBit map k) map < 2 ^ m
-picked-lt m true map k s h l = with-lt m map k s h l
-picked-lt m false map k s h l = h
+picked-lt : (w : Bool) (map k : ℕ) → map < 2 ^ 8 → k < 8 → pick w (withBit map k) map < 2 ^ 8
+picked-lt true map k h l = with-lt 8 map k (omega arith) h l
+picked-lt false map k h l = h
 
--- the bits of the map byte that is written
-pub bit-map : (fs : List Field) (map : ℕ) (vs : List ℕ) → isLayout fs ≡ true → map < 2 ^ 64 → (i : ℕ) → bitOf (mapWith fs map vs) i ≡ (bitOf map i || writtenAt fs vs i)
+bit-with-all : (fs : List Field) (map : ℕ) (vs : List ℕ) → isLayout fs ≡ true → map < 2 ^ 8 → (i : ℕ) → bitOf (mapWith fs map vs) i ≡ (bitOf map i || writtenAt fs vs i)
 unfolding mapWith writtenAt
-bit-map [] map vs l h i = sym (or-false (bitOf map i))
-bit-map (f ∷ fs) map vs l h i =
+bit-with-all [] map vs l h i = sym (or-false (bitOf map i))
+bit-with-all (f ∷ fs) map vs l h i =
     let p : Leads f fs = leads f fs l in
-    let low : f .bit < 64 = omega (arith, p .low) in
     let w : Bool = isWritten f (getD vs 0 0) in
-    bit-map fs (pick w (withBit map (f .bit)) map) (drop 1 vs) (p .others) (picked-lt 64 w map (f .bit) (omega arith) h low) i
-    ∙ ap (λ (b : Bool). b || writtenAt fs (drop 1 vs) i) (picked-bit w map (f .bit) h low i)
+    bit-with-all fs (pick w (withBit map (f .bit)) map) (drop 1 vs) (p .others) (picked-lt w map (f .bit) h (p .low)) i
+    ∙ ap (λ (b : Bool). b || writtenAt fs (drop 1 vs) i) (picked-bit w map (f .bit) (omega arith) (omega (arith, p .low)) i)
     ∙ or-assoc (bitOf map i) (w && eqb i (f .bit)) (writtenAt fs (drop 1 vs) i)
 
+with-all-lt : (fs : List Field) (map : ℕ) (vs : List ℕ) → isLayout fs ≡ true → map < 2 ^ 8 → mapWith fs map vs < 2 ^ 8
+unfolding mapWith
+with-all-lt [] map vs l h = h
+with-all-lt (f ∷ fs) map vs l h =
+    let p : Leads f fs = leads f fs l in
+    let w : Bool = isWritten f (getD vs 0 0) in
+    with-all-lt fs (pick w (withBit map (f .bit)) map) (drop 1 vs) (p .others) (picked-lt w map (f .bit) h (p .low))
+
+pub map-rule : (fs : List Field) (vs : List ℕ) → isLayout fs ≡ true → mapWith fs 0 vs ≡ mapOf fs vs
+unfolding mapOf
+map-rule fs vs l = word-only 8 (mapWith fs 0 vs) (writtenAt fs vs) (with-all-lt fs 0 vs l (omega arith)) (λ i h. bit-with-all fs 0 vs l (omega arith) i ∙ rw (bit-zero i))
+
+pub map-low : (fs : List Field) (vs : List ℕ) → mapOf fs vs < 256
+unfolding mapOf
+map-low fs vs = word-lt 8 (writtenAt fs vs)
+
+without-wide : (map i : ℕ) → withoutBit map i < 2 ^ 64
+unfolding withoutBit
+without-wide map i = word-lt 64 (λ j. bitOf map j && not (eqb j i))
+
+bit-without-all : (fs : List Field) (map : ℕ) → map < 2 ^ 64 → (i : ℕ) → bitOf (mapWithout fs map) i ≡ (bitOf map i && not (isBit fs i))
+unfolding mapWithout isBit
+bit-without-all [] map h i = sym (and-true (bitOf map i))
+bit-without-all (f ∷ fs) map h i =
+    bit-without-all fs (withoutBit map (f .bit)) (without-wide map (f .bit)) i
+    ∙ ap (λ (b : Bool). b && not (isBit fs i)) (bit-without map (f .bit) h i)
+    ∙ go (bitOf map i) (eqb i (f .bit)) (isBit fs i)
+  where
+    go : (a b c : Bool) → ((a && not b) && not c) ≡ (a && not (b || c))
+    go true true c = refl
+    go true false c = refl
+    go false b c = refl
+
+without-all-wide : (fs : List Field) (map : ℕ) → map < 2 ^ 64 → mapWithout fs map < 2 ^ 64
+unfolding mapWithout
+without-all-wide [] map h = h
+without-all-wide (f ∷ fs) map h = without-all-wide fs (withoutBit map (f .bit)) (without-wide map (f .bit))
+
+pub stray-rule : (fs : List Field) (map : ℕ) → map < 256 → mapWithout fs map ≡ strayBits fs map
+unfolding strayBits
+stray-rule fs map h =
+    let w : map < 2 ^ 64 = omega arith in
+    let low : mapWithout fs map < 2 ^ 8 = word-below 64 8 (mapWithout fs map) (without-all-wide fs map w) (omega arith) (λ i g. bit-without-all fs map w i ∙ rw (bit-high 8 map i h g)) in
+    word-only 8 (mapWithout fs map) (λ i. bitOf map i && not (isBit fs i)) low (λ i l. bit-without-all fs map w i)
+
+-- ---- a map byte has the bits of exactly the fields that are written
+pub data Agrees (map : ℕ) : List Field → List ℕ → Type 0 where
+  agrees-none : {vs : List ℕ} → Agrees map [] vs
+  agrees-more : {f : Field} {fs : List Field} {vs : List ℕ} → stands map f ≡ isWritten f (getD vs 0 0) → Agrees map fs (drop 1 vs) → Agrees map (f ∷ fs) vs
+
 -- a field that is written has its bit among those of the fields
-pub written-bit : (fs : List Field) (vs : List ℕ) (i : ℕ) → isBit fs i ≡ false → writtenAt fs vs i ≡ false
+written-bit : (fs : List Field) (vs : List ℕ) (i : ℕ) → isBit fs i ≡ false → writtenAt fs vs i ≡ false
 unfolding writtenAt isBit
 written-bit [] vs i e = refl
 written-bit (f ∷ fs) vs i e = go (eqb i (f .bit)) (isWritten f (getD vs 0 0)) e (written-bit fs (drop 1 vs) i)
@@ -58,6 +106,16 @@ written-bit (f ∷ fs) vs i e = go (eqb i (f .bit)) (isWritten f (getD vs 0 0)) 
     go true w e k = cc
     go false true e k = k e
     go false false e k = k e
+
+-- the bits of a layout are bits of a byte
+bit-low : (fs : List Field) → isLayout fs ≡ true → (i : ℕ) → isBit fs i ≡ true → i < 8
+unfolding isBit
+bit-low [] l i e = absurd (true≢false (sym e))
+bit-low (f ∷ fs) l i e = go (eqb i (f .bit)) refl e (bit-low fs (leads f fs l .others) i)
+  where
+    go : (b : Bool) → eqb i (f .bit) ≡ b → (b || isBit fs i) ≡ true → (isBit fs i ≡ true → i < 8) → i < 8
+    go true q e k = let z : i ≡ f .bit = eqb-true i (f .bit) q in omega (arith, leads f fs l .low)
+    go false q e k = k e
 
 here : (f : Field) (fs : List Field) → isBit (f ∷ fs) (f .bit) ≡ true
 unfolding isBit
@@ -75,67 +133,39 @@ there f fs i e = go (eqb i (f .bit)) (isBit fs i) e
 apart : (f : Field) (fs : List Field) (i : ℕ) → isBit fs (f .bit) ≡ false → isBit fs i ≡ true → eqb i (f .bit) ≡ false
 apart f fs i a e = ne-eqb i (f .bit) (λ q. true≢false (sym (rw q at e) ∙ a))
 
--- what is written agrees with its map byte
-agreed : (fs : List Field) (map : ℕ) (vs : List ℕ) → isLayout fs ≡ true → map < 2 ^ 64 → ((i : ℕ) → isBit fs i ≡ true → bitOf map i ≡ false) → Agrees (mapWith fs map vs) fs vs
-unfolding mapWith stands
-agreed [] map vs l h clear = agrees-none
-agreed (f ∷ fs) map vs l h clear =
+agreed : (fs : List Field) (map : ℕ) (vs : List ℕ) → isLayout fs ≡ true → ((i : ℕ) → isBit fs i ≡ true → bitOf map i ≡ writtenAt fs vs i) → Agrees map fs vs
+unfolding writtenAt stands
+agreed [] map vs l same = agrees-none
+agreed (f ∷ fs) map vs l same =
     let p : Leads f fs = leads f fs l in
     let w : Bool = isWritten f (getD vs 0 0) in
-    let map′ : ℕ = pick w (withBit map (f .bit)) map in
-    let low : f .bit < 64 = omega (arith, p .low) in
-    let wide : map′ < 2 ^ 64 = picked-lt 64 w map (f .bit) (omega arith) h low in
-    let own : bitOf map (f .bit) ≡ false = clear (f .bit) (here f fs) in
-    let head : bitOf (mapWith fs map′ (drop 1 vs)) (f .bit) ≡ w = bit-map fs map′ (drop 1 vs) (p .others) wide (f .bit) ∙ rw (picked-bit w map (f .bit) h low (f .bit), own, written-bit fs (drop 1 vs) (f .bit) (p .alone), eq-eqb (f .bit) (f .bit) refl) (end w) in
-    agrees-more head (agreed fs map′ (drop 1 vs) (p .others) wide (λ i e. picked-bit w map (f .bit) h low i ∙ rw (clear i (there f fs i e), apart f fs i (p .alone) e) (none w)))
-  where
-    end : (w : Bool) → ((false || (w && true)) || false) ≡ w
-    end true = refl
-    end false = refl
+    let own : bitOf map (f .bit) ≡ w = same (f .bit) (here f fs) ∙ rw (eq-eqb (f .bit) (f .bit) refl, written-bit fs (drop 1 vs) (f .bit) (p .alone)) (or-false (w && true) ∙ and-true w) in
+    agrees-more own (agreed fs map (drop 1 vs) (p .others) (λ i e. same i (there f fs i e) ∙ rw (apart f fs i (p .alone) e, and-false w)))
 
-    none : (w : Bool) → (false || (w && false)) ≡ false
-    none true = refl
-    none false = refl
-
-pub map-agrees : (fs : List Field) (vs : List ℕ) → isLayout fs ≡ true → Agrees (mapWith fs 0 vs) fs vs
-map-agrees fs vs l = agreed fs 0 vs l (omega arith) (λ i e. bit-zero i)
+pub map-agrees : (fs : List Field) (vs : List ℕ) → isLayout fs ≡ true → Agrees (mapOf fs vs) fs vs
+unfolding mapOf
+map-agrees fs vs l = agreed fs (mapOf fs vs) vs l (λ i e. bit-below 8 (writtenAt fs vs) i (bit-low fs l i e))
 
 -- ---- the bits that are no field's
-without-wide : (map i : ℕ) → withoutBit map i < 2 ^ 64
-unfolding withoutBit
-without-wide map i = word-lt 64 (λ j. bitOf map j && not (eqb j i))
-
-pub bit-stray : (fs : List Field) (map : ℕ) → map < 2 ^ 64 → (i : ℕ) → bitOf (strayBits fs map) i ≡ (bitOf map i && not (isBit fs i))
-unfolding strayBits isBit
-bit-stray [] map h i = sym (and-true (bitOf map i))
-bit-stray (f ∷ fs) map h i =
-    bit-stray fs (withoutBit map (f .bit)) (without-wide map (f .bit)) i
-    ∙ ap (λ (b : Bool). b && not (isBit fs i)) (bit-without map (f .bit) h i)
-    ∙ go (bitOf map i) (eqb i (f .bit)) (isBit fs i)
-  where
-    go : (a b c : Bool) → ((a && not b) && not c) ≡ (a && not (b || c))
-    go true true c = refl
-    go true false c = refl
-    go false b c = refl
-
-stray-wide : (fs : List Field) (map : ℕ) → map < 2 ^ 64 → strayBits fs map < 2 ^ 64
+-- no bit is stray in a map byte whose bits are all those of fields
+pub none-stray : (fs : List Field) (map : ℕ) → ((i : ℕ) → isBit fs i ≡ false → bitOf map i ≡ false) → strayBits fs map ≡ 0
 unfolding strayBits
-stray-wide [] map h = h
-stray-wide (f ∷ fs) map h = stray-wide fs (withoutBit map (f .bit)) (without-wide map (f .bit))
-
--- no bit is left of a map byte whose bits are all those of fields
-pub none-stray : (fs : List Field) (map : ℕ) → map < 2 ^ 64 → ((i : ℕ) → isBit fs i ≡ false → bitOf map i ≡ false) → strayBits fs map ≡ 0
-none-stray fs map h own = word-ext 64 (strayBits fs map) 0 (stray-wide fs map h) (omega arith) (λ i l. bit-stray fs map h i ∙ go i (isBit fs i) refl ∙ sym (bit-zero i))
+none-stray fs map own = sym (word-only 8 0 (λ i. bitOf map i && not (isBit fs i)) (omega arith) (λ i l. bit-zero i ∙ sym (go i (isBit fs i) refl)))
   where
     go : (i : ℕ) (b : Bool) → isBit fs i ≡ b → (bitOf map i && not (isBit fs i)) ≡ false
     go i true e = rw e (and-false (bitOf map i))
     go i false e = rw (own i e)
 
--- and back: where no bit is left, each bit is some field's
-pub stray-none : (fs : List Field) (map : ℕ) → map < 2 ^ 64 → strayBits fs map ≡ 0 → (i : ℕ) → isBit fs i ≡ false → bitOf map i ≡ false
-stray-none fs map h e i q =
-    let z : (bitOf map i && not (isBit fs i)) ≡ false = sym (bit-stray fs map h i) ∙ rw e (bit-zero i) in
-    sym (and-true (bitOf map i)) ∙ rw q at z
+-- and back: where no bit is stray, each bit is some field's
+pub stray-none : (fs : List Field) (map : ℕ) → map < 256 → strayBits fs map ≡ 0 → (i : ℕ) → isBit fs i ≡ false → bitOf map i ≡ false
+unfolding strayBits
+stray-none fs map h e i q = go (ltb i 8) refl
+  where
+    go : (b : Bool) → ltb i 8 ≡ b → bitOf map i ≡ false
+    go true l =
+        let z : (bitOf map i && not (isBit fs i)) ≡ false = sym (bit-below 8 (λ j. bitOf map j && not (isBit fs j)) i (ltb-true i 8 l)) ∙ rw e (bit-zero i) in
+        sym (and-true (bitOf map i)) ∙ rw q at z
+    go false l = bit-high 8 map i h (ltb-false i 8 l)
 
 written-agrees : (fs : List Field) (map : ℕ) (vs : List ℕ) → Agrees map fs vs → (i : ℕ) → writtenAt fs vs i ≡ (bitOf map i && isBit fs i)
 unfolding writtenAt isBit stands
@@ -148,27 +178,14 @@ written-agrees (f ∷ fs) map vs (agrees-more e r) i = rw (← e, written-agrees
     go false eq b eb true ea = refl
     go false eq b eb false ea = refl
 
-map-lt : (m : ℕ) (fs : List Field) (map : ℕ) (vs : List ℕ) → 8 ≤ m → m ≤ 64 → isLayout fs ≡ true → map < 2 ^ m → mapWith fs map vs < 2 ^ m
-unfolding mapWith
-map-lt m [] map vs p s l h = h
-map-lt m (f ∷ fs) map vs p s l h =
-    let q : Leads f fs = leads f fs l in
-    let w : Bool = isWritten f (getD vs 0 0) in
-    map-lt m fs (pick w (withBit map (f .bit)) map) (drop 1 vs) p s (q .others) (picked-lt m w map (f .bit) s h (omega (arith, q .low)))
+-- the map byte that is written has no stray bit
+pub map-own : (fs : List Field) (vs : List ℕ) → isLayout fs ≡ true → strayBits fs (mapOf fs vs) ≡ 0
+map-own fs vs l = none-stray fs (mapOf fs vs) (λ i e. rw (← map-rule fs vs l) (bit-with-all fs 0 vs l (omega arith) i ∙ rw (bit-zero i, written-bit fs vs i e)))
 
-pub map-low : (fs : List Field) (map : ℕ) (vs : List ℕ) → isLayout fs ≡ true → map < 256 → mapWith fs map vs < 256
-map-low fs map vs l h = map-lt 8 fs map vs (omega arith) (omega arith) l h
-
-map-wide : (fs : List Field) (vs : List ℕ) → isLayout fs ≡ true → mapWith fs 0 vs < 2 ^ 64
-map-wide fs vs l = map-lt 64 fs 0 vs (omega arith) (omega arith) l (omega arith)
-
--- the map byte that is written has no bit but those of fields
-pub map-own : (fs : List Field) (vs : List ℕ) → isLayout fs ≡ true → strayBits fs (mapWith fs 0 vs) ≡ 0
-map-own fs vs l = none-stray fs (mapWith fs 0 vs) (map-wide fs vs l) (λ i e. bit-map fs 0 vs l (omega arith) i ∙ rw (bit-zero i, written-bit fs vs i e))
-
--- a map byte is what its fields are written with, where it agrees with them and has no other bit
-pub map-only : (fs : List Field) (map : ℕ) (vs : List ℕ) → isLayout fs ≡ true → map < 2 ^ 64 → strayBits fs map ≡ 0 → Agrees map fs vs → mapWith fs 0 vs ≡ map
-map-only fs map vs l h e a = word-ext 64 (mapWith fs 0 vs) map (map-wide fs vs l) h (λ i k. bit-map fs 0 vs l (omega arith) i ∙ rw (bit-zero i) (written-agrees fs map vs a i ∙ go i (isBit fs i) refl))
+-- a map byte is what its fields are written with, where it agrees with them and has no stray bit
+pub map-only : (fs : List Field) (map : ℕ) (vs : List ℕ) → map < 256 → strayBits fs map ≡ 0 → Agrees map fs vs → mapOf fs vs ≡ map
+unfolding mapOf
+map-only fs map vs h e a = sym (word-only 8 map (writtenAt fs vs) h (λ i k. sym (written-agrees fs map vs a i ∙ go i (isBit fs i) refl)))
   where
     go : (i : ℕ) (b : Bool) → isBit fs i ≡ b → (bitOf map i && isBit fs i) ≡ bitOf map i
     go i true q = rw q (and-true (bitOf map i))

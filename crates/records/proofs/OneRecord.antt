@@ -3,20 +3,19 @@ use mathlib.Core.Path.{_≡_, sym}
 use mathlib.Core.Bool.{Bool, true, false}
 use mathlib.Core.List.{List, [], _∷_}
 use Prim.Native.Nat.{ℕ}
-use native.Mathlib.Omega.{arith}
 use lib.ListN.{getD, drop}
 use Rattle.trellis.specs.Answer.{pick}
 use Rattle.refusals.specs.Refusals.{given}
 use Rattle.numbers.specs.Numbers.{bytesOf, IsBytes}
 use Rattle.numbers.proofs.Trip.{bytes-cons, bytes-none, bytes-append, bytes-of}
-use Rattle.records.specs.Layout.{isLayout, Fits}
-use Rattle.records.specs.Reading.{Said, readRecord}
-use Rattle.records.specs.Writing.{isWritten, mapWith, fieldOf, bodyOf, recordOf}
 use Rattle.records.specs.declared.Field.{Field}
+use Rattle.records.specs.Layout.{isLayout, Fits}
+use Rattle.records.specs.Writing.{isWritten, mapOf, fieldOf, bodyOf, recordOf}
 use Rattle.records.specs.OneRecord.{OneRecord}
+use Rattle.records.specs.Reading.{Said, readRecord}
 use Rattle.records.proofs.ReadWrite.{record-only}
-use Rattle.records.proofs.Maps.{map-low}
 use Rattle.records.proofs.WriteRead.{record-back}
+use Rattle.records.proofs.Maps.{map-low}
 
 -- the bytes of a record are bytes
 field-bytes : (f : Field) (v : ℕ) → IsBytes (fieldOf f v)
@@ -34,7 +33,7 @@ body-bytes (f ∷ fs) vs = bytes-append (fieldOf f (getD vs 0 0)) (bodyOf fs (dr
 
 pub record-bytes : (fs : List Field) (vs : List ℕ) → isLayout fs ≡ true → IsBytes (recordOf fs vs)
 unfolding recordOf
-record-bytes fs vs l = bytes-cons (mapWith fs 0 vs) (bodyOf fs vs) (map-low fs 0 vs l (omega arith)) (body-bytes fs vs)
+record-bytes fs vs l = bytes-cons (mapOf fs vs) (bodyOf fs vs) (map-low fs vs) (body-bytes fs vs)
 
 -- FOR ANY LAYOUT, VALUES THAT FIT IN THEIR FIELDS HAVE EXACTLY ONE RECORD
 pub one-record : (fs : List Field) (vs : List ℕ) → isLayout fs ≡ true → Fits fs vs → OneRecord fs vs

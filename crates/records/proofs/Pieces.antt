@@ -2,27 +2,27 @@
 use mathlib.Core.Path.{_≡_, refl, sym, ap, _∙_}
 use mathlib.Core.Bool.{Bool, true, false, not}
 use mathlib.Core.List.{List, [], _∷_, _++_}
-use Prim.Native.Nat.{ℕ, _+_, _*_, _-_, _^_, _<_, _≤_}
-use native.Mathlib.Omega.{arith}
+use Prim.Native.Nat.{ℕ, _+_, _*_, _-_, _<_, _≤_}
 use native.Mathlib.Nat.{add-zero}
+use native.Mathlib.Omega.{arith}
 use borrow.Rule.Slice.PartMut.{putMid}
-use lib.Dec.{eqb}
 use lib.ListN.{length, getD, drop, take, set, length-set}
+use lib.Dec.{eqb}
 use Rattle.trellis.specs.Answer.{pick}
 use Rattle.places.specs.Put.{putAt}
 use Rattle.places.specs.Places.{firsts}
-use Rattle.places.proofs.Puts.{Grown, grow, put-length, put-nil, put-part, put-set, put-zero}
 use Rattle.places.proofs.Pieces.{Pieces}
 use Rattle.places.proofs.Firsts.{next-first, no-first}
+use Rattle.places.proofs.Puts.{Grown, grow, put-length, put-nil, put-part, put-set, put-zero}
 use Rattle.numbers.specs.Numbers.{bytesOf}
 use Rattle.numbers.proofs.Laws.{length-bytes}
 use Rattle.words.specs.Word.{withBit}
-use Rattle.words.proofs.Frames.{with-lt}
-use Rattle.records.specs.Writing.{isWritten, mapWith, fieldOf, bodyOf, recordOf}
 use Rattle.records.specs.declared.Field.{Field}
+use Rattle.records.specs.Writing.{isWritten, mapOf, fieldOf, bodyOf, recordOf}
 use Rattle.records.specs.Layout.{noField, Laid}
-use Rattle.records.proofs.Layouts.{laid-at}
+use Rattle.records.proofs.Maps.{mapWith, map-rule, map-low}
 use Rattle.records.proofs.Sizes.{field-some, field-none, length-some, length-none, length-small, body-none, body-more}
+use Rattle.records.proofs.Layouts.{laid-at}
 
 -- ---- a field
 pub is-written : (f : Field) (v : ℕ) → not (eqb v (f .absent)) ≡ isWritten f v
@@ -73,26 +73,19 @@ module _ (fields : List Field) (n : ℕ) (values : List ℕ) where
   pub record Mapped (map j : ℕ) : Type 0 where
     pub within : j ≤ n
     pub same : mapWith fs 0 vs ≡ mapWith (drop j fs) map (drop j vs)
-    pub low : map < 2 ^ 8
 
   pub none-mapped : Mapped 0 0
-  none-mapped = record { within = omega arith; same = refl; low = omega arith }
+  none-mapped = record { within = omega arith; same = refl }
 
-  low-either : (b : Bool) (map i : ℕ) → map < 2 ^ 8 → i < 8 → pick b (withBit map i) map < 2 ^ 8
-  low-either true map i h l = with-lt 8 map i (omega arith) h l
-  low-either false map i h l = h
-
-  pub one-mapped : (map j r : ℕ) → Laid fields n → Mapped map j → j < n → r ≡ pick (isWritten (getD fields j noField) (getD values j 0)) (withBit map (getD fields j noField .bit)) map → Mapped r (j + 1)
+  pub one-mapped : (map j r : ℕ) → Mapped map j → j < n → r ≡ pick (isWritten (getD fields j noField) (getD values j 0)) (withBit map (getD fields j noField .bit)) map → Mapped r (j + 1)
   unfolding mapWith
-  one-mapped map j r l m h e = record {
-    within = omega arith;
-    same = m .same ∙ rw (next-first n j fields noField h, next-first n j values 0 h, e);
-    low = rw e (low-either (isWritten (getD fields j noField) (getD values j 0)) map (getD fields j noField .bit) (m .low) (laid-at fields n j l h .low));
-  }
+  one-mapped map j r m h e = record { within = omega arith; same = m .same ∙ rw (next-first n j fields noField h, next-first n j values 0 h, e) }
 
-  pub all-mapped : (map j : ℕ) → Mapped map j → n ≤ j → (map ≡ mapWith fs 0 vs) × (map < 256)
+  pub all-mapped : (map j : ℕ) → Laid fields n → Mapped map j → n ≤ j → (map ≡ mapOf fs vs) × (map < 256)
   unfolding mapWith
-  all-mapped map j m h = (sym (m .same ∙ rw (no-first n j fields noField h)), m .low)
+  all-mapped map j l m h =
+      let e : map ≡ mapOf fs vs = sym (m .same ∙ rw (no-first n j fields noField h)) ∙ map-rule fs vs (l .layout) in
+      (e, rw e (map-low fs vs))
 
   -- ---- the bytes after it
   more-body : (j : ℕ) → j < n → bodyOf (drop j fs) (drop j vs) ≡ fieldOf (getD fields j noField) (getD values j 0) ++ bodyOf (drop (j + 1) fs) (drop (j + 1) vs)
@@ -112,7 +105,7 @@ module _ (fields : List Field) (n : ℕ) (values : List ℕ) where
   record-measured total l e = (omega (arith, e .0), omega (arith, e .1, l .few))
 
   -- ---- the whole record
-  module _ (rest : List ℕ) (room : length (recordOf fs vs) ≤ length rest) (map : ℕ) (em : map ≡ mapWith fs 0 vs) where
+  module _ (rest : List ℕ) (room : length (recordOf fs vs) ≤ length rest) (map : ℕ) (em : map ≡ mapOf fs vs) where
     pub some-byte : 0 < length rest
     unfolding recordOf
     some-byte = omega arith
@@ -128,7 +121,7 @@ module _ (fields : List Field) (n : ℕ) (values : List ℕ) where
         let g : Grown 0 rest ((map ∷ []) ++ bodyOf fs vs) b r = grow 0 rest (map ∷ []) (set rest 0 map) 1 a (bodyOf fs vs) b r (omega arith) (e .1) (e .0) in
         let z : b ≡ (map ∷ bodyOf fs vs) ++ drop (length (map ∷ bodyOf fs vs)) rest = g .holds ∙ put-zero (map ∷ bodyOf fs vs) rest in
         let q : length (map ∷ bodyOf fs vs) ≡ r = omega arith in
-        (omega arith, z ∙ rw em (ap (λ (k : ℕ). mapWith fs 0 vs ∷ (bodyOf fs vs ++ drop k rest)) q))
+        (omega arith, z ∙ rw em (ap (λ (k : ℕ). mapOf fs vs ∷ (bodyOf fs vs ++ drop k rest)) q))
 
     pub record-long : (b : List ℕ) → b ≡ putAt 1 (bodyOf fs vs) (set rest 0 map) → length b ≡ length rest
     record-long b e = ap length e ∙ put-length 1 (bodyOf fs vs) (set rest 0 map) body-room ∙ length-set rest 0 map

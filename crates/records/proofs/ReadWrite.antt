@@ -6,20 +6,20 @@ use Prim.Native.Nat.{ℕ, suc, _+_, _*_, _^_, _<_, _≤_}
 use native.Mathlib.Numerals.{one-add}
 use native.Mathlib.Omega.{arith}
 use borrow.Author.Tests.{eq-eqb, ltb-false, eqb-true, not-false}
-use lib.Dec.{eqb, ltb}
 use lib.ListN.{length, getD, drop, take, length-drop}
+use lib.Dec.{eqb, ltb}
 use lib.Seq.{take-add}
 use Rattle.trellis.specs.Answer.{pick}
 use Rattle.trellis.proofs.Count.{or-false}
 use Rattle.refusals.specs.Refusals.{Outcome, given, refuseIf, orElse}
 use Rattle.refusals.proofs.Refusals.{past}
 use Rattle.numbers.specs.Numbers.{numberIn, bytesOf}
-use Rattle.numbers.proofs.Laws.{number-bound}
 use Rattle.numbers.proofs.Trip.{bytes-number, bytes-drop}
-use Rattle.records.specs.Writing.{isWritten, mapWith, fieldOf, bodyOf, recordOf}
-use Rattle.records.specs.Layout.{isLayout, stands, Fits, fits-none, fits-more}
+use Rattle.numbers.proofs.Laws.{number-bound}
 use Rattle.records.specs.declared.Field.{Field}
+use Rattle.records.specs.Writing.{isWritten, mapOf, fieldOf, bodyOf, recordOf}
 use Rattle.records.specs.Reading.{sizeIn, needed, valueIn, valuesIn, strayBits, restated, Said, readMapped, readRecord, saidIn}
+use Rattle.records.specs.Layout.{isLayout, stands, Fits, fits-none, fits-more}
 use Rattle.records.proofs.Sizes.{size-some, size-none, field-some, field-none}
 use Rattle.records.proofs.Layouts.{Leads, leads}
 use Rattle.records.proofs.Maps.{Agrees, agrees-none, agrees-more, map-only}
@@ -107,9 +107,9 @@ mapped-whole fs map t x l b e =
     let long : 1 + n ≤ length (map ∷ t) = ltb-false (length (map ∷ t)) (1 + n) (p .0) in
     let a : Agrees map fs vs = read-agrees fs map t (r .0) in
     let low : map < 256 = b 0 in
-    let m : mapWith fs 0 vs ≡ map = map-only fs map vs l (omega arith) (eqb-true (strayBits fs map) 0 (not-false (eqb (strayBits fs map) 0) (q .0))) a in
+    let m : mapOf fs vs ≡ map = map-only fs map vs low (eqb-true (strayBits fs map) 0 (not-false (eqb (strayBits fs map) 0) (q .0))) a in
     let d : bodyOf fs vs ≡ take n t = body-read fs map t (λ i. b (suc i)) (omega arith) a in
-    let z : mapWith fs 0 vs ∷ bodyOf fs vs ≡ take (1 + n) (map ∷ t) = ap₂ _∷_ m d ∙ ap (λ (k : ℕ). take k (map ∷ t)) (sym (one-add n)) in
+    let z : mapOf fs vs ∷ bodyOf fs vs ≡ take (1 + n) (map ∷ t) = ap₂ _∷_ m d ∙ ap (λ (k : ℕ). take k (map ∷ t)) (sym (one-add n)) in
     let w : Whole fs (map ∷ t) y = record { room = long; bytes = z; fit = values-fit fs map t l (λ i. b (suc i)) } in
     let same : y ≡ x = ap saidIn (r .1) in
     rw (← same) w

@@ -8,10 +8,10 @@ use lib.ListN.{length, getD, drop, length-append}
 use Rattle.trellis.specs.Answer.{pick}
 use Rattle.numbers.specs.Numbers.{bytesOf}
 use Rattle.numbers.proofs.Laws.{length-bytes}
-use Rattle.records.specs.Reading.{sizeIn, needed}
 use Rattle.records.specs.Layout.{stands}
-use Rattle.records.specs.declared.Field.{Field}
 use Rattle.records.specs.Writing.{isWritten, fieldOf, bodyOf}
+use Rattle.records.specs.declared.Field.{Field}
+use Rattle.records.specs.Reading.{sizeIn, needed}
 
 pub size-some : (map : ℕ) (f : Field) → stands map f ≡ true → sizeIn map f ≡ f .size
 unfolding sizeIn
@@ -58,9 +58,6 @@ body-none vs = refl
 pub body-more : (f : Field) (fs : List Field) (v : ℕ) (vs : List ℕ) → bodyOf (f ∷ fs) (v ∷ vs) ≡ fieldOf f v ++ bodyOf fs vs
 unfolding bodyOf
 body-more f fs v vs = refl
-
-pub length-more : (f : Field) (fs : List Field) (v : ℕ) (vs : List ℕ) → length (bodyOf (f ∷ fs) (v ∷ vs)) ≡ length (fieldOf f v) + length (bodyOf fs vs)
-length-more f fs v vs = ap length (body-more f fs v vs) ∙ length-append (fieldOf f v) (bodyOf fs vs)
 
 -- the bytes of all fields of a layout
 abbrev pub allBytes : List Field → ℕ

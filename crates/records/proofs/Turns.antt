@@ -4,18 +4,19 @@ use mathlib.Core.Bool.{Bool, true, false, _&&_, _||_}
 use mathlib.Core.List.{List, [], _∷_, _++_, append-assoc, append-nil}
 use Prim.Native.Nat.{ℕ, _+_, _*_, _-_, _<_, _≤_}
 use native.Mathlib.Omega.{arith}
-use lib.Dec.{eqb}
 use lib.Seq.{drop-drop}
 use lib.ListN.{length, getD, drop, take, set, length-append, length-drop}
+use lib.Dec.{eqb}
 use Rattle.places.specs.Places.{firsts}
-use Rattle.places.proofs.Firsts.{next-first, no-first, firsts-more}
 use Rattle.places.proofs.Parts.{part-rest}
+use Rattle.places.proofs.Firsts.{next-first, no-first, firsts-more}
 use Rattle.numbers.specs.Numbers.{numberIn}
 use Rattle.words.specs.Word.{bitOf, withoutBit}
-use Rattle.records.specs.Layout.{noField, Laid, stands}
-use Rattle.records.specs.declared.Field.{Field}
 use Rattle.records.specs.Reading.{sizeIn, needed, valueIn, valuesIn, strayBits, restated}
+use Rattle.records.specs.declared.Field.{Field}
+use Rattle.records.specs.Layout.{noField, Laid, stands}
 use Rattle.records.proofs.Sizes.{size-small, needed-none, needed-more}
+use Rattle.records.proofs.Maps.{mapWithout, stray-rule}
 use Rattle.records.proofs.Layouts.{laid-at}
 
 -- ---- a field
@@ -77,18 +78,18 @@ module _ (fields : List Field) (n : ℕ) where
   -- ---- the bits that are no field's
   pub record Cleared (map left j : ℕ) : Type 0 where
     pub within : j ≤ n
-    pub same : strayBits fs map ≡ strayBits (drop j fs) left
+    pub same : mapWithout fs map ≡ mapWithout (drop j fs) left
 
   pub none-cleared : (map : ℕ) → Cleared map map 0
   none-cleared map = record { within = omega arith; same = refl }
 
   pub one-cleared : (map left j r : ℕ) → Cleared map left j → j < n → r ≡ withoutBit left (getD fields j noField .bit) → Cleared map r (j + 1)
-  unfolding strayBits
+  unfolding mapWithout
   one-cleared map left j r c h e = record { within = omega arith; same = c .same ∙ rw (next-first n j fields noField h, e) }
 
-  pub all-cleared : (map left j : ℕ) → Cleared map left j → n ≤ j → left ≡ strayBits fs map
-  unfolding strayBits
-  all-cleared map left j c h = sym (c .same ∙ rw (no-first n j fields noField h))
+  pub all-cleared : (map left j : ℕ) → map < 256 → Cleared map left j → n ≤ j → left ≡ strayBits fs map
+  unfolding mapWithout
+  all-cleared map left j l c h = sym (c .same ∙ rw (no-first n j fields noField h)) ∙ stray-rule fs map l
 
   -- ---- the values
   pub record Taken (map : ℕ) (s values : List ℕ) (at j : ℕ) : Type 0 where

@@ -6,16 +6,16 @@ use Prim.Native.Nat.{ℕ, suc, _+_, _*_, _^_, _<_, _≤_}
 use native.Mathlib.Numerals.{one-add}
 use native.Mathlib.Omega.{arith}
 use borrow.Author.Tests.{le-ltb, ne-eqb, eqb-true, not-false}
+use lib.Seq.{drop-at}
 use lib.ListN.{length, getD, drop, length-append}
 use lib.Dec.{eqb}
-use lib.Seq.{drop-at}
 use Rattle.trellis.specs.Answer.{pick}
 use Rattle.refusals.specs.Refusals.{given}
 use Rattle.numbers.specs.Numbers.{numberIn}
 use Rattle.numbers.proofs.Trip.{number-bytes}
-use Rattle.records.specs.Writing.{isWritten, mapWith, fieldOf, bodyOf, recordOf}
-use Rattle.records.specs.Layout.{isLayout, stands, Fits, fits-none, fits-more}
 use Rattle.records.specs.declared.Field.{Field}
+use Rattle.records.specs.Writing.{isWritten, mapOf, fieldOf, bodyOf, recordOf}
+use Rattle.records.specs.Layout.{isLayout, stands, Fits, fits-none, fits-more}
 use Rattle.records.specs.Reading.{sizeIn, needed, valueIn, valuesIn, restated, readMapped, readRecord}
 use Rattle.records.proofs.Sizes.{size-some, size-none, field-some, length-some, length-none}
 use Rattle.records.proofs.Maps.{Agrees, agrees-none, agrees-more, map-agrees, map-own}
@@ -64,7 +64,7 @@ unstated (f ∷ fs) map vs (agrees-more e r) = rw (e, unstated fs map (drop 1 vs
 pub record-back : (fs : List Field) (vs q : List ℕ) → isLayout fs ≡ true → Fits fs vs → readRecord fs (recordOf fs vs ++ q) ≡ given (record { values = vs; used = length (recordOf fs vs) })
 unfolding readRecord readMapped recordOf
 record-back fs vs q l h =
-    let map : ℕ = mapWith fs 0 vs in
+    let map : ℕ = mapOf fs vs in
     let s : List ℕ = map ∷ (bodyOf fs vs ++ q) in
     let a : Agrees map fs vs = map-agrees fs vs l in
     let n : 1 + needed fs map ≡ suc (length (bodyOf fs vs)) = ap (λ (k : ℕ). 1 + k) (needed-body fs map vs a) ∙ one-add (length (bodyOf fs vs)) in

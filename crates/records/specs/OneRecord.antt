@@ -5,8 +5,8 @@ use Prim.Native.Nat.{ℕ}
 use lib.ListN.{length, take}
 use Rattle.refusals.specs.Refusals.{given}
 use Rattle.numbers.specs.Numbers.{IsBytes}
-use Rattle.records.specs.declared.Field.{Field}
 use Rattle.records.specs.Writing.{recordOf}
+use Rattle.records.specs.declared.Field.{Field}
 use Rattle.records.specs.Reading.{readRecord}
 
 -- the record of some values reads as those values, whatever follows it, and bytes that read as them start with it

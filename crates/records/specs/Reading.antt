@@ -7,12 +7,12 @@ use lib.Dec.{eqb, ltb}
 use lib.ListN.{length, getD, drop}
 use Rattle.trellis.specs.Answer.{pick}
 use Rattle.places.specs.Places.{firsts}
+use Rattle.refusals.specs.Refusals.{Outcome, given, refused, refuseIf, orElse, ruling, rulingOf, givenOr}
 use Rattle.refusals.specs.declared.Verdict.the-variants.{Refused}
 use Rattle.refusals.specs.declared.Refusal.{Refusal}
-use Rattle.refusals.specs.Refusals.{Outcome, given, refused, refuseIf, orElse, ruling, rulingOf, givenOr}
 use Rattle.numbers.specs.Numbers.{numberIn}
-use Rattle.words.specs.Word.{withoutBit}
-use Rattle.records.specs.Layout.{stands}
+use Rattle.words.specs.Word.{bitOf, wordOf}
+use Rattle.records.specs.Layout.{isBit, stands}
 use Rattle.records.specs.declared.Field.{Field}
 use Rattle.records.specs.declared.Record.{Record}
 
@@ -34,10 +34,9 @@ unfoldable pub valuesIn : List Field → ℕ → List ℕ → List ℕ
 valuesIn [] map s = []
 valuesIn (f ∷ fs) map s = valueIn map f s ∷ valuesIn fs map (drop (sizeIn map f) s)
 
--- what is left of a map byte when the bits of all fields are taken from it: "a bit above bit 2", where the fields have bits 0 to 2
+-- the bits of a map byte that are no field's: "a bit above bit 2", where the fields have bits 0 to 2
 unfoldable pub strayBits : List Field → ℕ → ℕ
-strayBits [] map = map
-strayBits (f ∷ fs) map = strayBits fs (withoutBit map (f .bit))
+strayBits fs map = wordOf 8 (λ i. bitOf map i && not (isBit fs i))
 
 -- "A written field equals its absent value"
 unfoldable pub restated : List Field → ℕ → List ℕ → Bool

@@ -1,22 +1,26 @@
 -- The bytes of a record of any layout. Assumes nothing.
-use mathlib.Core.Bool.{Bool, not}
+use mathlib.Core.Bool.{Bool, false, not, _&&_, _||_}
 use mathlib.Core.List.{List, [], _∷_, _++_}
 use Prim.Native.Nat.{ℕ}
-use lib.Dec.{eqb}
 use lib.ListN.{getD, drop}
+use lib.Dec.{eqb}
 use Rattle.trellis.specs.Answer.{pick}
 use Rattle.numbers.specs.Numbers.{bytesOf}
-use Rattle.words.specs.Word.{withBit}
+use Rattle.words.specs.Word.{wordOf}
 use Rattle.records.specs.declared.Field.{Field}
 
 -- "A field equal to its absent value is never written"
 unfoldable pub isWritten : Field → ℕ → Bool
 isWritten f v = not (eqb v (f .absent))
 
--- a map byte with the bits of the fields that are written
-unfoldable pub mapWith : List Field → ℕ → List ℕ → ℕ
-mapWith [] map values = map
-mapWith (f ∷ fs) map values = mapWith fs (pick (isWritten f (getD values 0 0)) (withBit map (f .bit)) map) (drop 1 values)
+-- whether the field with this bit is written
+unfoldable pub writtenAt : List Field → List ℕ → ℕ → Bool
+writtenAt [] values i = false
+writtenAt (f ∷ fs) values i = (isWritten f (getD values 0 0) && eqb i (f .bit)) || writtenAt fs (drop 1 values) i
+
+-- the map byte: the bits of the fields that are written
+unfoldable pub mapOf : List Field → List ℕ → ℕ
+mapOf fs values = wordOf 8 (writtenAt fs values)
 
 -- the bytes of a field
 unfoldable pub fieldOf : Field → ℕ → List ℕ
@@ -29,4 +33,4 @@ bodyOf (f ∷ fs) values = fieldOf f (getD values 0 0) ++ bodyOf fs (drop 1 valu
 
 -- THE BYTES OF A RECORD: "a bit map byte, then only the fields whose bit stands"
 unfoldable pub recordOf : List Field → List ℕ → List ℕ
-recordOf fs values = mapWith fs 0 values ∷ bodyOf fs values
+recordOf fs values = mapOf fs values ∷ bodyOf fs values

@@ -14,7 +14,7 @@ ghost use Rattle.trellis.specs.Answer.{pick};
 ghost use Rattle.words.specs.Word.{withBit};
 ghost use Rattle.records.specs.Layout.{noField, Laid, stands};
 ghost use Rattle.records.specs.Reading.{sizeIn, needed, valueIn, valuesIn, strayBits, restated, readRecord, noRecord, Told};
-ghost use Rattle.records.specs.Writing.{isWritten, mapWith, fieldOf, bodyOf, recordOf};
+ghost use Rattle.records.specs.Writing.{isWritten, mapOf, fieldOf, bodyOf, recordOf};
 
 // A field of a record: its bit in the map byte, its bytes, and its value where it is absent.
 pub struct Field {
@@ -57,9 +57,9 @@ fn needed(map: u64, fields: [Field; 8], n: usize) -> usize
     total
 }
 
-// What is left of a map byte without the bits of the fields.
+// The bits of a map byte that are no field's.
 fn stray_bits(map: u64, fields: [Field; 8], n: usize) -> u64
-    requires { ⌜ Laid fields n ⌝ }
+    requires { ⌜ Laid fields n × (map < 256) ⌝ }
     ensures { λ r. ⌜ r ≡ strayBits (firsts n fields noField) map ⌝ }
 {
     let mut left = map;
@@ -182,7 +182,7 @@ fn map_with(map: u64, field: Field, value: u64) -> u64
 // The map byte of a record.
 fn map_of(values: [u64; 8], fields: [Field; 8], n: usize) -> u64
     requires { ⌜ Laid fields n ⌝ }
-    ensures { λ r. ⌜ (r ≡ mapWith (firsts n fields noField) 0 (firsts n values 0)) × (r < 256) ⌝ }
+    ensures { λ r. ⌜ (r ≡ mapOf (firsts n fields noField) (firsts n values 0)) × (r < 256) ⌝ }
 {
     let mut map = 0;
     let mut j = 0;

@@ -2,8 +2,8 @@
 use mathlib.Core.Path.{refl}
 use borrow.Author.Needs.{needs}
 use Rattle.network_file.specs.Fields.{linkOf}
-use Rattle.network_file.proofs.link_of.Tie as tie
 use Rattle.network_file.proofs.link_of.Statement.{statement}
+use Rattle.network_file.proofs.link_of.Tie as tie
 
 array-read-t5 : tie.Need-array-read-t5
 array-read-t5 c = search needs

@@ -3,8 +3,8 @@ use Prim.Native.Nat.{_-_}
 use native.Mathlib.Omega.{arith}
 use borrow.Author.Needs.{needs}
 use Rattle.places.proofs.Pieces.{Measured, none-measured, one-measured, all-measured}
-use Rattle.network_file.proofs.Images.{linksFrom, links-pieces}
 use Rattle.network_file.proofs.links_length.Tie as tie
+use Rattle.network_file.proofs.Images.{linksFrom, links-pieces}
 use Rattle.network_file.proofs.links_length.Statement.{statement}
 
 abbrev Inv-loop : tie.InvT-loop

@@ -3,8 +3,8 @@ use mathlib.Core.List.{[]}
 use native.Mathlib.Omega.{arith}
 use Rattle.places.proofs.Firsts.{firsts-filled}
 use Rattle.network.specs.Network.{noLink}
-use Rattle.network_file.proofs.no_links.Tie as tie
 use Rattle.network_file.proofs.no_links.Statement.{statement}
+use Rattle.network_file.proofs.no_links.Tie as tie
 
 returns : tie.Need-returns
 returns c = firsts-filled 32 [] noLink (omega arith)

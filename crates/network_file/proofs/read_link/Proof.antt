@@ -1,8 +1,8 @@
 -- `network_file::read_link` meets its contract. Assumes nothing.
 use borrow.Author.Needs.{needs}
-use Rattle.network_file.proofs.read_link.Statement.{statement}
 use Rattle.network_file.proofs.Records.{link-laid, record-small, record-refused, link-refused, link-read}
 use Rattle.network_file.proofs.read_link.Tie as tie
+use Rattle.network_file.proofs.read_link.Statement.{statement}
 
 link-fields-requires : tie.Need-link-fields-requires
 link-fields-requires c κs = search needs

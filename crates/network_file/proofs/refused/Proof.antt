@@ -1,8 +1,8 @@
 -- `network_file::refused` meets its contract. Assumes nothing.
 use borrow.Author.Needs.{needs}
 use Rattle.network_file.proofs.refused.Statement.{statement}
-use Rattle.network_file.proofs.Files.{no-network}
 use Rattle.network_file.proofs.refused.Tie as tie
+use Rattle.network_file.proofs.Files.{no-network}
 
 no-links-requires : tie.Need-no-links-requires
 no-links-requires c κs = search needs

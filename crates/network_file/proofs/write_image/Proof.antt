@@ -2,8 +2,8 @@
 use native.Mathlib.Omega.{arith}
 use borrow.Author.Needs.{needs}
 use Rattle.network_file.proofs.write_image.Statement.{statement}
-use Rattle.network_file.proofs.Images.{few, image-long, two-room, three-room, image-keeps, image-put}
 use Rattle.network_file.proofs.write_image.Tie as tie
+use Rattle.network_file.proofs.Images.{few, image-long, two-room, three-room, image-keeps, image-put}
 
 cast-write-number : tie.Need-cast-write-number
 cast-write-number c = search needs

@@ -1,9 +1,9 @@
 -- `network_file::write_link` meets its contract. Assumes nothing.
 use borrow.Author.Needs.{needs}
-use Rattle.network_file.proofs.write_link.Statement.{statement}
-use Rattle.network_file.proofs.Images.{link-bytes}
 use Rattle.network_file.proofs.write_link.Tie as tie
 use Rattle.network_file.proofs.Records.{link-laid}
+use Rattle.network_file.proofs.write_link.Statement.{statement}
+use Rattle.network_file.proofs.Images.{link-bytes}
 
 values-of-requires : tie.Need-values-of-requires
 values-of-requires c κs = search needs

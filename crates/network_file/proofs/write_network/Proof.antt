@@ -1,8 +1,8 @@
 -- `network_file::write_network` meets its contract. Assumes nothing.
 use borrow.Author.Needs.{needs}
-use Rattle.network_file.proofs.write_network.Tie as tie
 use Rattle.network_file.proofs.Images.{check-passed, check-refused}
 use Rattle.network_file.proofs.write_network.Statement.{statement}
+use Rattle.network_file.proofs.write_network.Tie as tie
 
 check-network-requires : tie.Need-check-network-requires
 check-network-requires c κs = search needs

@@ -4,8 +4,8 @@ use Prim.Native.Nat.{ℕ, _+_}
 use native.Mathlib.Omega.{arith}
 use borrow.Author.Needs.{needs}
 use Rattle.network_file.proofs.Images.{few, short, enough, image-written}
-use Rattle.network_file.proofs.write_passed.Tie as tie
 use Rattle.network_file.proofs.write_passed.Statement.{statement}
+use Rattle.network_file.proofs.write_passed.Tie as tie
 
 links-length-requires : tie.Need-links-length-requires
 links-length-requires c κs = few (c .before .before .args .network) (c .before .before .pre)

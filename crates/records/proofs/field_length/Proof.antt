@@ -1,8 +1,8 @@
 -- `records::field_length` meets its contract. Assumes nothing.
 use borrow.Author.Needs.{needs}
-use Rattle.records.proofs.Pieces.{some-long, none-long}
-use Rattle.records.proofs.field_length.Statement.{statement}
 use Rattle.records.proofs.field_length.Tie as tie
+use Rattle.records.proofs.field_length.Statement.{statement}
+use Rattle.records.proofs.Pieces.{some-long, none-long}
 
 is-written-requires : tie.Need-is-written-requires
 is-written-requires c κs = search needs

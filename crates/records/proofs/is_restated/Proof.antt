@@ -1,7 +1,7 @@
 -- `records::is_restated` meets its contract. Assumes nothing.
 use borrow.Author.Needs.{needs}
-use Rattle.records.proofs.is_restated.Statement.{statement}
 use Rattle.records.proofs.is_restated.Tie as tie
+use Rattle.records.proofs.is_restated.Statement.{statement}
 use Rattle.records.proofs.Turns.{restated-here, restated-absent}
 
 has-bit-requires : tie.Need-has-bit-requires

@@ -1,8 +1,8 @@
 -- `records::map_of` meets its contract. Assumes nothing.
 use Prim.Native.Nat.{_-_}
 use native.Mathlib.Omega.{arith}
-use Rattle.records.proofs.Pieces.{Mapped, none-mapped, one-mapped, all-mapped}
 use Rattle.records.proofs.map_of.Tie as tie
+use Rattle.records.proofs.Pieces.{Mapped, none-mapped, one-mapped, all-mapped}
 use Rattle.records.proofs.map_of.Statement.{statement}
 use Rattle.records.proofs.Layouts.{laid-at}
 
@@ -37,10 +37,10 @@ loop-less : tie.Need-loop-less Inv-loop μ-loop
 loop-less c = omega arith
 
 loop-again : tie.Need-loop-again Inv-loop μ-loop
-loop-again c = one-mapped _ _ _ _ _ _ (c .before .before .before .before .pre) (c .before .before .before .loop .inv) (c .before .before .loop-test .taken) (c .map-with .ensures)
+loop-again c = one-mapped _ _ _ _ _ _ (c .before .before .before .loop .inv) (c .before .before .loop-test .taken) (c .map-with .ensures)
 
 returns : tie.Need-returns Inv-loop μ-loop
-returns c = all-mapped _ _ _ _ _ (c .before .loop .inv) (c .loop-test .left)
+returns c = all-mapped _ _ _ _ _ (c .before .before .pre) (c .before .loop .inv) (c .loop-test .left)
 
 pub map-of-spec : {M : Type 1} → statement M
 map-of-spec =

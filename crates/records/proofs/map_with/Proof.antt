@@ -1,8 +1,8 @@
 -- `records::map_with` meets its contract. Assumes nothing.
 use borrow.Author.Needs.{needs}
+use Rattle.records.proofs.map_with.Tie as tie
 use Rattle.records.proofs.map_with.Statement.{statement}
 use Rattle.records.proofs.Pieces.{map-more, map-same}
-use Rattle.records.proofs.map_with.Tie as tie
 
 is-written-requires : tie.Need-is-written-requires
 is-written-requires c κs = search needs

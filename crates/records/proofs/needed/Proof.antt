@@ -2,8 +2,8 @@
 use Prim.Native.Nat.{_-_}
 use native.Mathlib.Omega.{arith}
 use Rattle.records.proofs.Turns.{Added, none-added, one-added, all-added}
-use Rattle.records.proofs.needed.Statement.{statement}
 use Rattle.records.proofs.needed.Tie as tie
+use Rattle.records.proofs.needed.Statement.{statement}
 use Rattle.records.proofs.Layouts.{laid-at}
 
 abbrev Inv-loop : tie.InvT-loop

@@ -3,9 +3,9 @@ use native.Mathlib.Omega.{arith}
 use borrow.Author.Needs.{needs}
 use lib.ListN.{length-drop}
 use Rattle.places.proofs.Parts.{part-rest}
-use Rattle.records.proofs.put_field.Tie as tie
-use Rattle.records.proofs.Pieces.{some-room, some-put, none-put}
 use Rattle.records.proofs.put_field.Statement.{statement}
+use Rattle.records.proofs.Pieces.{some-room, some-put, none-put}
+use Rattle.records.proofs.put_field.Tie as tie
 
 is-written-requires : tie.Need-is-written-requires
 is-written-requires c κs = search needs

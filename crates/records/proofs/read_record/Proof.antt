@@ -3,8 +3,8 @@ use mathlib.Core.Path.{refl, ap}
 use Prim.Native.Nat.{ℕ, _+_}
 use native.Mathlib.Omega.{arith}
 use borrow.Author.Needs.{needs}
-use Rattle.records.proofs.read_record.Statement.{statement}
 use Rattle.records.proofs.read_record.Tie as tie
+use Rattle.records.proofs.read_record.Statement.{statement}
 use Rattle.records.proofs.Cases.{none-left, too-short, stray, again, said}
 
 refused-requires : tie.Need-refused-requires
@@ -26,7 +26,7 @@ add-used : tie.Need-add-used
 add-used c = search needs
 
 stray-bits-requires : tie.Need-stray-bits-requires
-stray-bits-requires c κs = search needs
+stray-bits-requires c κs = (c .before .before .before .before .pre, c .before .shared-slice-known2 .given 0 .fits)
 
 refused-requires-2 : tie.Need-refused-requires-2
 refused-requires-2 c κs = search needs

@@ -3,9 +3,9 @@ use Prim.Native.Nat.{_-_}
 use native.Mathlib.Omega.{arith}
 use borrow.Author.Needs.{needs}
 use Rattle.places.proofs.Pieces.{Measured, none-measured, one-measured, all-measured}
-use Rattle.records.proofs.record_length.Tie as tie
 use Rattle.records.proofs.Pieces.{fieldsFrom, fields-pieces, field-small, record-measured}
 use Rattle.records.proofs.record_length.Statement.{statement}
+use Rattle.records.proofs.record_length.Tie as tie
 
 abbrev Inv-loop : tie.InvT-loop
 Inv-loop n values fields total₀ j₀ total j = Measured n (fieldsFrom fields n values) 1 8 total j

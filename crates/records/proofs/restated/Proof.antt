@@ -1,9 +1,9 @@
 -- `records::restated` meets its contract. The invariant: no field below i is restated. Assumes nothing.
 use Prim.Native.Nat.{_-_}
 use native.Mathlib.Omega.{arith}
+use Rattle.records.proofs.restated.Statement.{statement}
 use Rattle.records.proofs.restated.Tie as tie
 use Rattle.records.proofs.Turns.{Unstated, none-unstated, one-restated, one-unstated, all-unstated}
-use Rattle.records.proofs.restated.Statement.{statement}
 use Rattle.records.proofs.Layouts.{laid-at}
 
 abbrev Inv-loop : tie.InvT-loop

@@ -1,8 +1,8 @@
 -- `records::size_in` meets its contract. Assumes nothing.
 use borrow.Author.Needs.{needs}
-use Rattle.records.proofs.Turns.{size-here, size-absent}
 use Rattle.records.proofs.size_in.Statement.{statement}
 use Rattle.records.proofs.size_in.Tie as tie
+use Rattle.records.proofs.Turns.{size-here, size-absent}
 
 has-bit-requires : tie.Need-has-bit-requires
 has-bit-requires c κs = search needs

@@ -1,8 +1,8 @@
 -- `records::value_in` meets its contract. Assumes nothing.
 use borrow.Author.Needs.{needs}
-use Rattle.records.proofs.Turns.{value-here, value-absent, value-room}
-use Rattle.records.proofs.value_in.Statement.{statement}
 use Rattle.records.proofs.value_in.Tie as tie
+use Rattle.records.proofs.value_in.Statement.{statement}
+use Rattle.records.proofs.Turns.{value-here, value-absent, value-room}
 
 has-bit-requires : tie.Need-has-bit-requires
 has-bit-requires c κs = search needs

@@ -1,8 +1,8 @@
 -- `records::write_record` meets its contract. Assumes nothing.
 use borrow.Author.Needs.{needs}
-use Rattle.records.proofs.write_record.Statement.{statement}
 use Rattle.records.proofs.Pieces.{some-byte, body-room, record-put, record-long}
 use Rattle.records.proofs.write_record.Tie as tie
+use Rattle.records.proofs.write_record.Statement.{statement}
 
 map-of-requires : tie.Need-map-of-requires
 map-of-requires c κs = search needs
