@@ -57,6 +57,10 @@ stored-back t e =
     let c = count-passed (length (t .links)) (network-good t e .count) in
     rw (firsts-back 32 (t .links) noLink (c .1))
 
+-- WHAT `read_network` READ STANDS FOR THE NETWORK THAT THE FILE SAYS
+pub read-stands : (s : List ℕ) (t : Topology) (r : Loaded) → IsBytes s → readNetwork s ≡ given t → Reads (readNetwork s) r → topologyOf (r .network) ≡ t
+read-stands s t r b e d = ap topologyOf (d .network ∙ ap storedIn e) ∙ stored-back t (read-passes s t b e)
+
 -- a write that was not refused
 record Done (t : Topology) (room size : ℕ) : Type 0 where
   pub passed : networkCheck t ≡ given pass
@@ -99,7 +103,7 @@ read-writes file r before after w b d p room x =
     let t : Topology = givenOr nothing o in
     let e : o ≡ given t = given-is o nothing (sym (ap ruling p) ∙ d .verdict) in
     let q : Is file t = file-only file t b e in
-    let same : topologyOf (r .network) ≡ t = ap topologyOf (d .network ∙ ap storedIn e) ∙ stored-back t (q .passed) in
+    let same : topologyOf (r .network) ≡ t = read-stands file t r b e d in
     let y : Writes t before after w = subst (λ (z : Topology). Writes z before after w) same x in
     let fits : length (imageOf t) ≤ length before = omega (arith, ap length (q .image)) in
     let g : writeNetwork t (length before) ≡ given (length (imageOf t)) = passes t (length before) (q .passed) fits in

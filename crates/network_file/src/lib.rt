@@ -115,6 +115,7 @@ pub fn read_link(ticks: u16, rest: &[u8]) -> LinkRecord
     }
 }
 
+// The places of a network without links.
 fn no_links() -> [Link; 32]
     ensures { λ r. ⌜ r ≡ firsts 32 [] noLink ⌝ }
 {
@@ -125,6 +126,7 @@ fn no_links() -> [Link; 32]
     }; 32]
 }
 
+// The answer for a file that is refused.
 fn refused(refusal: Refusal) -> Loaded
     ensures { λ r. ⌜ r ≡ noNetwork refusal ⌝ }
 {

@@ -123,6 +123,7 @@ fn restated(map: u64, values: [u64; 8], fields: [Field; 8], n: usize) -> bool
     false
 }
 
+// The answer for a record that is refused.
 fn refused(refusal: Refusal) -> Record
     ensures { λ r. ⌜ r ≡ noRecord refusal ⌝ }
 {
