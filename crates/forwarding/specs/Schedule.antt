@@ -6,7 +6,7 @@ use Prim.Native.Nat.{ℕ, _+_, _*_, _≤_}
 use Rattle.trellis.specs.Trellis.{Reach, never, after, Stage, Trellis, entry}
 use Rattle.trellis.specs.Considered.{considered}
 use Rattle.trellis.specs.Answer.{Answer, answer}
-use Rattle.trellis.specs.Walk.{grow, Walk, walkCost, Answers}
+use Rattle.trellis.specs.Walk.{grow, Walk, walks, walkCost, Answers}
 use Rattle.forwarding.specs.declared.Hop.{Hop}
 use Rattle.forwarding.specs.Forwarding.{isFree, stage}
 
@@ -32,6 +32,11 @@ routeTrellis T (h ∷ hs) = grow (entry (h .frames) (starts h)) (stages T (h .fr
 abbrev pub IsSchedule : ℕ → List Hop → List ℕ → Type 0
 IsSchedule T [] fs = ⊥
 IsSchedule T (h ∷ hs) fs = Walk (h .frames) (starts h) (stages T (h .frames) hs) fs
+
+-- the same as a test
+abbrev pub isSchedule : ℕ → List Hop → List ℕ → Bool
+isSchedule T [] fs = false
+isSchedule T (h ∷ hs) fs = walks (h .frames) (starts h) (stages T (h .frames) hs) fs
 
 -- the delay of a schedule: "Its delay is the sum, 0 for one hop"
 abbrev pub scheduleDelay : ℕ → List Hop → List ℕ → ℕ

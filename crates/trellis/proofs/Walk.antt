@@ -1,11 +1,16 @@
 -- A path is a path so far, gone on with; so walks are the paths, read from the first stage on. Assumes nothing.
 use mathlib.Core.Path.{_≡_, refl, sym, _∙_, ap}
+use mathlib.Core.Bool.{Bool, true, false, _&&_, false≢true}
 use mathlib.Core.List.{List, [], _∷_, reverse, reverseAux, reverse-reverse}
 use Prim.Native.Nat.{ℕ, _+_, _≤_}
 use native.Mathlib.Omega.{arith}
-use Rattle.trellis.specs.Trellis.{Reach, Stage, Trellis, entry, _▸_, Leads, total, behind, IsPath, pathCost, pathKey, Least}
+use lib.Dec.{ltb}
+use borrow.Author.Tests.{lt-ltb, ltb-true}
+use Rattle.trellis.specs.Trellis.{Reach, never, after, Stage, Trellis, entry, _▸_, Leads, total, behind, IsPath, pathCost, pathKey, Least}
 use Rattle.trellis.specs.Answer.{Answer, found, blocked, answer, IsAnswer}
-use Rattle.trellis.specs.Walk.{grow, Onward, onwardCost, Walk, walkCost, noted, walkKey, LeastWalk, Answers}
+use Rattle.trellis.specs.Paths.{reached}
+use Rattle.trellis.specs.Walk.{grow, Onward, onwardCost, Walk, goesOn, walks, walkCost, noted, walkKey, LeastWalk, Answers}
+use Rattle.trellis.proofs.Count.{and-true, true-and}
 use Rattle.trellis.proofs.Order.{precedes-head}
 use Rattle.trellis.proofs.Only.{answer-only}
 use Rattle.trellis.proofs.Least.{answer-right}
@@ -116,3 +121,39 @@ module _ (n : ℕ) (s : ℕ → Reach) (sts : List Stage) where
   walk-least-cost (k ∷ is) [] h l = absurd l
   walk-least-cost (k ∷ is) (j ∷ js) h l =
       precedes-head (walkCost s sts (k ∷ is)) (walkCost s sts (j ∷ js)) (noted (k ∷ []) k sts is) (noted (j ∷ []) j sts js) (h .first (j ∷ js) l)
+
+-- THE TEST OF A WALK TELLS WALKS
+goes-onward : (sts : List Stage) (k : ℕ) (is : List ℕ) → goesOn k sts is ≡ true → Onward k sts is
+goes-onward [] k [] e = tt
+goes-onward [] k (i ∷ is) e = absurd (false≢true e)
+goes-onward (st ∷ sts) k [] e = absurd (false≢true e)
+goes-onward (st ∷ sts) k (i ∷ is) e =
+    let a = and-true (ltb i (st .size)) (st .allowed k i && goesOn i sts is) e in
+    let b = and-true (st .allowed k i) (goesOn i sts is) (a .1) in
+    (ltb-true i (st .size) (a .0), b .0, goes-onward sts i is (b .1))
+
+onward-goes : (sts : List Stage) (k : ℕ) (is : List ℕ) → Onward k sts is → goesOn k sts is ≡ true
+onward-goes [] k [] o = refl
+onward-goes [] k (i ∷ is) o = absurd o
+onward-goes (st ∷ sts) k [] o = absurd o
+onward-goes (st ∷ sts) k (i ∷ is) o =
+    true-and (ltb i (st .size)) (st .allowed k i && goesOn i sts is) (lt-ltb i (st .size) (o .0))
+    (true-and (st .allowed k i) (goesOn i sts is) (o .1) (onward-goes sts i is (o .2)))
+
+reached-after : (x : Reach) → reached x ≡ true → (c : ℕ) × (x ≡ after c)
+reached-after never e = absurd (false≢true e)
+reached-after (after c) e = (c, refl)
+
+module _ (n : ℕ) (s : ℕ → Reach) (sts : List Stage) where
+  pub walks-walk : (w : List ℕ) → walks n s sts w ≡ true → Walk n s sts w
+  walks-walk [] e = absurd (false≢true e)
+  walks-walk (k ∷ is) e =
+      let a = and-true (ltb k n) (reached (s k) && goesOn k sts is) e in
+      let b = and-true (reached (s k)) (goesOn k sts is) (a .1) in
+      (ltb-true k n (a .0), reached-after (s k) (b .0), goes-onward sts k is (b .1))
+
+  pub walk-walks : (w : List ℕ) → Walk n s sts w → walks n s sts w ≡ true
+  walk-walks [] h = absurd h
+  walk-walks (k ∷ is) h =
+      true-and (ltb k n) (reached (s k) && goesOn k sts is) (lt-ltb k n (h .0))
+      (true-and (reached (s k)) (goesOn k sts is) (ap reached (h .1 .1)) (onward-goes sts k is (h .2)))

@@ -1,10 +1,12 @@
 -- A path read from the first stage on: a walk. Assumes nothing.
 use mathlib.Core.Path.{_≡_}
-use mathlib.Core.Bool.{true}
+use mathlib.Core.Bool.{Bool, true, false, _&&_}
 use mathlib.Core.List.{List, [], _∷_}
 use Prim.Native.Nat.{ℕ, _+_, _<_}
+use lib.Dec.{ltb}
 use Rattle.trellis.specs.Order.{Precedes}
 use Rattle.trellis.specs.Trellis.{Reach, after, costOf, Stage, Trellis, entry, _▸_}
+use Rattle.trellis.specs.Paths.{reached}
 use Rattle.trellis.specs.Considered.{considered}
 use Rattle.trellis.specs.Answer.{Answer, found, blocked}
 
@@ -29,6 +31,17 @@ onwardCost k (st ∷ sts) (i ∷ is) = st .cost k i + onwardCost i sts is
 abbrev pub Walk : ℕ → (ℕ → Reach) → List Stage → List ℕ → Type 0
 Walk n s sts [] = ⊥
 Walk n s sts (k ∷ is) = (k < n) × ((c : ℕ) × (s k ≡ after c)) × Onward k sts is
+
+-- the same as tests
+abbrev pub goesOn : ℕ → List Stage → List ℕ → Bool
+goesOn k [] [] = true
+goesOn k [] (i ∷ is) = false
+goesOn k (st ∷ sts) [] = false
+goesOn k (st ∷ sts) (i ∷ is) = ltb i (st .size) && (st .allowed k i && goesOn i sts is)
+
+abbrev pub walks : ℕ → (ℕ → Reach) → List Stage → List ℕ → Bool
+walks n s sts [] = false
+walks n s sts (k ∷ is) = ltb k n && (reached (s k) && goesOn k sts is)
 
 abbrev pub walkCost : (ℕ → Reach) → List Stage → List ℕ → ℕ
 walkCost s sts [] = 0

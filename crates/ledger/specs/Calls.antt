@@ -1,0 +1,105 @@
+-- The calls on sessions: what each answers and what it leaves (document 01, "Calls on sessions"). Assumes nothing.
+use mathlib.Core.Bool.{Bool, not, cond}
+use mathlib.Core.List.{List, [], _∷_, _++_}
+use Prim.Native.Nat.{ℕ}
+use lib.ListN.{length}
+use lib.Dec.{eqb, leb}
+use Rattle.trellis.specs.Answer.{found, blocked}
+use Rattle.trellis.specs.Answer as trellis
+use Rattle.refusals.specs.Refusals.{Ruling, Outcome, given, refused, pass, refuseIf, orElse}
+use Rattle.words.specs.Word.{freeFrames}
+use Rattle.network.specs.Network.{Topology}
+use Rattle.forwarding.specs.Schedule.{routeAnswer}
+use Rattle.ledger.specs.Lists.{keep}
+use Rattle.ledger.specs.Sessions.{Held, Session, View, isLive, linkAt, freeOf, hopsOf}
+use Rattle.ledger.specs.Routes.{unknown, routeCheck}
+use Rattle.ledger.specs.Sound.{brokenCheck}
+
+-- the calls of a list: "Set-up (number, route)", "Quote (route)", "Release (number)"
+pub data Call : Type 0 where
+  SetUp : (number : ℕ) (route : List ℕ) → Call
+  Quote : (route : List ℕ) → Call
+  Release : (number : ℕ) → Call
+
+-- a call's answer: a schedule with the count of transitions considered; that a session's frames are freed; or "A refusal returns its
+-- number, 18 also the count" (0 with any other)
+pub data Reply : Type 0 where
+  schedule : (held : Held) (count : ℕ) → Reply
+  freed : Reply
+  refusal : (number count : ℕ) → Reply
+
+-- the answer of "Least-delay schedule"; 18: "No schedule exists"
+abbrev pub replyOf : trellis.Answer → Reply
+replyOf (found delay count frames) = schedule record { frames = frames; delay = delay } count
+replyOf (blocked count) = refusal 18 count
+
+-- the first check that refuses, or else the answer
+abbrev pub unless : Ruling → Reply → Reply
+unless (given p) r = r
+unless (refused n) r = refusal n 0
+
+-- 17: "96 sessions are live"
+unfoldable pub full : List Session → Bool
+full ss = leb 96 (length ss)
+
+-- the checks of a call after 0, over the live sessions ss, in the order of the list: 12 to 15, "16. Set-up: the number is live", 17, and
+-- "19. Release or lookup: the number isn't live"
+unfoldable pub callCheck : Topology → List Session → Call → Ruling
+callCheck net ss (SetUp n route) = orElse (routeCheck net route) (orElse (refuseIf (isLive n ss) 16) (refuseIf (full ss) 17))
+callCheck net ss (Quote route) = routeCheck net route
+callCheck net ss (Release n) = refuseIf (not (isLive n ss)) 19
+
+-- what a call that no check refused answers: the answer over the frames then free, or that the session's frames are freed
+unfoldable pub served : Topology → List Session → Call → Reply
+served net ss (SetUp n route) = replyOf (routeAnswer (net .ticks) (hopsOf net ss route))
+served net ss (Quote route) = replyOf (routeAnswer (net .ticks) (hopsOf net ss route))
+served net ss (Release n) = freed
+
+-- THE ANSWER OF A CALL on a state that shows v, whatever state it is
+unfoldable pub reply : View → Call → Reply
+reply v call = unless (orElse (brokenCheck v) (callCheck (v .network) (v .live) call)) (served (v .network) (v .live) call)
+
+-- what a call with its answer does to sessions and ledger: "An accepted set-up enters its number, its route and its answer's frames and delay.
+-- An accepted release strikes out what stands under its number. A quote or a refused call leaves the ledger as it is"
+pub data Effect : Type 0 where
+  enters : Session → Effect
+  strikes : (number : ℕ) → Effect
+  leaves : Effect
+
+-- "A set-up is accepted when its answer is a schedule, a release when it isn't refused"
+abbrev pub effect : Call → Reply → Effect
+effect (SetUp n route) (schedule held count) = enters record { number = n; route = route; held = held }
+effect (SetUp n route) freed = leaves
+effect (SetUp n route) (refusal k count) = leaves
+effect (Quote route) r = leaves
+effect (Release n) (schedule held count) = leaves
+effect (Release n) freed = strikes n
+effect (Release n) (refusal k count) = leaves
+
+abbrev pub otherThan : ℕ → Session → Bool
+otherThan n s = not (eqb (s .number) n)
+
+-- the sessions after an effect: a new one stands last, and the others keep their order
+abbrev pub apply : List Session → Effect → List Session
+apply ss (enters s) = ss ++ (s ∷ [])
+apply ss (strikes n) = keep (otherThan n) ss
+apply ss leaves = ss
+
+-- WHAT A CALL LEAVES of a state that shows v
+unfoldable pub next : View → Call → View
+next v call = record { network = v .network; live = apply (v .live) (effect call (reply v call)) }
+
+-- Lookup (number): "the live session's route, frames and delay", or 19
+abbrev pub lookIn : ℕ → List Session → Outcome Session
+lookIn n [] = refused 19
+lookIn n (s ∷ ss) = cond (eqb (s .number) n) (given s) (lookIn n ss)
+
+unfoldable pub lookup : View → ℕ → Outcome Session
+lookup v n = orElse (brokenCheck v) (lookIn n (v .live))
+
+-- free frames of a link: "a call on the stored state gives their number (refusal 13 for a link that isn't there)"
+unfoldable pub freeCount : View → ℕ → Outcome ℕ
+freeCount v l =
+    orElse (brokenCheck v)
+    (orElse (refuseIf (unknown (length (v .network .links)) l) 13)
+    (given (freeFrames (linkAt (v .network) l .frames) (freeOf (v .network) (v .live) l))))

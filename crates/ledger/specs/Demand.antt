@@ -1,0 +1,94 @@
+-- Demand 3: one statement about a whole list of calls from a fresh network. Assumes nothing.
+use mathlib.Core.Path.{_≡_}
+use mathlib.Core.Bool.{true, false}
+use mathlib.Core.Logic.{_↔_}
+use mathlib.Core.List.{List, [], _∷_, _++_, List·Memᴰ}
+use Prim.Native.Nat.{ℕ, _+_, _<_}
+use lib.ListN.{length, getD}
+use Rattle.trellis.specs.Answer.{found, blocked}
+use Rattle.trellis.specs.Paths.{EachOnce}
+use Rattle.refusals.specs.Refusals.{given, refused, pass}
+use Rattle.network.specs.Network.{Topology}
+use Rattle.forwarding.specs.declared.Hop.{Hop}
+use Rattle.forwarding.specs.Schedule.{routeAnswer, IsSchedule, Given, transitions}
+use Rattle.ledger.specs.Lists.{any}
+use Rattle.ledger.specs.Sessions.{Held, Session, View, names, holds, isLive, hopsOf}
+use Rattle.ledger.specs.Calls.{Call, SetUp, Quote, Release, Reply, schedule, freed, refusal, callCheck, reply, next, lookup}
+use Rattle.ledger.specs.Ledger.{Step, did, ledger, acceptedSetUp, acceptedRelease, acceptedReleaseOf, countSteps}
+
+-- "A fresh network is any that has passed its checks, and it holds no sessions"
+abbrev pub fresh : Topology → View
+fresh net = record { network = net; live = [] }
+
+-- session n is live and holds frame i of link l: "A session is live there when lookup gives it, and it holds the frames shown"
+pub record HoldsFrame (v : View) (n l i : ℕ) : Type 0 where
+  pub session : Session
+  pub shown : lookup v n ≡ given session
+  pub named : holds l i session ≡ true
+
+-- "an accepted set-up's answer named it and no later release of that number was accepted"
+pub record NamedAndKept (steps : List Step) (l i : ℕ) : Type 0 where
+  pub number : ℕ
+  pub route : List ℕ
+  pub held : Held
+  pub count : ℕ
+  pub before : List Step
+  pub later : List Step
+  pub accepted : steps ≡ before ++ (did (SetUp number route) (schedule held count) ∷ later)
+  pub named : names route (held .frames) l i ≡ true
+  pub kept : any (acceptedReleaseOf number) later ≡ false
+
+-- the numbers of the live sessions, each once, "live ... when lookup gives it"
+pub record LiveNumbers (v : View) (ns : List ℕ) : Type 0 where
+  pub once : EachOnce ns
+  pub live : (n : ℕ) → List·Memᴰ n ns ↔ ((s : Session) × (lookup v n ≡ given s))
+
+-- the answer over hops: the rule's answer, and in so many words a schedule of least delay, with its delay and count, or "refused as blocked
+-- exactly when there was none", with the count
+pub data Served (T : ℕ) (hops : List Hop) : Reply → Type 0 where
+  scheduled : (held : Held) (count : ℕ) → routeAnswer T hops ≡ found (held .delay) count (held .frames)
+      → Given T hops (held .delay) count (held .frames) → Served T hops (schedule held count)
+  none : (count : ℕ) → routeAnswer T hops ≡ blocked count → count ≡ transitions T hops
+      → ((fs : List ℕ) → IsSchedule T hops fs → ⊥) → Served T hops (refusal 18 count)
+
+abbrev pub ServedCall : Topology → List Session → Call → Reply → Type 0
+ServedCall net ss (SetUp n route) r = Served (net .ticks) (hopsOf net ss route) r
+ServedCall net ss (Quote route) r = Served (net .ticks) (hopsOf net ss route) r
+ServedCall net ss (Release n) r = r ≡ freed
+
+-- a call's answer is right against the ledger ss before it: "every other check refuses exactly under its condition", never 0, and what no
+-- check refused is served over the frames that are then free
+pub record Right (net : Topology) (ss : List Session) (call : Call) (r : Reply) : Type 0 where
+  pub other : (k : ℕ) → callCheck net ss call ≡ refused k → r ≡ refusal k 0
+  pub only : (k count : ℕ) → r ≡ refusal k count → (k ≡ 18 → ⊥) → callCheck net ss call ≡ refused k
+  pub blocked : (count : ℕ) → r ≡ refusal 18 count → callCheck net ss call ≡ given pass
+  pub unbroken : (count : ℕ) → r ≡ refusal 0 count → ⊥
+  pub served : callCheck net ss call ≡ given pass → ServedCall net ss call r
+
+-- DEMAND 3, of the calls with their answers on the fresh network `net`; v is what the state after them shows
+pub record Demand3 (net : Topology) (v : View) (steps : List Step) : Type 0 where
+  -- "a frame is held exactly when an accepted set-up's answer named it and no later release of that number was accepted"
+  pub held : (l i : ℕ) → ((n : ℕ) × HoldsFrame v n l i) ↔ NamedAndKept steps l i
+  -- "a held frame has exactly one live session"
+  pub oneHolder : (l i n m : ℕ) → HoldsFrame v n l i → HoldsFrame v m l i → n ≡ m
+  -- "accepted set-ups = live sessions + accepted releases"
+  pub numbers : List ℕ
+  pub live : LiveNumbers v numbers
+  pub balance : countSteps acceptedSetUp steps ≡ length numbers + countSteps acceptedRelease steps
+  -- "every set-up or quote that no other check refused got a least schedule over the frames then free, or was refused as blocked exactly when
+  -- there was none"; "every other check refuses exactly under its condition, in the order of the refusal list"
+  pub answers : (before : List Step) (call : Call) (r : Reply) (later : List Step) → steps ≡ before ++ (did call r ∷ later)
+      → Right net (ledger before) call r
+  -- "lookup gives each entry's route, frames and delay for its number, and 19 for every number without an entry"
+  pub entryShown : (e : Session) → List·Memᴰ e (ledger steps) → lookup v (e .number) ≡ given e
+  pub noneShown : (n : ℕ) → isLive n (ledger steps) ≡ false → lookup v n ≡ refused 19
+  -- "No frame stands in two entries"
+  pub oneEntry : (l i j k : ℕ) (d : Session) → j < k → k < length (ledger steps)
+      → holds l i (getD (ledger steps) j d) ≡ true → holds l i (getD (ledger steps) k d) ≡ true → ⊥
+  -- a list of calls leaves the network as it is
+  pub network : v .network ≡ net
+
+-- the views that calls leave, one after the other, each call answered on the view that the one before it left
+pub data Runs : View → List Step → View → Type 0 where
+  over : {v : View} → Runs v [] v
+  then : {v last : View} {steps : List Step} (call : Call) → Runs (next v call) steps last → Runs v (did call (reply v call) ∷ steps) last

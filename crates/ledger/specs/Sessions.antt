@@ -1,0 +1,67 @@
+-- Sessions and the frames that they hold (document 01, "Calls on sessions"), and the hops of a route over the frames left free. Assumes nothing.
+use mathlib.Core.Path.{_≡_}
+use mathlib.Core.Bool.{Bool, false, _&&_, _||_}
+use mathlib.Core.List.{List, [], _∷_, map}
+use Prim.Native.Nat.{ℕ, _<_}
+use lib.ListN.{length, getD}
+use lib.Dec.{eqb}
+use Rattle.words.specs.Word.{wordOf, freeWord}
+use Rattle.network.specs.Network.{Topology, noLink}
+use Rattle.network.specs.declared.Link.{Link}
+use Rattle.forwarding.specs.declared.Hop.{Hop}
+use Rattle.ledger.specs.Lists.{any}
+
+-- what a schedule gives, and a session holds: "its answer's frames and delay", hop 0 first; a field that is added later stands here
+pub record Held : Type 0 where
+  pub frames : List ℕ
+  pub delay : ℕ
+
+-- a live session, and an entry of the ledger: "its number, its route and its answer's frames and delay"
+pub record Session : Type 0 where
+  pub number : ℕ
+  pub route : List ℕ
+  pub held : Held
+
+-- what a stored state shows: its network, and its live sessions in the order of set-up
+pub record View : Type 0 where
+  pub network : Topology
+  pub live : List Session
+
+-- frame i of link l stands in a route with its frames: "A frame is meant together with its link"
+abbrev pub names : List ℕ → List ℕ → ℕ → ℕ → Bool
+names [] fs l i = false
+names (r ∷ rs) [] l i = false
+names (r ∷ rs) (f ∷ fs) l i = (eqb r l && eqb f i) || names rs fs l i
+
+-- a session holds frame i of link l
+abbrev pub holds : ℕ → ℕ → Session → Bool
+holds l i s = names (s .route) (s .held .frames) l i
+
+-- some session of the list holds frame i of link l: "held by a live session"
+abbrev pub heldIn : List Session → ℕ → ℕ → Bool
+heldIn ss l i = any (holds l i) ss
+
+-- the words of held frames of 32 links: bit i of word l stands where a session holds frame i of link l
+pub record HeldWords (words : List ℕ) (ss : List Session) : Type 0 where
+  pub long : length words ≡ 32
+  pub word : (l : ℕ) → l < 32 → getD words l 0 ≡ wordOf 64 (heldIn ss l)
+
+-- a session of the list has the number: "the number is live"
+abbrev pub isLive : ℕ → List Session → Bool
+isLive n ss = any (λ s. eqb (s .number) n) ss
+
+-- link l of a network
+abbrev pub linkAt : Topology → ℕ → Link
+linkAt net l = getD (net .links) l noLink
+
+-- the free frames of link l as a word: "A frame is free when it is neither closed nor held by a live session"
+unfoldable pub freeOf : Topology → List Session → ℕ → ℕ
+freeOf net ss l = freeWord (linkAt net l .frames) (linkAt net l .closed) (wordOf (linkAt net l .frames) (heldIn ss l))
+
+-- link l as a hop: K, Z and its free frames; a field that is added later stands here
+abbrev pub hopOf : Topology → List Session → ℕ → Hop
+hopOf net ss l = record { frames = linkAt net l .frames; range = linkAt net l .range; free = freeOf net ss l }
+
+-- the hops of a route
+abbrev pub hopsOf : Topology → List Session → List ℕ → List Hop
+hopsOf net ss route = map (hopOf net ss) route

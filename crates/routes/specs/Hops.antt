@@ -1,0 +1,23 @@
+-- The hops of a route from stored values, and what a walk over frames says. Assumes nothing.
+use mathlib.Core.Bool.{cond}
+use mathlib.Core.List.{List, map}
+use mathlib.Core.Option.{Option, some, none}
+use Prim.Native.Nat.{ℕ}
+use lib.ListN.{getD}
+use Rattle.words.specs.Word.{freeWord}
+use Rattle.network.specs.Network.{noLink}
+use Rattle.network.specs.declared.Link.{Link}
+use Rattle.forwarding.specs.declared.Hop.{Hop}
+use Rattle.forwarding.specs.Schedule.{isSchedule, scheduleDelay}
+
+-- a link as a hop, by the word of its held frames
+abbrev pub hopFrom : Link → ℕ → Hop
+hopFrom k held = record { frames = k .frames; range = k .range; free = freeWord (k .frames) (k .closed) held }
+
+-- the hops of a route, by the links of a network and the words of their held frames
+abbrev pub hopsFrom : List Link → List ℕ → List ℕ → List Hop
+hopsFrom links held route = map (λ l. hopFrom (getD links l noLink) (getD held l 0)) route
+
+-- the delay of frames over hops, if they are a schedule
+abbrev pub delayIf : ℕ → List Hop → List ℕ → Option ℕ
+delayIf T hops fs = cond (isSchedule T hops fs) (some (scheduleDelay T hops fs)) none
