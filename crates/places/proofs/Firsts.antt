@@ -73,3 +73,22 @@ module _ {A : Type 0} where
   firsts-back n [] d h = refl
   firsts-back zero (x ∷ xs) d h = absurd (not-suc-le-zero h)
   firsts-back (suc n) (x ∷ xs) d h = ap (λ (t : List A). x ∷ t) (firsts-back n xs d (le-of-suc-le-suc h))
+
+  snoc : (n : ℕ) (l : List A) (d : A) → firsts (suc n) l d ≡ firsts n l d ++ (getD l n d ∷ [])
+  unfolding firsts
+  snoc zero [] d = refl
+  snoc zero (x ∷ l) d = refl
+  snoc (suc n) [] d = ap (λ (t : List A). d ∷ t) (snoc n [] d)
+  snoc (suc n) (x ∷ l) d = ap (λ (t : List A). x ∷ t) (snoc n l d)
+
+  -- one place more
+  pub firsts-snoc : (n : ℕ) (l : List A) (d : A) → firsts (n + 1) l d ≡ firsts n l d ++ (getD l n d ∷ [])
+  firsts-snoc n l d = ap (λ (m : ℕ). firsts m l d) (add-one n) ∙ snoc n l d
+
+  -- a place past the first n stored to
+  pub firsts-past : (n m : ℕ) (l : List A) (x d : A) → n ≤ m → firsts n (set l m x) d ≡ firsts n l d
+  unfolding firsts
+  firsts-past zero m l x d h = refl
+  firsts-past (suc n) zero l x d h = absurd (not-suc-le-zero h)
+  firsts-past (suc n) (suc m) [] x d h = refl
+  firsts-past (suc n) (suc m) (y ∷ l) x d h = ap (λ (t : List A). y ∷ t) (firsts-past n m l x d (le-of-suc-le-suc h))

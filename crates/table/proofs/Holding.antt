@@ -1,0 +1,78 @@
+-- The words of held frames of the sessions in the first places. Assumes nothing.
+use mathlib.Core.Path.{_≡_, refl, sym, ap, ap₂, _∙_}
+use mathlib.Core.Bool.{Bool, true, false, _||_}
+use mathlib.Core.List.{List, [], _∷_}
+use Prim.Native.Nat.{ℕ, zero, suc, _+_, _<_}
+use native.Mathlib.Omega.{arith}
+use lib.ListN.{getD, replicate}
+use Rattle.places.specs.Places.{firsts}
+use Rattle.words.specs.Word.{bitOf, wordOf}
+use Rattle.ledger.specs.Lists.{any, anyTwo}
+use Rattle.ledger.specs.Sessions.{Session, HeldWords, holds, heldIn}
+use Rattle.ledger.specs.Sound.{someFrame, shareFrame, frameTwice}
+use Rattle.table.specs.declared.Place.{Place}
+use Rattle.table.specs.Table.{sessionOf, noPlace, inPlaces, PlaceWithin, Words, Marked}
+use Rattle.table.proofs.Live.{in-snoc}
+use Rattle.table.proofs.Banks.{words-bit, words-same, words-none}
+use Rattle.table.proofs.Twice.{any-snoc}
+
+pub held-none : (places : List Place) → Words 32 (replicate 32 0) (heldIn (inPlaces 0 places))
+unfolding firsts
+held-none places = words-none 32
+
+pub held-more : (places : List Place) (i : ℕ) (old new : List ℕ) → Words 32 old (heldIn (inPlaces i places)) → Marked (getD places i noPlace) old new
+    → Words 32 new (heldIn (inPlaces (i + 1) places))
+held-more places i old new w m =
+    words-same 32 new (λ l k. heldIn (inPlaces i places) l k || holds l k (sessionOf (getD places i noPlace))) (heldIn (inPlaces (i + 1) places))
+    (λ l k h g. sym (ap (λ (ss : List Session). heldIn ss l k) (in-snoc i places) ∙ any-snoc (holds l k) (inPlaces i places) (sessionOf (getD places i noPlace))))
+    (m (heldIn (inPlaces i places)) w)
+
+-- a frame of a session that one of some sessions holds, and one of the sessions that shares a frame with it
+any-or : (p q : Session → Bool) (ss : List Session) → (any p ss || any q ss) ≡ any (λ s. p s || q s) ss
+any-or p q [] = refl
+any-or p q (s ∷ ss) = shuffle (p s) (any p ss) (q s) (any q ss) ∙ ap (λ (b : Bool). (p s || q s) || b) (any-or p q ss)
+  where
+    shuffle : (a b c d : Bool) → ((a || b) || (c || d)) ≡ ((a || c) || (b || d))
+    shuffle true b c d = refl
+    shuffle false true true d = refl
+    shuffle false true false d = refl
+    shuffle false false c d = refl
+
+any-none : (ss : List Session) → any (λ s. false) ss ≡ false
+any-none [] = refl
+any-none (s ∷ ss) = any-none ss
+
+some-held : (ss : List Session) (route frames : List ℕ) → someFrame (heldIn ss) route frames ≡ any (λ s. someFrame (λ l i. holds l i s) route frames) ss
+some-held ss [] fs = sym (any-none ss)
+some-held ss (l ∷ ls) [] = sym (any-none ss)
+some-held ss (l ∷ ls) (i ∷ fs) =
+    ap (λ (b : Bool). heldIn ss l i || b) (some-held ss ls fs)
+    ∙ any-or (holds l i) (λ s. someFrame (λ k j. holds k j s) ls fs) ss
+
+some-cong : (p q : ℕ → ℕ → Bool) (n : ℕ) (route frames : List ℕ) → ((j : ℕ) → j < n → p (getD route j 0) (getD frames j 0) ≡ q (getD route j 0) (getD frames j 0))
+    → someFrame p (firsts n route 0) (firsts n frames 0) ≡ someFrame q (firsts n route 0) (firsts n frames 0)
+unfolding firsts
+some-cong p q zero route frames e = refl
+some-cong p q (suc n) [] [] e = ap₂ (λ (a b : Bool). a || b) (e 0 (omega arith)) (some-cong p q n [] [] (λ j h. e (suc j) (omega (arith, h))))
+some-cong p q (suc n) [] (f ∷ fs) e = ap₂ (λ (a b : Bool). a || b) (e 0 (omega arith)) (some-cong p q n [] fs (λ j h. e (suc j) (omega (arith, h))))
+some-cong p q (suc n) (r ∷ rs) [] e = ap₂ (λ (a b : Bool). a || b) (e 0 (omega arith)) (some-cong p q n rs [] (λ j h. e (suc j) (omega (arith, h))))
+some-cong p q (suc n) (r ∷ rs) (f ∷ fs) e = ap₂ (λ (a b : Bool). a || b) (e 0 (omega arith)) (some-cong p q n rs fs (λ j h. e (suc j) (omega (arith, h))))
+
+-- what the words of the sessions before say of the next one
+pub met-shares : (places : List Place) (i : ℕ) (words : List ℕ) → Words 32 words (heldIn (inPlaces i places)) → (place : Place) → PlaceWithin place
+    → someFrame (λ l k. bitOf (getD words l 0) k) (firsts (place .hops) (place .route) 0) (firsts (place .hops) (place .frames) 0)
+    ≡ any (λ s. shareFrame s (sessionOf place)) (inPlaces i places)
+met-shares places i words w place h =
+    some-cong (λ l k. bitOf (getD words l 0) k) (heldIn (inPlaces i places)) (place .hops) (place .route) (place .frames)
+    (λ j g. words-bit 32 words (heldIn (inPlaces i places)) w (getD (place .route) j 0) (getD (place .frames) j 0) (h .link j g) (h .frame j g))
+    ∙ some-held (inPlaces i places) (firsts (place .hops) (place .route) 0) (firsts (place .hops) (place .frames) 0)
+
+-- the words of all sessions
+pub held-all : (places : List Place) (n i : ℕ) (words : List ℕ) → Words 32 words (heldIn (inPlaces i places)) → i ≡ n → HeldWords words (inPlaces n places)
+held-all places n i words w e =
+    record { long = w .long; word = λ l h. w .word l h ∙ ap (λ (m : ℕ). wordOf 64 (heldIn (inPlaces m places) l)) e }
+
+-- "two sessions hold one frame", by twos
+pub frames-rule : (ss : List Session) → anyTwo shareFrame ss ≡ frameTwice ss
+unfolding frameTwice
+frames-rule ss = refl
