@@ -1,2 +1,4 @@
 pub mod Lists
 pub mod Intact
+pub mod Free
+pub mod Counted
