@@ -2,3 +2,5 @@ pub mod Lists
 pub mod Intact
 pub mod Free
 pub mod Counted
+pub mod Schedules
+pub mod Answered
