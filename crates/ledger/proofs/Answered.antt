@@ -33,6 +33,7 @@ pub record Admitted (net : Topology) (ss : List Session) (n : ℕ) (route : List
   pub unused : isLive n ss ≡ false
   pub room : full ss ≡ false
 
+-- of two checks that passed, each did
 both : (a b : Ruling) → orElse a b ≡ given pass → (a ≡ given pass) × (b ≡ given pass)
 both (given pass) b e = (refl, e)
 both (refused n) b e = (cc, cc)

@@ -4,3 +4,4 @@ pub mod Free
 pub mod Counted
 pub mod Schedules
 pub mod Answered
+pub mod Kept

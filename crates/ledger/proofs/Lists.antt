@@ -7,6 +7,8 @@ use Prim.Native.Nat.{ℕ, zero, suc, _<_, _≤_}
 use native.Mathlib.Nat.{not-suc-le-zero, le-of-suc-le-suc}
 use native.Mathlib.Omega.{arith}
 use lib.ListN.{length, getD}
+use lib.Dec.{eqb}
+use borrow.Author.Tests.{eq-eqb, eqb-true, ne-eqb, eqb-false}
 use Rattle.trellis.proofs.Count as tests
 use Rattle.ledger.specs.Lists.{all, any, anyTwo, keep}
 
@@ -29,6 +31,13 @@ either false b e = inr e
 pub clash : {X : Type 0} (a : Bool) → a ≡ true → a ≡ false → X
 clash a p q = absurd (true≢false (sym p ∙ q))
 
+pub eqb-flip : (a b : ℕ) → eqb a b ≡ eqb b a
+eqb-flip a b = go (eqb b a) refl
+  where
+    go : (t : Bool) → eqb b a ≡ t → eqb a b ≡ t
+    go true e = eq-eqb a b (sym (eqb-true b a e))
+    go false e = ne-eqb a b (λ q. eqb-false b a e (sym q))
+
 -- ---- lists
 module _ {A : Type 0} where
   -- with one element more
@@ -48,6 +57,11 @@ module _ {A : Type 0} where
       false-or (any (r y) (ys ++ (x ∷ []))) (anyTwo r (ys ++ (x ∷ [])))
       (any-snoc (r y) ys x ∙ false-or (any (r y) ys) (r y x) (apart .0) (new .0))
       (anyTwo-snoc r ys x (apart .1) (new .1))
+
+  -- by tests that say the same
+  pub any-cong : (p q : A → Bool) (xs : List A) → ((x : A) → p x ≡ q x) → any p xs ≡ any q xs
+  any-cong p q [] same = refl
+  any-cong p q (y ∷ ys) same = rw (same y, any-cong p q ys same)
 
   -- what a test over a list says of a member
   pub all-member : (p : A → Bool) {x : A} (xs : List A) → all p xs ≡ true → List·Memᴰ x xs → p x ≡ true
