@@ -5,3 +5,5 @@ pub mod Counted
 pub mod Schedules
 pub mod Answered
 pub mod Kept
+pub mod Entries
+pub mod Shown
