@@ -7,3 +7,6 @@ pub mod Answered
 pub mod Kept
 pub mod Entries
 pub mod Shown
+pub mod Holders
+pub mod Refused
+pub mod Balance
