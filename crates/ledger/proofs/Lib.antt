@@ -10,3 +10,5 @@ pub mod Shown
 pub mod Holders
 pub mod Refused
 pub mod Balance
+pub mod Whole
+pub mod Quoted
