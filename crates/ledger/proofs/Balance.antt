@@ -1,5 +1,5 @@
 -- Accepted set-ups are the live sessions and the accepted releases. Assumes nothing.
-use mathlib.Core.Path.{_≡_, refl, sym, ap, subst, _∙_}
+use mathlib.Core.Path.{_≡_, refl, ap, subst}
 use mathlib.Core.Logic.{⊎-elim}
 use mathlib.Core.Bool.{Bool, true, false, not, cond, false≢true}
 use mathlib.Core.List.{List, [], _∷_}
@@ -18,7 +18,7 @@ use Rattle.forwarding.specs.Schedule.{routeAnswer}
 use Rattle.ledger.specs.Lists.{any, anyTwo, keep}
 use Rattle.ledger.specs.Sessions.{Session, isLive, hopsOf}
 use Rattle.ledger.specs.Sound.{sameNumber, numberTwice}
-use Rattle.ledger.specs.Calls.{Call, SetUp, Quote, Release, Reply, replyOf, unless, callCheck, served, Effect, enters, strikes, leaves, effect, otherThan, apply}
+use Rattle.ledger.specs.Calls.{Call, SetUp, Quote, Release, replyOf, unless, callCheck, served, Effect, enters, strikes, leaves, effect, otherThan, apply}
 use Rattle.ledger.specs.Ledger.{isEntering, isStriking}
 use Rattle.ledger.proofs.Lists.{clash, either, none-all, keep-all}
 use Rattle.ledger.proofs.Intact.{not-refused}
@@ -55,6 +55,7 @@ strikes-live net ss (Release m) n e = go (callCheck net ss (Release m)) refl e
   where
     live : callCheck net ss (Release m) ≡ given pass → isLive m ss ≡ true
     live g = not-false (isLive m ss) (not-refused (not (isLive m ss)) 19 (unfold callCheck in g))
+
     go : (o : Ruling) → callCheck net ss (Release m) ≡ o → effect (Release m) (unless o (served net ss (Release m))) ≡ strikes n → isLive n ss ≡ true
     go (refused k) q g = let z : _≡_ {A = ℕ} 0 1 = cc in absurd (omega arith)
     go (given pass) q g =

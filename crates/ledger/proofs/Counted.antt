@@ -20,4 +20,4 @@ free-counted net ss l =
     let closed : ℕ = linkAt net l .closed in
     free-count K closed (wordOf K (heldIn ss l))
     ∙ sum-cong K (λ i. oneIf (freeAt closed (wordOf K (heldIn ss l)) i)) (λ i. oneIf (not (bitOf closed i) && not (heldIn ss l i)))
-      (λ i h. ap (λ (b : Bool). oneIf (not (bitOf closed i) && not b)) (bit-below K (heldIn ss l) i h))
+    (λ i h. ap (λ (b : Bool). oneIf (not (bitOf closed i) && not b)) (bit-below K (heldIn ss l) i h))

@@ -1,16 +1,16 @@
 -- The ledger's entries: an entry stands in it just when a set-up that entered it was accepted, and no later release of its number. Assumes nothing.
 use mathlib.Core.Path.{_≡_, refl, sym, ap, _∙_}
 use mathlib.Core.Logic.{_⊎_, inl, inr, ⊎-elim}
-use mathlib.Core.Bool.{Bool, true, false, not}
+use mathlib.Core.Bool.{false, not}
 use mathlib.Core.List.{List, [], _∷_, _++_, List·Memᴰ, List·Memᴰ·head, List·Memᴰ·not-nil, List·Memᴰ·append-cases, List·Memᴰ·eq-of-singleton, Memᴰ·append-left, Memᴰ·append-right}
 use Prim.Native.Nat.{ℕ}
 use lib.Dec.{eqb}
 use borrow.Author.Tests.{not-true}
 use Rattle.trellis.proofs.Count as tests
 use Rattle.ledger.specs.Lists.{any}
-use Rattle.ledger.specs.Sessions.{Held, Session}
+use Rattle.ledger.specs.Sessions.{Session}
 use Rattle.ledger.specs.Calls.{Call, SetUp, Quote, Release, Reply, schedule, freed, refusal, Effect, enters, strikes, leaves, effect, otherThan, apply}
-use Rattle.ledger.specs.Ledger.{Step, did, effectOf, isStrikingOf, acceptedReleaseOf, ledgerFrom, ledger}
+use Rattle.ledger.specs.Ledger.{Step, did, isStrikingOf, acceptedReleaseOf, ledgerFrom, ledger}
 use Rattle.ledger.proofs.Lists.{false-or, kept-member, member-kept}
 
 -- a call that entered e is a set-up of e's number and route, and its answer gave what e holds
@@ -48,7 +48,7 @@ origin-step call r steps ss e (enters u) h m kept =
     ⊎-elim
     (λ k. inl (k, false-or (isStrikingOf (e .number) (effect call r)) (any (acceptedReleaseOf (e .number)) steps) (ap (isStrikingOf (e .number)) h) kept))
     (λ k. let w = enters-from call r e (h ∙ ap enters (sym (List·Memᴰ·eq-of-singleton k))) in
-      inr (record { count = w .0; before = []; later = steps; accepted = ap (λ (s : Step). s ∷ steps) (w .1); kept = kept }))
+    inr (record { count = w .0; before = []; later = steps; accepted = ap (λ (s : Step). s ∷ steps) (w .1); kept = kept }))
     (List·Memᴰ·append-cases ss m)
 origin-step call r steps ss e (strikes n) h m kept =
     let k = kept-member (otherThan n) ss m in

@@ -19,8 +19,8 @@ named-some p (r ∷ rs) [] l i h k = h
 named-some p (r ∷ rs) (f ∷ fs) l i h k =
     ⊎-elim
     (λ w. let both = tests.and-true (eqb r l) (eqb f i) w in
-      left-or (p r f) (someFrame p rs fs)
-      (subst (λ (x : ℕ). p x f ≡ true) (sym (eqb-true r l (both .0))) (subst (λ (x : ℕ). p l x ≡ true) (sym (eqb-true f i (both .1))) k)))
+    left-or (p r f) (someFrame p rs fs)
+    (subst (λ (x : ℕ). p x f ≡ true) (sym (eqb-true r l (both .0))) (subst (λ (x : ℕ). p l x ≡ true) (sym (eqb-true f i (both .1))) k)))
     (λ w. right-or (p r f) (someFrame p rs fs) (named-some p rs fs l i w k))
     (either (eqb r l && eqb f i) (names rs fs l i) h)
 

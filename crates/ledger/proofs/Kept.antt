@@ -10,8 +10,10 @@ use borrow.Author.Tests.{leb-false}
 use Rattle.trellis.proofs.Count as tests
 use Rattle.refusals.specs.Refusals.{Ruling, given, refused, pass}
 use Rattle.network.specs.Network.{Topology}
+use Rattle.forwarding.specs.Schedule.{Given}
 use Rattle.ledger.specs.Lists.{all, any, keep}
-use Rattle.ledger.specs.Sessions.{Session, View, holds, heldIn, isLive, hopsOf}
+use Rattle.ledger.specs.Sessions.{Held, Session, View, holds, heldIn, isLive, hopsOf}
+use Rattle.ledger.specs.Routes.{routeCheck}
 use Rattle.ledger.specs.Sound.{numberTwice, sameNumber, goodSession, someFrame, shareFrame, frameTwice, intact}
 use Rattle.ledger.specs.Calls.{Call, SetUp, Quote, Release, Reply, unless, full, callCheck, served, effect, otherThan, apply, next}
 use Rattle.ledger.specs.Demand.{Served, scheduled, none}
@@ -32,9 +34,10 @@ unheld-parts s ss (l ∷ route) [] h = (refl, refl)
 unheld-parts s ss (l ∷ route) (i ∷ fs) h =
     let a = tests.or-false (heldIn (s ∷ ss) l i) (someFrame (heldIn (s ∷ ss)) route fs) h in
     let b = tests.or-false (holds l i s) (heldIn ss l i) (a .0) in
-    let c = unheld-parts s ss route fs (a .1) in
-    ( false-or (holds l i s) (someFrame (λ k j. holds k j s) route fs) (b .0) (c .0)
-    , false-or (heldIn ss l i) (someFrame (heldIn ss) route fs) (b .1) (c .1))
+    let c = unheld-parts s ss route fs (a .1) in (
+      false-or (holds l i s) (someFrame (λ k j. holds k j s) route fs) (b .0) (c .0),
+      false-or (heldIn ss l i) (someFrame (heldIn ss) route fs) (b .1) (c .1),
+    )
 
 unheld-unshared : (ss : List Session) (u : Session) → someFrame (heldIn ss) (u .route) (u .held .frames) ≡ false → any (λ s. shareFrame s u) ss ≡ false
 unheld-unshared [] u h = refl
@@ -48,22 +51,26 @@ module _ (net : Topology) (ss : List Session) (h : Intact net ss) where
   few-more u e = omega (arith, leb-false 96 (length ss) e, length-append ss (u ∷ []))
 
   -- ---- an accepted set-up
+  served-good : (n : ℕ) (route : List ℕ) (held : Held) (count : ℕ) → routeCheck net route ≡ given pass
+      → Given (net .ticks) (hopsOf net ss route) (held .delay) count (held .frames) → GoodSession net (record { number = n; route = route; held = held })
+  served-good n route held count e g =
+      record {
+        route = e;
+        schedule = schedule-unclosed net ss (net .ticks) route (held .frames) (g .schedule);
+        delay = sym (g .delay-is) ∙ delay-same net ss (net .ticks) route (held .frames);
+      }
+
   served-intact : (n : ℕ) (route : List ℕ) → Admitted net ss n route → {r : Reply} → Served (net .ticks) (hopsOf net ss route) r
       → Intact net (apply ss (effect (SetUp n route) r))
   unfolding numberTwice frameTwice
   served-intact n route a (scheduled held count e g) =
       let u : Session = record { number = n; route = route; held = held } in
-      let good : GoodSession net u =
-        record {
-          route = a .passed;
-          schedule = schedule-unclosed net ss (net .ticks) route (held .frames) (g .schedule);
-          delay = sym (g .delay-is) ∙ delay-same net ss (net .ticks) route (held .frames);
-        } in
+      let good : goodSession net u ≡ true = good-session net u (served-good n route held count (a .passed) g) in
       record {
         network = h .network;
         few = few-more u (a .room);
         numbers = anyTwo-snoc sameNumber ss u (h .numbers) (number-new ss u (a .unused));
-        sessions = all-snoc (goodSession net) ss u ∙ tests.true-and (all (goodSession net) ss) (goodSession net u) (h .sessions) (good-session net u good);
+        sessions = all-snoc (goodSession net) ss u ∙ tests.true-and (all (goodSession net) ss) (goodSession net u) (h .sessions) good;
         frames = anyTwo-snoc shareFrame ss u (h .frames) (unheld-unshared ss u (schedule-unheld net ss (net .ticks) route (held .frames) (g .schedule)));
       }
   served-intact n route a (none count e counted nowhere) = h

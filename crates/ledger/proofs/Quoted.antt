@@ -9,7 +9,7 @@ use Rattle.network.specs.Network.{Topology}
 use Rattle.forwarding.specs.declared.Hop.{Hop}
 use Rattle.forwarding.specs.Schedule.{routeAnswer}
 use Rattle.ledger.specs.Sessions.{Session, View, linkAt, hopsOf}
-use Rattle.ledger.specs.Routes.{badLength, unknownLink, linkTwice, ratesApart, ratesOf, routeCheck}
+use Rattle.ledger.specs.Routes.{badLength, unknownLink, ratesOf, routeCheck}
 use Rattle.ledger.specs.Sound.{intact}
 use Rattle.ledger.specs.Calls.{Call, Quote, Reply, refusal, replyOf, unless, callCheck, served, reply}
 use Rattle.ledger.proofs.Answered.{reply-intact}
@@ -25,6 +25,7 @@ unbroken v call h = go (intact v) refl
   where
     broken : intact v ≡ false → reply v call ≡ refusal 0 0
     broken e = unfold reply in rw e
+
     go : (b : Bool) → intact v ≡ b → b ≡ true
     go true e = refl
     go false e = absurd (h (broken e))
@@ -57,13 +58,17 @@ quote-depends v w route hv hw kv kw t e = go (badLength (length route)) refl
   where
     iv : intact v ≡ true
     iv = unbroken v (Quote route) hv
+
     iw : intact w ≡ true
     iw = unbroken w (Quote route) hw
+
     rates : ratesOf (v .network) route ≡ ratesOf (w .network) route
     rates =
         rates-hops (v .network) (v .live) route ∙ ap (λ (hops : List Hop). map (λ h. h .frames) hops) e ∙ sym (rates-hops (w .network) (w .live) route)
+
     same-check : badLength (length route) ≡ false → routeCheck (v .network) route ≡ routeCheck (w .network) route
     same-check b = unfold routeCheck in rw (known-links v route iv b kv, known-links w route iw b kw, rates) refl
+
     go : (b : Bool) → badLength (length route) ≡ b → reply v (Quote route) ≡ reply w (Quote route)
     go true b = bad-length v route iv b ∙ sym (bad-length w route iw b)
     go false b =

@@ -13,7 +13,7 @@ use Rattle.network.specs.Network.{Topology}
 use Rattle.forwarding.specs.Schedule.{routeAnswer}
 use Rattle.ledger.specs.Sessions.{Session, isLive, hopsOf}
 use Rattle.ledger.specs.Routes.{badLength, unknownLink, linkTwice, ratesApart, ratesOf, routeCheck}
-use Rattle.ledger.specs.Calls.{Call, SetUp, Quote, Release, Reply, schedule, freed, refusal, replyOf, unless, full, callCheck, served}
+use Rattle.ledger.specs.Calls.{Call, SetUp, Quote, Release, refusal, replyOf, unless, full, callCheck, served}
 use Rattle.ledger.specs.Demand.{ServedCall, Right}
 use Rattle.ledger.proofs.Lists.{clash}
 use Rattle.ledger.proofs.Answered.{answerOn, call-served}

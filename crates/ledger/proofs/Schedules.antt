@@ -1,15 +1,14 @@
 -- A schedule over the frames that sessions leave free: it holds unclosed frames, none of theirs, at the same delay. Assumes nothing.
 use mathlib.Core.Path.{_≡_, refl, sym, ap, ap₂, _∙_}
-use mathlib.Core.Bool.{Bool, true, false, _&&_, _||_}
+use mathlib.Core.Bool.{Bool, true, false}
 use mathlib.Core.List.{List, [], _∷_}
 use Prim.Native.Nat.{ℕ, _+_}
-use Rattle.trellis.specs.Trellis.{Reach, never, after, costOf}
+use Rattle.trellis.specs.Trellis.{after, costOf}
 use Rattle.trellis.specs.Walk.{Onward, onwardCost}
 use Rattle.trellis.proofs.Count as tests
 use Rattle.network.specs.Network.{Topology}
-use Rattle.forwarding.specs.declared.Hop.{Hop}
 use Rattle.forwarding.specs.Forwarding.{isFree, mayHold, holdInto, delay}
-use Rattle.forwarding.specs.Schedule.{startIf, starts, stages, IsSchedule, scheduleDelay}
+use Rattle.forwarding.specs.Schedule.{startIf, stages, IsSchedule, scheduleDelay}
 use Rattle.ledger.specs.Sessions.{Session, heldIn, linkAt, hopOf, hopsOf}
 use Rattle.ledger.specs.Sound.{someFrame}
 use Rattle.ledger.proofs.Lists.{false-or}
@@ -36,18 +35,20 @@ module _ (net : Topology) (ss : List Session) (T : ℕ) where
   onward-unclosed K k (l ∷ route) [] o = o
   onward-unclosed K k (l ∷ route) (i ∷ fs) o =
       let may : Bool = mayHold (hopOf net ss l) (holdInto K (hopOf net ss l) k i) in
-      let a = tests.and-true may (isFree (hopOf net ss l) i) (o .1) in
-      ( o .0
-      , tests.true-and may (isFree (hopOf net [] l) i) (a .0) (free-unclosed net ss l i (a .1))
-      , onward-unclosed (linkAt net l .frames) i route fs (o .2))
+      let a = tests.and-true may (isFree (hopOf net ss l) i) (o .1) in (
+        o .0,
+        tests.true-and may (isFree (hopOf net [] l) i) (a .0) (free-unclosed net ss l i (a .1)),
+        onward-unclosed (linkAt net l .frames) i route fs (o .2),
+      )
 
   pub schedule-unclosed : (route fs : List ℕ) → IsSchedule T (hopsOf net ss route) fs → IsSchedule T (hopsOf net [] route) fs
   schedule-unclosed [] fs w = w
   schedule-unclosed (l ∷ route) [] w = w
-  schedule-unclosed (l ∷ route) (f ∷ fs) w =
-      ( w .0
-      , free-start (isFree (hopOf net [] l) f) (free-unclosed net ss l f (start-free (isFree (hopOf net ss l) f) (w .1 .0) (w .1 .1)))
-      , onward-unclosed (linkAt net l .frames) f route fs (w .2))
+  schedule-unclosed (l ∷ route) (f ∷ fs) w = (
+    w .0,
+    free-start (isFree (hopOf net [] l) f) (free-unclosed net ss l f (start-free (isFree (hopOf net ss l) f) (w .1 .0) (w .1 .1))),
+    onward-unclosed (linkAt net l .frames) f route fs (w .2),
+  )
 
   onward-delay : (K k : ℕ) (route fs : List ℕ) → onwardCost k (stages T K (hopsOf net ss route)) fs ≡ onwardCost k (stages T K (hopsOf net [] route)) fs
   unfolding holdInto

@@ -1,14 +1,14 @@
 -- What lookup shows, and the numbers of the live sessions, each once. Assumes nothing.
 use mathlib.Core.Path.{_≡_, refl, sym, ap, subst, _∙_}
 use mathlib.Core.Logic.{_⊎_, inl, inr}
-use mathlib.Core.Bool.{Bool, true, false, cond, true≢false}
+use mathlib.Core.Bool.{Bool, true, false, cond}
 use mathlib.Core.List.{List, [], _∷_, map, List·Memᴰ, List·Memᴰ·head, List·Memᴰ·tail, List·Memᴰ·cases-cons, List·Memᴰ·not-nil, Memᴰ·map, Memᴰ·of-map}
 use Prim.Native.Nat.{ℕ}
 use lib.Dec.{eqb}
 use borrow.Author.Tests.{eq-eqb, eqb-true}
 use Rattle.trellis.specs.Paths.{EachOnce}
 use Rattle.trellis.proofs.Count as tests
-use Rattle.refusals.specs.Refusals.{Outcome, given, refused}
+use Rattle.refusals.specs.Refusals.{given, refused}
 use Rattle.refusals.proofs.Refusals.{not-given}
 use Rattle.ledger.specs.Lists.{any, anyTwo}
 use Rattle.ledger.specs.Sessions.{Session, View, isLive}
@@ -63,10 +63,11 @@ numbers-once : (ss : List Session) → numberTwice ss ≡ false → EachOnce (nu
 unfolding numberTwice
 numbers-once [] h = tt
 numbers-once (s ∷ ss) h =
-    let both = tests.or-false (any (sameNumber s) ss) (anyTwo sameNumber ss) h in
-    ( λ m. let w = Memᴰ·of-map (λ u. u .number) ss m in
-      clash (sameNumber s (w .0)) (eq-eqb (w .0 .number) (s .number) (w .2)) (none-member (sameNumber s) ss (both .0) (w .1))
-    , numbers-once ss (both .1))
+    let both = tests.or-false (any (sameNumber s) ss) (anyTwo sameNumber ss) h in (
+      λ m. let w = Memᴰ·of-map (λ u. u .number) ss m in
+          clash (sameNumber s (w .0)) (eq-eqb (w .0 .number) (s .number) (w .2)) (none-member (sameNumber s) ss (both .0) (w .1)),
+      numbers-once ss (both .1),
+    )
 
 pub live-numbers : (v : View) → intact v ≡ true → LiveNumbers v (numbersOf (v .live))
 live-numbers v e =
@@ -79,6 +80,7 @@ live-numbers v e =
     given-for n m =
         let w = Memᴰ·of-map (λ u. u .number) (v .live) m in
         (w .0, lookup-intact v n e ∙ subst (λ (k : ℕ). lookIn k (v .live) ≡ given (w .0)) (w .2) (shown (v .live) (w .0) (intact-is v e .numbers) (w .1)))
+
     number-of : (n : ℕ) (s : Session) → lookup v n ≡ given s → List·Memᴰ n (numbersOf (v .live))
     number-of n s h =
         let w = looked-up n (v .live) s (sym (lookup-intact v n e) ∙ h) in

@@ -10,12 +10,12 @@ use Rattle.network.specs.Network.{Topology}
 use Rattle.network.specs.Checks.{networkCheck}
 use Rattle.ledger.specs.Sessions.{Session, View, holds}
 use Rattle.ledger.specs.Sound.{shareFrame, frameTwice, intact}
-use Rattle.ledger.specs.Calls.{Call, Reply, strikes, effect, apply, reply, next, lookup}
+use Rattle.ledger.specs.Calls.{Call, Reply, effect, apply, reply, next, lookup}
 use Rattle.ledger.specs.Ledger.{Step, did, effectOf, ledgerFrom, ledger, acceptedSetUp, acceptedRelease, countSteps}
 use Rattle.ledger.specs.Demand.{fresh, HoldsFrame, NamedAndKept, LiveNumbers, Right, Demand3, Runs, over, then}
 use Rattle.ledger.proofs.Lists.{anyTwo-at}
-use Rattle.ledger.proofs.Intact.{Intact, intact-is, fresh-intact}
-use Rattle.ledger.proofs.Answered.{answerOn, reply-intact}
+use Rattle.ledger.proofs.Intact.{intact-is, fresh-intact}
+use Rattle.ledger.proofs.Answered.{reply-intact}
 use Rattle.ledger.proofs.Kept.{next-intact}
 use Rattle.ledger.proofs.Entries.{Entered, entry-entered, entered-entry}
 use Rattle.ledger.proofs.Shown.{lookup-intact, looked-up, shown, not-shown, numbersOf, live-numbers}
@@ -96,7 +96,7 @@ module _ (v : View) (steps : List Step) (i : intact v ≡ true) (led : v .live �
   named-held l k w =
       let s : Session = record { number = w .number; route = w .route; held = w .held } in
       let m : List·Memᴰ s (ledger steps) =
-        subst (λ (done : List Step). List·Memᴰ s (ledger done)) (sym (w .accepted)) (entered-entry (w .before) (w .later) [] s (w .count) (w .kept)) in
+      subst (λ (done : List Step). List·Memᴰ s (ledger done)) (sym (w .accepted)) (entered-entry (w .before) (w .later) [] s (w .count) (w .kept)) in
       (w .number, record { session = s; shown = entry-shown s m; named = w .named })
 
   held-once : (l k n m : ℕ) → HoldsFrame v n l k → HoldsFrame v m l k → n ≡ m
