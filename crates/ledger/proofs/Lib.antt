@@ -1,0 +1,14 @@
+pub mod Lists
+pub mod Intact
+pub mod Free
+pub mod Counted
+pub mod Schedules
+pub mod Answered
+pub mod Kept
+pub mod Entries
+pub mod Shown
+pub mod Holders
+pub mod Refused
+pub mod Balance
+pub mod Whole
+pub mod Quoted

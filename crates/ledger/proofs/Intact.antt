@@ -1,0 +1,125 @@
+-- What a state that isn't broken shows, rule by rule, of its network, its sessions and their routes; and back. Assumes nothing.
+use mathlib.Core.Path.{_≡_, refl}
+use mathlib.Core.Bool.{Bool, true, false, not, _&&_, false≢true}
+use mathlib.Core.List.{List, []}
+use Prim.Native.Nat.{ℕ, _≤_}
+use native.Mathlib.Omega.{arith}
+use lib.ListN.{length}
+use lib.Dec.{eqb, leb}
+use borrow.Author.Tests.{eq-eqb, eqb-true, le-leb, leb-true, not-true}
+use Rattle.trellis.proofs.Count as tests
+use Rattle.refusals.specs.Refusals.{Ruling, given, refused, pass, refuseIf, orElse}
+use Rattle.refusals.proofs.Refusals.{past}
+use Rattle.network.specs.Network.{Topology}
+use Rattle.network.specs.Checks.{networkCheck}
+use Rattle.forwarding.specs.Schedule.{IsSchedule, isSchedule, scheduleDelay}
+use Rattle.forwarding.proofs.Answers.{told-schedule, schedule-told}
+use Rattle.ledger.specs.Lists.{all}
+use Rattle.ledger.specs.Sessions.{Session, View, hopsOf}
+use Rattle.ledger.specs.Routes.{badLength, unknownLink, linkTwice, ratesApart, ratesOf, routeCheck}
+use Rattle.ledger.specs.Sound.{passes, goodNetwork, fewSessions, numberTwice, goodSession, frameTwice, sound, derived, intact}
+use Rattle.ledger.specs.Demand.{fresh}
+
+-- the test whether a check passes
+pub passes-given : (r : Ruling) → passes r ≡ true → r ≡ given pass
+passes-given (given pass) e = refl
+passes-given (refused n) e = absurd (false≢true e)
+
+pub given-passes : (r : Ruling) → r ≡ given pass → passes r ≡ true
+given-passes r e = rw e
+
+-- ---- a route that passed 12 to 15
+pub record GoodRoute (net : Topology) (route : List ℕ) : Type 0 where
+  pub length : badLength (length route) ≡ false
+  pub known : unknownLink net route ≡ false
+  pub once : linkTwice route ≡ false
+  pub rates : ratesApart (ratesOf net route) ≡ false
+
+pub not-refused : (b : Bool) (n : ℕ) → refuseIf b n ≡ given pass → b ≡ false
+not-refused true n e = cc
+not-refused false n e = refl
+
+pub route-good : (net : Topology) (route : List ℕ) → routeCheck net route ≡ given pass → GoodRoute net route
+unfolding routeCheck
+route-good net route e =
+    let r : Ruling = refuseIf (ratesApart (ratesOf net route)) 15 in
+    let o : Ruling = orElse (refuseIf (linkTwice route) 14) r in
+    let k : Ruling = orElse (refuseIf (unknownLink net route) 13) o in
+    let a : (badLength (length route) ≡ false) × (k ≡ given pass) = past (badLength (length route)) 12 k pass e in
+    let b : (unknownLink net route ≡ false) × (o ≡ given pass) = past (unknownLink net route) 13 o pass (a .1) in
+    let c : (linkTwice route ≡ false) × (r ≡ given pass) = past (linkTwice route) 14 r pass (b .1) in
+    record { length = a .0; known = b .0; once = c .0; rates = not-refused (ratesApart (ratesOf net route)) 15 (c .1) }
+
+pub good-route : (net : Topology) (route : List ℕ) → GoodRoute net route → routeCheck net route ≡ given pass
+unfolding routeCheck
+good-route net route g = rw (g .length, g .known, g .once, g .rates)
+
+-- ---- a session that keeps the rules
+pub record GoodSession (net : Topology) (s : Session) : Type 0 where
+  pub route : routeCheck net (s .route) ≡ given pass
+  pub schedule : IsSchedule (net .ticks) (hopsOf net [] (s .route)) (s .held .frames)
+  pub delay : s .held .delay ≡ scheduleDelay (net .ticks) (hopsOf net [] (s .route)) (s .held .frames)
+
+pub session-good : (net : Topology) (s : Session) → goodSession net s ≡ true → GoodSession net s
+unfolding goodSession
+session-good net s e =
+    let T : ℕ = net .ticks in
+    let fs : List ℕ = s .held .frames in
+    let d : ℕ = scheduleDelay T (hopsOf net [] (s .route)) fs in
+    let k : Bool = isSchedule T (hopsOf net [] (s .route)) fs in
+    let a = tests.and-true (passes (routeCheck net (s .route))) (k && eqb (s .held .delay) d) e in
+    let b = tests.and-true k (eqb (s .held .delay) d) (a .1) in
+    record {
+      route = passes-given (routeCheck net (s .route)) (a .0);
+      schedule = told-schedule T (hopsOf net [] (s .route)) fs (b .0);
+      delay = eqb-true (s .held .delay) d (b .1);
+    }
+
+pub good-session : (net : Topology) (s : Session) → GoodSession net s → goodSession net s ≡ true
+unfolding goodSession
+good-session net s g =
+    let T : ℕ = net .ticks in
+    let fs : List ℕ = s .held .frames in
+    let d : ℕ = scheduleDelay T (hopsOf net [] (s .route)) fs in
+    let k : Bool = isSchedule T (hopsOf net [] (s .route)) fs in
+    tests.true-and (passes (routeCheck net (s .route))) (k && eqb (s .held .delay) d) (given-passes (routeCheck net (s .route)) (g .route))
+    (tests.true-and k (eqb (s .held .delay) d) (schedule-told T (hopsOf net [] (s .route)) fs (g .schedule)) (eq-eqb (s .held .delay) d (g .delay)))
+
+-- ---- a state that isn't broken
+pub record Intact (net : Topology) (ss : List Session) : Type 0 where
+  pub network : networkCheck net ≡ given pass
+  pub few : length ss ≤ 96
+  pub numbers : numberTwice ss ≡ false
+  pub sessions : all (goodSession net) ss ≡ true
+  pub frames : frameTwice ss ≡ false
+
+pub intact-is : (v : View) → intact v ≡ true → Intact (v .network) (v .live)
+unfolding intact sound goodNetwork fewSessions
+intact-is v e =
+    let net : Topology = v .network in
+    let ss : List Session = v .live in
+    let f : Bool = not (frameTwice ss) in
+    let g : Bool = all (goodSession net) ss in
+    let n : Bool = not (numberTwice ss) in
+    let a = tests.and-true (sound v) (derived v) e in
+    let b = tests.and-true (passes (networkCheck net)) (leb (length ss) 96 && (n && (g && f))) (a .0) in
+    let c = tests.and-true (leb (length ss) 96) (n && (g && f)) (b .1) in
+    let d = tests.and-true n (g && f) (c .1) in
+    let h = tests.and-true g f (d .1) in
+    record {
+      network = passes-given (networkCheck net) (b .0);
+      few = leb-true (length ss) 96 (c .0);
+      numbers = not-true (numberTwice ss) (d .0);
+      sessions = h .0;
+      frames = not-true (frameTwice ss) (h .1);
+    }
+
+pub is-intact : (v : View) → Intact (v .network) (v .live) → intact v ≡ true
+unfolding intact sound goodNetwork fewSessions
+is-intact v i =
+    tests.true-and (sound v) (derived v)
+    (rw (given-passes (networkCheck (v .network)) (i .network), le-leb (length (v .live)) 96 (i .few), i .numbers, i .sessions, i .frames)) refl
+
+pub fresh-intact : (net : Topology) → networkCheck net ≡ given pass → intact (fresh net) ≡ true
+unfolding numberTwice frameTwice
+fresh-intact net e = is-intact (fresh net) record { network = e; few = omega arith; numbers = refl; sessions = refl; frames = refl }

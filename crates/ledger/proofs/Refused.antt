@@ -1,0 +1,93 @@
+-- Each answer is right against the sessions before it: every check refuses exactly under its condition, and the rest is served. Assumes nothing.
+use mathlib.Core.Path.{_≡_, refl, sym, ap, subst, _∙_}
+use mathlib.Core.Bool.{Bool, true, false, not, _||_}
+use mathlib.Core.List.{List}
+use Prim.Native.Nat.{ℕ}
+use native.Mathlib.Omega.{arith}
+use lib.ListN.{length}
+use lib.Dec.{eqb}
+use Rattle.trellis.specs.Answer.{found, blocked}
+use Rattle.trellis.specs.Answer as trellis
+use Rattle.refusals.specs.Refusals.{Ruling, given, refused, pass, refuseIf, orElse}
+use Rattle.network.specs.Network.{Topology}
+use Rattle.forwarding.specs.Schedule.{routeAnswer}
+use Rattle.ledger.specs.Sessions.{Session, isLive, hopsOf}
+use Rattle.ledger.specs.Routes.{badLength, unknownLink, linkTwice, ratesApart, ratesOf, routeCheck}
+use Rattle.ledger.specs.Calls.{Call, SetUp, Quote, Release, refusal, replyOf, unless, full, callCheck, served}
+use Rattle.ledger.specs.Demand.{ServedCall, Right}
+use Rattle.ledger.proofs.Lists.{clash}
+use Rattle.ledger.proofs.Answered.{answerOn, call-served}
+
+-- ---- no check of a call after 0 refuses with 0 or with 18
+abbrev special : Ruling → Bool
+special (given p) = false
+special (refused k) = eqb k 0 || eqb k 18
+
+special-or : (a b : Ruling) → special a ≡ false → special b ≡ false → special (orElse a b) ≡ false
+special-or (given p) b h g = g
+special-or (refused k) b h g = h
+
+special-if : (b : Bool) (k : ℕ) → special (refused k) ≡ false → special (refuseIf b k) ≡ false
+special-if true k h = h
+special-if false k h = refl
+
+route-plain : (net : Topology) (route : List ℕ) → special (routeCheck net route) ≡ false
+unfolding routeCheck
+route-plain net route =
+    let r : Ruling = refuseIf (ratesApart (ratesOf net route)) 15 in
+    let o : Ruling = orElse (refuseIf (linkTwice route) 14) r in
+    let k : Ruling = orElse (refuseIf (unknownLink net route) 13) o in
+    special-or (refuseIf (badLength (length route)) 12) k (special-if (badLength (length route)) 12 refl)
+    (special-or (refuseIf (unknownLink net route) 13) o (special-if (unknownLink net route) 13 refl)
+    (special-or (refuseIf (linkTwice route) 14) r (special-if (linkTwice route) 14 refl)
+    (special-if (ratesApart (ratesOf net route)) 15 refl)))
+
+call-plain : (net : Topology) (ss : List Session) (call : Call) → special (callCheck net ss call) ≡ false
+unfolding callCheck
+call-plain net ss (SetUp n route) =
+    special-or (routeCheck net route) (orElse (refuseIf (isLive n ss) 16) (refuseIf (full ss) 17)) (route-plain net route)
+    (special-or (refuseIf (isLive n ss) 16) (refuseIf (full ss) 17) (special-if (isLive n ss) 16 refl) (special-if (full ss) 17 refl))
+call-plain net ss (Quote route) = route-plain net route
+call-plain net ss (Release n) = special-if (not (isLive n ss)) 19 refl
+
+-- ---- what is served and yet refused has the number 18
+route-refusal : (a : trellis.Answer) (k count : ℕ) → replyOf a ≡ refusal k count → k ≡ 18
+route-refusal (found d n fs) k count e = cc
+route-refusal (blocked n) k count e = cc
+
+served-refusal : (net : Topology) (ss : List Session) (call : Call) (k count : ℕ) → served net ss call ≡ refusal k count → k ≡ 18
+unfolding served
+served-refusal net ss (SetUp n route) k count e = route-refusal (routeAnswer (net .ticks) (hopsOf net ss route)) k count e
+served-refusal net ss (Quote route) k count e = route-refusal (routeAnswer (net .ticks) (hopsOf net ss route)) k count e
+served-refusal net ss (Release n) k count e = cc
+
+module _ (net : Topology) (ss : List Session) (call : Call) where
+  other-refused : (k count : ℕ) → answerOn net ss call ≡ refusal k count → (k ≡ 18 → ⊥) → callCheck net ss call ≡ refused k
+  other-refused k count e h = go (callCheck net ss call) refl e
+    where
+      go : (o : Ruling) → callCheck net ss call ≡ o → unless o (served net ss call) ≡ refusal k count → o ≡ refused k
+      go (given p) w g = absurd (h (served-refusal net ss call k count g))
+      go (refused j) w g = cc
+
+  blocked-passed : (count : ℕ) → answerOn net ss call ≡ refusal 18 count → callCheck net ss call ≡ given pass
+  blocked-passed count e = go (callCheck net ss call) (call-plain net ss call) e
+    where
+      go : (o : Ruling) → special o ≡ false → unless o (served net ss call) ≡ refusal 18 count → o ≡ given pass
+      go (given pass) w g = refl
+      go (refused j) w g = let is : j ≡ 18 = cc in clash (special (refused j)) (ap (λ (k : ℕ). special (refused k)) is) w
+
+  never-broken : (count : ℕ) → answerOn net ss call ≡ refusal 0 count → ⊥
+  never-broken count e =
+      clash (special (refused 0)) refl
+      (ap special (sym (other-refused 0 count e (λ z. omega arith))) ∙ call-plain net ss call)
+
+  -- THE ANSWER OF A CALL WHERE 0 DOESN'T REFUSE IS RIGHT
+  pub answer-right : Right net ss call (answerOn net ss call)
+  answer-right =
+      record {
+        other = λ k e. ap (λ (o : Ruling). unless o (served net ss call)) e;
+        only = other-refused;
+        blocked = blocked-passed;
+        unbroken = never-broken;
+        served = λ e. subst (λ (o : Ruling). ServedCall net ss call (unless o (served net ss call))) (sym e) (call-served net ss call e);
+      }
