@@ -11,7 +11,7 @@ use Rattle.trellis.proofs.Count as tests
 use Rattle.refusals.specs.Refusals.{Ruling, given, refused, pass}
 use Rattle.network.specs.Network.{Topology}
 use Rattle.forwarding.specs.Schedule.{Given}
-use Rattle.ledger.specs.Lists.{all, any, keep}
+use Rattle.ledger.specs.Lists.{all, any, anyTwo, keep}
 use Rattle.ledger.specs.Sessions.{Held, Session, View, holds, heldIn, isLive, hopsOf}
 use Rattle.ledger.specs.Routes.{routeCheck}
 use Rattle.ledger.specs.Sound.{numberTwice, sameNumber, goodSession, someFrame, shareFrame, frameTwice, intact}
@@ -69,9 +69,9 @@ module _ (net : Topology) (ss : List Session) (h : Intact net ss) where
       record {
         network = h .network;
         few = few-more u (a .room);
-        numbers = anyTwo-snoc sameNumber ss u (h .numbers) (number-new ss u (a .unused));
+        numbers = anyTwo-snoc sameNumber ss u ∙ false-or (anyTwo sameNumber ss) (any (λ s. sameNumber s u) ss) (h .numbers) (number-new ss u (a .unused));
         sessions = all-snoc (goodSession net) ss u ∙ tests.true-and (all (goodSession net) ss) (goodSession net u) (h .sessions) good;
-        frames = anyTwo-snoc shareFrame ss u (h .frames) (unheld-unshared ss u (schedule-unheld net ss (net .ticks) route (held .frames) (g .schedule)));
+        frames = anyTwo-snoc shareFrame ss u ∙ false-or (anyTwo shareFrame ss) (any (λ s. shareFrame s u) ss) (h .frames) (unheld-unshared ss u (schedule-unheld net ss (net .ticks) route (held .frames) (g .schedule)));
       }
   served-intact n route a (none count e counted nowhere) = h
 

@@ -1,5 +1,5 @@
 -- Laws of tests and of the tests over lists. Assumes nothing.
-use mathlib.Core.Path.{_≡_, refl, sym, ap, _∙_}
+use mathlib.Core.Path.{_≡_, refl, sym, ap, ap₂, _∙_}
 use mathlib.Core.Logic.{_⊎_, inl, inr, ⊎-elim}
 use mathlib.Core.Bool.{Bool, true, false, not, _&&_, _||_, cond, true≢false, false≢true, or-false, or-assoc, and-true, and-assoc}
 use mathlib.Core.List.{List, [], _∷_, _++_, List·Memᴰ, List·Memᴰ·head, List·Memᴰ·tail, List·Memᴰ·cases-cons, List·Memᴰ·not-nil}
@@ -38,6 +38,13 @@ eqb-flip a b = go (eqb b a) refl
     go true e = eq-eqb a b (sym (eqb-true b a e))
     go false e = ne-eqb a b (λ q. eqb-false b a e (sym q))
 
+-- four tests, the inner two in the other order
+pub or-middle : (a b c d : Bool) → ((a || b) || (c || d)) ≡ ((a || c) || (b || d))
+or-middle true b c d = refl
+or-middle false true true d = refl
+or-middle false true false d = refl
+or-middle false false c d = refl
+
 -- ---- lists
 module _ {A : Type 0} where
   -- with one element more
@@ -49,14 +56,11 @@ module _ {A : Type 0} where
   any-snoc p [] x = or-false (p x)
   any-snoc p (y ∷ ys) x = ap (λ (b : Bool). p y || b) (any-snoc p ys x) ∙ sym (or-assoc (p y) (any p ys) (p x))
 
-  pub anyTwo-snoc : (r : A → A → Bool) (xs : List A) (x : A) → anyTwo r xs ≡ false → any (λ y. r y x) xs ≡ false → anyTwo r (xs ++ (x ∷ [])) ≡ false
-  anyTwo-snoc r [] x h q = refl
-  anyTwo-snoc r (y ∷ ys) x h q =
-      let apart = tests.or-false (any (r y) ys) (anyTwo r ys) h in
-      let new = tests.or-false (r y x) (any (λ z. r z x) ys) q in
-      false-or (any (r y) (ys ++ (x ∷ []))) (anyTwo r (ys ++ (x ∷ [])))
-      (any-snoc (r y) ys x ∙ false-or (any (r y) ys) (r y x) (apart .0) (new .0))
-      (anyTwo-snoc r ys x (apart .1) (new .1))
+  pub anyTwo-snoc : (r : A → A → Bool) (xs : List A) (x : A) → anyTwo r (xs ++ (x ∷ [])) ≡ (anyTwo r xs || any (λ y. r y x) xs)
+  anyTwo-snoc r [] x = refl
+  anyTwo-snoc r (y ∷ ys) x =
+      ap₂ (λ (a b : Bool). a || b) (any-snoc (r y) ys x) (anyTwo-snoc r ys x)
+      ∙ or-middle (any (r y) ys) (r y x) (anyTwo r ys) (any (λ z. r z x) ys)
 
   -- by tests that say the same
   pub any-cong : (p q : A → Bool) (xs : List A) → ((x : A) → p x ≡ q x) → any p xs ≡ any q xs

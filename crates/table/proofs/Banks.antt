@@ -1,6 +1,6 @@
 -- Words of bits that are set one after the other. Assumes nothing.
 use mathlib.Core.Path.{_≡_, refl, sym, ap, ap₂, subst, _∙_}
-use mathlib.Core.Bool.{Bool, true, false, _&&_, _||_}
+use mathlib.Core.Bool.{Bool, true, false, _&&_, _||_, or-false}
 use mathlib.Core.List.{List}
 use Prim.Native.Nat.{ℕ, _<_}
 use native.Mathlib.Omega.{arith}
@@ -8,10 +8,11 @@ use lib.ListN.{length, getD, set, replicate, length-set, length-replicate, getD-
 use lib.Seq.{getD-set-same, getD-set-other}
 use lib.Pow.{pow-pos}
 use lib.Dec.{eqb}
-use borrow.Author.Tests.{eq-eqb, ne-eqb, eqb-true, eqb-false}
+use borrow.Author.Tests.{eqb-true, eqb-false}
 use Rattle.words.specs.Word.{bitOf, wordOf, withBit}
 use Rattle.words.proofs.Bits.{bit-zero}
 use Rattle.words.proofs.Words.{word-lt, word-only, bit-below}
+use Rattle.ledger.proofs.Lists.{eqb-flip}
 use Rattle.table.specs.Table.{Words}
 
 -- words of the same bits
@@ -38,17 +39,6 @@ with-word : (w i : ℕ) → withBit w i ≡ wordOf 64 (λ j. bitOf w j || eqb j 
 unfolding withBit
 with-word w i = refl
 
-eqb-sym : (a b : ℕ) → eqb a b ≡ eqb b a
-eqb-sym a b = go (eqb b a) refl
-  where
-    go : (y : Bool) → eqb b a ≡ y → eqb a b ≡ y
-    go true e = eq-eqb a b (sym (eqb-true b a e))
-    go false e = ne-eqb a b (λ q. eqb-false b a e (sym q))
-
-or-none : (b : Bool) → b ≡ (b || false)
-or-none true = refl
-or-none false = refl
-
 -- words with one bit more, bit i of word a
 pub words-put : (n : ℕ) (words : List ℕ) (p : ℕ → ℕ → Bool) → Words n words p → (a i : ℕ) → a < n
     → Words n (set words a (withBit (getD words a 0) i)) (λ b j. p b j || (eqb a b && eqb i j))
@@ -60,11 +50,12 @@ words-put n words p w a i h =
         getD-set-same words a (withBit (getD words a 0) i) 0 (omega (arith, h, w .long))
         ∙ with-word (getD words a 0) i
         ∙ word-cong 64 (λ j. bitOf (getD words a 0) j || eqb j i) (λ j. p a j || (true && eqb i j))
-          (λ j l. ap₂ (λ (x y : Bool). x || y) (words-bit n words p w a j h l) (eqb-sym j i))
+        (λ j l. ap₂ (λ (x y : Bool). x || y) (words-bit n words p w a j h l) (eqb-flip j i))
+
     put : (b : ℕ) → b < n → (y : Bool) → eqb a b ≡ y → getD (set words a (withBit (getD words a 0) i)) b 0 ≡ wordOf 64 (λ j. p b j || (y && eqb i j))
     put b l true e =
         subst (λ (x : ℕ). getD (set words a (withBit (getD words a 0) i)) x 0 ≡ wordOf 64 (λ j. p x j || (true && eqb i j))) (eqb-true a b e) here
     put b l false e =
         getD-set-other words a b (withBit (getD words a 0) i) 0 (λ q. eqb-false a b e (sym q))
         ∙ w .word b l
-        ∙ word-cong 64 (p b) (λ j. p b j || (false && eqb i j)) (λ j m. or-none (p b j))
+        ∙ word-cong 64 (p b) (λ j. p b j || (false && eqb i j)) (λ j m. sym (or-false (p b j)))

@@ -10,11 +10,11 @@ use Rattle.words.specs.Word.{bitOf, wordOf}
 use Rattle.ledger.specs.Lists.{any, anyTwo}
 use Rattle.ledger.specs.Sessions.{Session, HeldWords, holds, heldIn}
 use Rattle.ledger.specs.Sound.{someFrame, shareFrame, frameTwice}
+use Rattle.ledger.proofs.Lists.{or-middle, any-snoc}
 use Rattle.table.specs.declared.Place.{Place}
 use Rattle.table.specs.Table.{sessionOf, noPlace, inPlaces, PlaceWithin, Words, Marked}
 use Rattle.table.proofs.Live.{in-snoc}
 use Rattle.table.proofs.Banks.{words-bit, words-same, words-none}
-use Rattle.table.proofs.Twice.{any-snoc}
 
 pub held-none : (places : List Place) → Words 32 (replicate 32 0) (heldIn (inPlaces 0 places))
 unfolding firsts
@@ -30,13 +30,7 @@ held-more places i old new w m =
 -- a frame of a session that one of some sessions holds, and one of the sessions that shares a frame with it
 any-or : (p q : Session → Bool) (ss : List Session) → (any p ss || any q ss) ≡ any (λ s. p s || q s) ss
 any-or p q [] = refl
-any-or p q (s ∷ ss) = shuffle (p s) (any p ss) (q s) (any q ss) ∙ ap (λ (b : Bool). (p s || q s) || b) (any-or p q ss)
-  where
-    shuffle : (a b c d : Bool) → ((a || b) || (c || d)) ≡ ((a || c) || (b || d))
-    shuffle true b c d = refl
-    shuffle false true true d = refl
-    shuffle false true false d = refl
-    shuffle false false c d = refl
+any-or p q (s ∷ ss) = or-middle (p s) (any p ss) (q s) (any q ss) ∙ ap (λ (b : Bool). (p s || q s) || b) (any-or p q ss)
 
 any-none : (ss : List Session) → any (λ s. false) ss ≡ false
 any-none [] = refl
@@ -59,13 +53,16 @@ some-cong p q (suc n) (r ∷ rs) [] e = ap₂ (λ (a b : Bool). a || b) (e 0 (om
 some-cong p q (suc n) (r ∷ rs) (f ∷ fs) e = ap₂ (λ (a b : Bool). a || b) (e 0 (omega arith)) (some-cong p q n rs fs (λ j h. e (suc j) (omega (arith, h))))
 
 -- what the words of the sessions before say of the next one
-pub met-shares : (places : List Place) (i : ℕ) (words : List ℕ) → Words 32 words (heldIn (inPlaces i places)) → (place : Place) → PlaceWithin place
-    → someFrame (λ l k. bitOf (getD words l 0) k) (firsts (place .hops) (place .route) 0) (firsts (place .hops) (place .frames) 0)
-    ≡ any (λ s. shareFrame s (sessionOf place)) (inPlaces i places)
-met-shares places i words w place h =
+pub met-shares : (places : List Place) (i : ℕ) (words : List ℕ) → Words 32 words (heldIn (inPlaces i places)) → PlaceWithin (getD places i noPlace)
+    → someFrame (λ l k. bitOf (getD words l 0) k) (sessionOf (getD places i noPlace) .route) (sessionOf (getD places i noPlace) .held .frames)
+    ≡ any (λ s. shareFrame s (sessionOf (getD places i noPlace))) (inPlaces i places)
+met-shares places i words w h =
     some-cong (λ l k. bitOf (getD words l 0) k) (heldIn (inPlaces i places)) (place .hops) (place .route) (place .frames)
     (λ j g. words-bit 32 words (heldIn (inPlaces i places)) w (getD (place .route) j 0) (getD (place .frames) j 0) (h .link j g) (h .frame j g))
     ∙ some-held (inPlaces i places) (firsts (place .hops) (place .route) 0) (firsts (place .hops) (place .frames) 0)
+  where
+    place : Place
+    place = getD places i noPlace
 
 -- the words of all sessions
 pub held-all : (places : List Place) (n i : ℕ) (words : List ℕ) → Words 32 words (heldIn (inPlaces i places)) → i ≡ n → HeldWords words (inPlaces n places)

@@ -1,6 +1,6 @@
 -- The frames of a session in words of held frames, hop by hop. Assumes nothing.
 use mathlib.Core.Path.{_≡_, refl, sym, ap, ap₂, subst, _∙_}
-use mathlib.Core.Bool.{Bool, true, false, _&&_, _||_}
+use mathlib.Core.Bool.{Bool, true, false, _&&_, _||_, or-false, or-assoc}
 use mathlib.Core.List.{List, [], _∷_, _++_}
 use Prim.Native.Nat.{ℕ, zero, suc, _+_, _<_, _≤_, _*_, _/_, _%_}
 use native.Mathlib.Omega.{arith}
@@ -16,24 +16,15 @@ use Rattle.table.specs.declared.Place.{Place}
 use Rattle.table.specs.Table.{sessionOf, noPlace, inPlaces, Within, Words, Marked}
 use Rattle.table.proofs.Live.{in-snoc}
 use Rattle.table.proofs.Banks.{words-bit, words-same, words-none, words-put}
-use Rattle.table.proofs.Twice.{any-snoc}
 
 -- a route with one hop more
 names-snoc : (rs fs : List ℕ) (r f l i : ℕ) → length rs ≡ length fs → names (rs ++ (r ∷ [])) (fs ++ (f ∷ [])) l i ≡ (names rs fs l i || (eqb r l && eqb f i))
-names-snoc [] [] r f l i e = one (eqb r l && eqb f i)
-  where
-    one : (b : Bool) → (b || false) ≡ b
-    one true = refl
-    one false = refl
+names-snoc [] [] r f l i e = or-false (eqb r l && eqb f i)
 names-snoc [] (g ∷ fs) r f l i e = absurd (omega (arith, e))
 names-snoc (s ∷ rs) [] r f l i e = absurd (omega (arith, e))
 names-snoc (s ∷ rs) (g ∷ fs) r f l i e =
     ap (λ (b : Bool). (eqb s l && eqb g i) || b) (names-snoc rs fs r f l i (omega (arith, e)))
-    ∙ or-assoc (eqb s l && eqb g i) (names rs fs l i) (eqb r l && eqb f i)
-  where
-    or-assoc : (a b c : Bool) → (a || (b || c)) ≡ ((a || b) || c)
-    or-assoc true b c = refl
-    or-assoc false b c = refl
+    ∙ sym (or-assoc (eqb s l && eqb g i) (names rs fs l i) (eqb r l && eqb f i))
 
 -- ---- marking: the words have the frames of the first j hops
 module _ (hops : ℕ) (route frames : List ℕ) (old : List ℕ) where
@@ -60,24 +51,26 @@ module _ (hops : ℕ) (route frames : List ℕ) (old : List ℕ) where
         arrays = m .arrays;
         long = length-set words l (withBit (getD words l 0) i) ∙ m .long;
         marked = λ p u. words-same 32 _ (λ b k. (p b k || names rs fs b k) || (eqb l b && eqb i k)) (λ b k. p b k || names (firsts (j + 1) route 0) (firsts (j + 1) frames 0) b k)
-          (λ b k hb hk. joined (p b k) b k) (words-put 32 words (λ b k. p b k || names rs fs b k) (m .marked p u) l i (m .arrays .link j h));
+            (λ b k hb hk. joined (p b k) b k) (words-put 32 words (λ b k. p b k || names rs fs b k) (m .marked p u) l i (m .arrays .link j h));
       }
     where
       l : ℕ
       l = getD route j 0
+
       i : ℕ
       i = getD frames j 0
+
       rs : List ℕ
       rs = firsts j route 0
+
       fs : List ℕ
       fs = firsts j frames 0
-      or-assoc : (a b c : Bool) → ((a || b) || c) ≡ (a || (b || c))
-      or-assoc true b c = refl
-      or-assoc false b c = refl
+
       grown : (b k : ℕ) → names (firsts (j + 1) route 0) (firsts (j + 1) frames 0) b k ≡ (names rs fs b k || (eqb l b && eqb i k))
       grown b k =
           ap₂ (λ (x y : List ℕ). names x y b k) (firsts-snoc j route 0) (firsts-snoc j frames 0)
           ∙ names-snoc rs fs l i b k (length-firsts j route 0 ∙ sym (length-firsts j frames 0))
+
       joined : (x : Bool) (b k : ℕ) → ((x || names rs fs b k) || (eqb l b && eqb i k)) ≡ (x || names (firsts (j + 1) route 0) (firsts (j + 1) frames 0) b k)
       joined x b k = or-assoc x (names rs fs b k) (eqb l b && eqb i k) ∙ ap (λ (y : Bool). x || y) (sym (grown b k))
 

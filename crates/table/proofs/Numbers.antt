@@ -12,11 +12,11 @@ use Rattle.words.specs.Word.{bitOf, withBit}
 use Rattle.ledger.specs.Lists.{any, anyTwo}
 use Rattle.ledger.specs.Sessions.{Session}
 use Rattle.ledger.specs.Sound.{sameNumber, numberTwice}
+use Rattle.ledger.proofs.Lists.{any-snoc}
 use Rattle.table.specs.declared.Place.{Place}
 use Rattle.table.specs.Table.{sessionOf, noPlace, inPlaces, Words}
 use Rattle.table.proofs.Live.{in-snoc}
 use Rattle.table.proofs.Banks.{words-bit, words-same, words-none, words-put}
-use Rattle.table.proofs.Twice.{any-snoc}
 
 -- some of the first i sessions has the number 64 × a + b
 pub seenIn : List Place → ℕ → ℕ → ℕ → Bool
@@ -41,6 +41,7 @@ same-parts n a b h = go (eqb (64 * a + b) n) refl
     both true true p q = refl
     both true false p q = q
     both false y p q = p
+
     go : (z : Bool) → eqb (64 * a + b) n ≡ z → (eqb (n / 64) a && eqb (n % 64) b) ≡ z
     go true e =
         let q : 64 * a + b ≡ n = eqb-true (64 * a + b) n e in
@@ -61,8 +62,8 @@ number-put places i seen w n e h x ex =
     subst (λ (y : ℕ). Words 1024 (set seen (n / 64) y) (seenIn places (i + 1))) (sym ex)
     (words-same 1024 _ (λ a b. seenIn places i a b || (eqb (n / 64) a && eqb (n % 64) b)) (seenIn places (i + 1))
     (λ a b ha hb.
-      ap (λ (x : Bool). seenIn places i a b || x) (same-parts n a b hb ∙ ap (λ (m : ℕ). eqb (64 * a + b) m) e)
-      ∙ sym (ap (any (λ s. eqb (64 * a + b) (s .number))) (in-snoc i places) ∙ any-snoc (λ s. eqb (64 * a + b) (s .number)) (inPlaces i places) (sessionOf (getD places i noPlace))))
+    ap (λ (x : Bool). seenIn places i a b || x) (same-parts n a b hb ∙ ap (λ (m : ℕ). eqb (64 * a + b) m) e)
+    ∙ sym (ap (any (λ s. eqb (64 * a + b) (s .number))) (in-snoc i places) ∙ any-snoc (λ s. eqb (64 * a + b) (s .number)) (inPlaces i places) (sessionOf (getD places i noPlace))))
     (words-put 1024 seen (seenIn places i) w (n / 64) (n % 64) (omega (arith, h))))
 
 -- "a number is live twice", by twos

@@ -9,35 +9,10 @@ use lib.ListN.{getD}
 use Rattle.places.specs.Places.{firsts}
 use Rattle.ledger.specs.Lists.{any, anyTwo}
 use Rattle.ledger.specs.Sessions.{Session}
+use Rattle.ledger.proofs.Lists.{anyTwo-snoc}
 use Rattle.table.specs.declared.Place.{Place}
 use Rattle.table.specs.Table.{sessionOf, noPlace, inPlaces}
 use Rattle.table.proofs.Live.{in-snoc}
-
-or-assoc : (a b c : Bool) → (a || (b || c)) ≡ ((a || b) || c)
-or-assoc true b c = refl
-or-assoc false b c = refl
-
-module _ {A : Type 0} where
-  pub any-snoc : (p : A → Bool) (xs : List A) (x : A) → any p (xs ++ (x ∷ [])) ≡ (any p xs || p x)
-  any-snoc p [] x = one (p x)
-    where
-      one : (b : Bool) → (b || false) ≡ b
-      one true = refl
-      one false = refl
-  any-snoc p (y ∷ ys) x = ap (λ (b : Bool). p y || b) (any-snoc p ys x) ∙ or-assoc (p y) (any p ys) (p x)
-
-  -- the last element with one before it, or two before it
-  two-snoc : (r : A → A → Bool) (xs : List A) (x : A) → anyTwo r (xs ++ (x ∷ [])) ≡ (anyTwo r xs || any (λ s. r s x) xs)
-  two-snoc r [] x = refl
-  two-snoc r (y ∷ ys) x =
-      ap₂ (λ (a b : Bool). a || b) (any-snoc (r y) ys x) (two-snoc r ys x)
-      ∙ shuffle (any (r y) ys) (r y x) (anyTwo r ys) (any (λ s. r s x) ys)
-    where
-      shuffle : (a b c d : Bool) → ((a || b) || (c || d)) ≡ ((a || c) || (b || d))
-      shuffle true b c d = refl
-      shuffle false true true d = refl
-      shuffle false true false d = refl
-      shuffle false false c d = refl
 
 module _ (r : Session → Session → Bool) (places : List Place) where
   -- no two of the first i sessions pass
@@ -46,7 +21,7 @@ module _ (r : Session → Session → Bool) (places : List Place) where
     pub none : anyTwo r (inPlaces i places) ≡ false
 
   two-next : (i : ℕ) → anyTwo r (inPlaces (i + 1) places) ≡ (anyTwo r (inPlaces i places) || any (λ s. r s (sessionOf (getD places i noPlace))) (inPlaces i places))
-  two-next i = ap (anyTwo r) (in-snoc i places) ∙ two-snoc r (inPlaces i places) (sessionOf (getD places i noPlace))
+  two-next i = ap (anyTwo r) (in-snoc i places) ∙ anyTwo-snoc r (inPlaces i places) (sessionOf (getD places i noPlace))
 
   still : (m k : ℕ) → anyTwo r (inPlaces m places) ≡ true → anyTwo r (inPlaces (m + k) places) ≡ true
   still m zero e = ap (λ (x : ℕ). anyTwo r (inPlaces x places)) (add-zero m) ∙ e

@@ -1,55 +1,55 @@
+-- `table::frame_twice` meets its contract. The invariant: the words have the frames of the first i sessions, and no two of those hold one frame. Assumes nothing.
 use Rattle.table.proofs.frame_twice.Statement.{statement}
 use Rattle.table.proofs.frame_twice.Tie as tie
-use Rattle.table.proofs.frame_twice.Reads as reads
-use Rattle.table.proofs.frame_twice.Lts as lts
-use Rattle.table.proofs.mark_place.Reads as mark-place-reads
-use Rattle.table.proofs.meets.Reads as meets-reads
+use borrow.Author.Needs.{needs}
+use mathlib.Core.Path.{_∙_}
+use Prim.Native.Nat.{ℕ, _-_, _<_}
+use lib.ListN.{getD}
+use Rattle.ledger.specs.Sessions.{heldIn}
+use Rattle.ledger.specs.Sound.{shareFrame}
+use Rattle.table.specs.Table.{noPlace, inPlaces, PlaceWithin, Words}
+use Rattle.table.proofs.Holding.{held-none, held-more, met-shares, frames-rule}
+use Rattle.table.proofs.Twice.{NoTwo, none-yet, two-found, two-missed, two-none}
 
 abbrev Inv-loop : tie.InvT-loop
-Inv-loop table live words₀ i₀ words i = ?
+Inv-loop table live words₀ i₀ words i = ((k : ℕ) → k < live → PlaceWithin (getD (table .places) k noPlace)) × Words 32 words (heldIn (inPlaces i (table .places))) × NoTwo shareFrame (table .places) live i
 
 abbrev μ-loop : tie.MeasureT-loop
-μ-loop table live words₀ i₀ words i = ?
+μ-loop table live words₀ i₀ words i = live - i
 
--- src/lib.rt:140:5
 loop-holds : tie.Need-loop-holds Inv-loop μ-loop
-loop-holds c = ?
+loop-holds c = (c .pre .each, held-none _, none-yet _ _ _)
 
--- src/lib.rt:141:21
 mul-place : tie.Need-mul-place Inv-loop μ-loop
-mul-place c = ?
+mul-place c = search needs
 
--- src/lib.rt:141:21
 element-copy-out-place : tie.Need-element-copy-out-place Inv-loop μ-loop
-element-copy-out-place c = ?
+element-copy-out-place c = search needs
 
--- src/lib.rt:142:12
 meets-requires : tie.Need-meets-requires Inv-loop μ-loop
-meets-requires c κs = ?
+meets-requires c κs = c .before .before .before .loop .inv .0 _ (c .before .before .loop-test .taken)
 
--- src/lib.rt:143:13
 returns : tie.Need-returns Inv-loop μ-loop
-returns c = ?
+returns c = let inv = c .before .before .before .before .before .loop .inv in
+    let l = c .before .before .before .before .loop-test .taken in
+    two-found _ _ _ _ (inv .2) l _ (c .before .meets .ensures ∙ met-shares _ _ _ (inv .1) (inv .0 _ l)) (c .if1 .taken) ∙ frames-rule _
 
--- src/lib.rt:145:9
 mark-place-requires : tie.Need-mark-place-requires Inv-loop μ-loop
-mark-place-requires c κs = ?
+mark-place-requires c κs = (c .before .before .before .before .before .before .loop .inv .1 .long, c .before .before .before .before .before .before .loop .inv .0 _ (c .before .before .before .before .before .loop-test .taken))
 
--- src/lib.rt:146:9
 add-i : tie.Need-add-i Inv-loop μ-loop
-add-i c = ?
+add-i c = search needs
 
--- src/lib.rt:140:5
 loop-less : tie.Need-loop-less Inv-loop μ-loop
-loop-less c = ?
+loop-less c = search needs
 
--- src/lib.rt:140:5
 loop-again : tie.Need-loop-again Inv-loop μ-loop
-loop-again c = ?
+loop-again c = let inv = c .before .before .before .before .before .before .before .loop .inv in
+    let l = c .before .before .before .before .before .before .loop-test .taken in
+    (inv .0, held-more _ _ _ _ (inv .1) (c .mark-place .ensures), two-missed _ _ _ _ (inv .2) l _ (c .before .before .before .meets .ensures ∙ met-shares _ _ _ (inv .1) (inv .0 _ l)) (c .before .before .if1 .left))
 
--- src/lib.rt:133:1
 returns-2 : tie.Need-returns-2 Inv-loop μ-loop
-returns-2 c = ?
+returns-2 c = two-none _ _ _ _ (c .before .loop .inv .2) (c .loop-test .left) ∙ frames-rule _
 
 pub frame-twice-spec : {M : Type 1} → statement M
 frame-twice-spec =

@@ -1,46 +1,44 @@
+-- `table::held_words` meets its contract. The invariant: the words have the frames of the first i sessions. Assumes nothing.
 use Rattle.table.proofs.held_words.Statement.{statement}
 use Rattle.table.proofs.held_words.Tie as tie
-use Rattle.table.proofs.held_words.Reads as reads
-use Rattle.table.proofs.held_words.Lts as lts
-use Rattle.table.proofs.mark_place.Reads as mark-place-reads
+use borrow.Author.Needs.{needs}
+use Prim.Native.Nat.{ℕ, _-_, _<_, _≤_}
+use native.Mathlib.Omega.{arith}
+use lib.ListN.{getD}
+use Rattle.ledger.specs.Sessions.{heldIn}
+use Rattle.table.specs.Table.{noPlace, inPlaces, PlaceWithin, Words}
+use Rattle.table.proofs.Holding.{held-none, held-more, held-all}
 
 abbrev Inv-loop : tie.InvT-loop
-Inv-loop table live words₀ i₀ words i = ?
+Inv-loop table live words₀ i₀ words i = (i ≤ live) × ((k : ℕ) → k < live → PlaceWithin (getD (table .places) k noPlace)) × Words 32 words (heldIn (inPlaces i (table .places)))
 
 abbrev μ-loop : tie.MeasureT-loop
-μ-loop table live words₀ i₀ words i = ?
+μ-loop table live words₀ i₀ words i = live - i
 
--- src/lib.rt:105:5
 loop-holds : tie.Need-loop-holds Inv-loop μ-loop
-loop-holds c = ?
+loop-holds c = (omega arith, c .pre .each, held-none _)
 
--- src/lib.rt:106:21
 mul-place : tie.Need-mul-place Inv-loop μ-loop
-mul-place c = ?
+mul-place c = search needs
 
--- src/lib.rt:106:21
 element-copy-out-place : tie.Need-element-copy-out-place Inv-loop μ-loop
-element-copy-out-place c = ?
+element-copy-out-place c = search needs
 
--- src/lib.rt:107:9
 mark-place-requires : tie.Need-mark-place-requires Inv-loop μ-loop
-mark-place-requires c κs = ?
+mark-place-requires c κs = (c .before .before .before .loop .inv .2 .long, c .before .before .before .loop .inv .1 _ (c .before .before .loop-test .taken))
 
--- src/lib.rt:108:9
 add-i : tie.Need-add-i Inv-loop μ-loop
-add-i c = ?
+add-i c = search needs
 
--- src/lib.rt:105:5
 loop-less : tie.Need-loop-less Inv-loop μ-loop
-loop-less c = ?
+loop-less c = search needs
 
--- src/lib.rt:105:5
 loop-again : tie.Need-loop-again Inv-loop μ-loop
-loop-again c = ?
+loop-again c = let inv = c .before .before .before .before .loop .inv in
+    (omega (arith, c .before .before .before .loop-test .taken), inv .1, held-more _ _ _ _ (inv .2) (c .mark-place .ensures))
 
--- src/lib.rt:98:1
 returns : tie.Need-returns Inv-loop μ-loop
-returns c = ?
+returns c = held-all _ _ _ _ (c .before .loop .inv .2) (omega (arith, c .before .loop .inv .0, c .loop-test .left))
 
 pub held-words-spec : {M : Type 1} → statement M
 held-words-spec =
