@@ -3,7 +3,7 @@ use mathlib.Core.Path.{_≡_, refl, sym, _∙_, ap, subst}
 use mathlib.Core.Bool.{Bool, true, false}
 use mathlib.Core.Logic.{_⊎_, ⊎-elim}
 use Prim.Native.Nat.{ℕ, zero, suc, _+_, _-_, _*_, _%_, _<_, _≤_}
-use native.Mathlib.Nat.{mod-lt, mod-eq-of-lt, add-mod-right, mod-eq-sub-mod, mod-add-mod, div-lt-iff-lt-mul, mul-lt-mul-of-pos-right, mul-comm, add-assoc, eq-or-lt-of-le}
+use native.Mathlib.Nat.{mod-lt, mod-eq-of-lt, mod-self, sub-zero, add-mod-right, mod-eq-sub-mod, mod-add-mod, div-lt-iff-lt-mul, mul-lt-mul-of-pos-right, mul-comm, add-assoc, eq-or-lt-of-le}
 use native.Mathlib.Decide.{decLt}
 use native.Mathlib.Omega.{arith}
 use lib.Dec.{leb, ltb}
@@ -92,6 +92,26 @@ pub reference-lt : (k K K′ : ℕ) → 0 < K → k < K′ → reference k K K�
 unfolding reference
 reference-lt k K K′ p h =
     div-lt-iff-lt-mul {k = K′} {x = k * K} {y = K} (omega arith) .1 (rw (mul-comm K K′) (mul-lt-mul-of-pos-right h p))
+
+-- the hold by one remainder
+module _ (k K K′ i f : ℕ) (e : f ≡ reference k K K′) (h : k < K′) (l : i < K) where
+  pub reference-in : f < K
+  reference-in = rw e (reference-lt k K K′ (omega arith) h)
+
+  pub hold-in : (i + K - (f + 1)) % K < K
+  hold-in = mod-lt (i + K - (f + 1)) (omega arith)
+
+  pub hold-counted : (i + K - (f + 1)) % K + 1 ≡ hold K (reference k K K′) i
+  unfolding hold gap leastHold
+  hold-counted =
+      rw (← e)
+      (elim (decLt (f + 1) K) [
+        | yes b ↦ rw (mod-eq-of-lt b) (omega arith)
+        | no b ↦
+            let q : f + 1 ≡ K = omega (arith, reference-in) in
+            let a : i + K - (f + 1) ≡ i = omega arith in
+            rw (a, q, mod-self, sub-zero, add-mod-right) (omega arith)
+      ])
 
 -- a sum over the frames of a link by their gaps is a sum over all gaps
 gap-sum : (K a : ℕ) (G : ℕ → ℕ) → a < K → sumBelow K (λ i. G (gap K a i)) ≡ sumBelow K G

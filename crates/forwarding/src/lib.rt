@@ -1,7 +1,7 @@
 // Forwarding (document 01): holds, delays and reference frames of the hops of a route.
 ghost use mathlib.Core.Path.{_≡_};
 ghost use Prim.Native.Nat.{_+_, _*_, _<_, _≤_};
-ghost use Rattle.forwarding.specs.Forwarding.{reference, frameTime, Delayed};
+ghost use Rattle.forwarding.specs.Forwarding.{reference, hold, frameTime, Delayed};
 ghost use Rattle.forwarding.specs.Checked.{Passed, Ready, Tells};
 
 // A hold counts frames of the outgoing link.
@@ -25,6 +25,16 @@ pub fn reference_frame(k: u16, frames: u16, before: u16) -> u16
     ensures { λ r. ⌜ r ≡ reference k frames before ⌝ }
 {
     k * frames / before
+}
+
+// The hold from frame k of a hop with `before` frames to frame i of a link with `frames` frames: from 1 to the link's frames.
+// Check 7 bounds both links' frames; k and i are frames of theirs.
+pub fn hold_into(k: u16, before: u16, frames: u16, i: u16) -> Hold
+    requires { ⌜ (k < before) × (before ≤ 64) × (i < frames) × (frames ≤ 64) ⌝ }
+    ensures { λ r. ⌜ r .0 ≡ hold frames (reference k frames before) i ⌝ }
+{
+    let from = reference_frame(k, frames, before);
+    Hold((i + frames - (from + 1)) % frames + 1)
 }
 
 // How long a frame of a link lasts: T / K ticks. Check 7: K is not 0.

@@ -1,0 +1,5 @@
+pub mod Tests
+pub mod Sought
+pub mod Links
+pub mod Routes
+pub mod Hops

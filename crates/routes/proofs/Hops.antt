@@ -1,0 +1,111 @@
+-- The hops of a route: as the code lays them, by the words of held frames, and as a search needs them. Assumes nothing.
+use mathlib.Core.Path.{_≡_, refl, sym, ap, _∙_}
+use mathlib.Core.Bool.{Bool, true, false, not, _&&_}
+use mathlib.Core.List.{List, [], _∷_, _++_, map, map-append}
+use Prim.Native.Nat.{ℕ, zero, suc, _+_, _<_, _≤_}
+use native.Mathlib.Nat.{not-suc-le-zero, le-of-suc-le-suc}
+use native.Mathlib.Numerals.{add-one}
+use native.Mathlib.Omega.{arith}
+use lib.ListN.{length, getD, take, set, replicate, length-map}
+use lib.Seq.{take-suc, take-all, length-take-le}
+use Rattle.trellis.proofs.Count.{or-false}
+use Rattle.words.specs.Word.{bitOf, wordOf, freeAt, freeWord}
+use Rattle.words.proofs.Words.{word-lt, bit-below, word-ext}
+use Rattle.places.specs.Places.{firsts}
+use Rattle.places.proofs.Firsts.{getD-firsts, firsts-filled, firsts-more}
+use Rattle.refusals.specs.Refusals.{given, pass}
+use Rattle.network.specs.declared.Link.{Link}
+use Rattle.network.specs.declared.Network.{Network}
+use Rattle.network.specs.Network.{Topology, noLink, topologyOf}
+use Rattle.network.specs.Checks.{networkCheck}
+use Rattle.network.proofs.Tests.{cycle-passed, frames-passed, range-passed}
+use Rattle.network.proofs.Checks.{GoodLink, network-good}
+use Rattle.forwarding.specs.declared.Hop.{Hop}
+use Rattle.forwarding.specs.Checked.{Passed, Ready, noHop}
+use Rattle.ledger.specs.Lists.{any}
+use Rattle.ledger.specs.Sessions.{Session, HeldWords, heldIn, linkAt, freeOf, hopOf, hopsOf}
+use Rattle.ledger.specs.Routes.{unknown, unknownLink, routeCheck}
+use Rattle.routes.specs.Hops.{hopFrom, hopsFrom}
+use Rattle.routes.proofs.Tests.{known-passed}
+use Rattle.routes.proofs.Links.{link-passed, route-link, many-links, stored-link, in-places, frames-bounded}
+use Rattle.routes.proofs.Routes.{route-long, route-known}
+
+pub hop-told : (k : Link) (held w : ℕ) → w ≡ freeWord (k .frames) (k .closed) held → _≡_ {A = Hop} (record { frames = k .frames; range = k .range; free = w }) (hopFrom k held)
+hop-told k held w e = rw e
+
+-- ---- the hops before place j are laid
+pub record Laid (links : List Link) (held route : List ℕ) (hops : List Hop) (j : ℕ) : Type 0 where
+  pub within : j ≤ length route
+  pub laid : hops ≡ firsts 8 (hopsFrom links held (take j route)) noHop
+
+module _ (links : List Link) (held route : List ℕ) where
+  pub none-laid : Laid links held route (replicate 8 noHop) 0
+  none-laid = record { within = omega arith; laid = firsts-filled 8 [] noHop (omega arith) }
+
+  module _ (hops : List Hop) (j : ℕ) (p : Laid links held route hops j) where
+    pub one-laid : j < length route → length route ≤ 8 → (k : Link) (l : ℕ) (hop : Hop) → k ≡ getD links (getD route j 0) noLink → l ≡ getD route j 0 → hop ≡ hopFrom k (getD held l 0) → Laid links held route (set hops j hop) (j + 1)
+    one-laid h few k l hop ek el e =
+        let f : ℕ → Hop = λ l. hopFrom (getD links l noLink) (getD held l 0) in
+        let n : length (map f (take j route)) ≡ j = length-map (take j route) f ∙ length-take-le j route (p .within) in
+        let t : take (j + 1) route ≡ take j route ++ (getD route j 0 ∷ []) = rw add-one (take-suc route j 0 h) in
+        let o : hop ≡ f (getD route j 0) = rw (e, ek, el) in
+        record {
+          within = omega arith;
+          laid = rw (p .laid, t, map-append, o) (firsts-more 8 j (map f (take j route)) (f (getD route j 0)) noHop n (omega arith));
+        }
+
+    pub all-laid : length route ≤ j → hops ≡ firsts 8 (hopsFrom links held route) noHop
+    all-laid h = p .laid ∙ rw (take-all j route h)
+
+-- ---- the words of held frames say the same as the sessions
+-- of the word of held frames only the bits below K count
+free-same : (K closed a b : ℕ) → ((i : ℕ) → i < K → bitOf a i ≡ bitOf b i) → freeWord K closed a ≡ freeWord K closed b
+unfolding freeWord freeAt
+free-same K closed a b h =
+    word-ext K (wordOf K (freeAt closed a)) (wordOf K (freeAt closed b)) (word-lt K (freeAt closed a)) (word-lt K (freeAt closed b))
+    (λ i l. bit-below K (freeAt closed a) i l ∙ rw (h i l) (sym (bit-below K (freeAt closed b) i l)))
+
+held-below : (K : ℕ) (f : ℕ → Bool) → K ≤ 64 → (i : ℕ) → i < K → bitOf (wordOf 64 f) i ≡ bitOf (wordOf K f) i
+held-below K f h i l = bit-below 64 f i (omega arith) ∙ sym (bit-below K f i l)
+
+hop-held : (network : Network) (held : List ℕ) (ss : List Session) (l : ℕ) → HeldWords held ss → networkCheck (topologyOf network) ≡ given pass → l < network .count → hopFrom (getD (network .links) l noLink) (getD held l 0) ≡ hopOf (topologyOf network) ss l
+unfolding freeOf
+hop-held network held ss l w e h =
+    let b : linkAt (topologyOf network) l .frames ≤ 64 = rw (stored-link network l h) (frames-bounded network l h e .1) in
+    let k : Link = linkAt (topologyOf network) l in
+    rw (← stored-link network l h, w .word l (in-places network l h e))
+    (sym (hop-told k (wordOf 64 (heldIn ss l)) (freeOf (topologyOf network) ss l) (sym (free-same (k .frames) (k .closed) (wordOf 64 (heldIn ss l)) (wordOf (k .frames) (heldIn ss l)) (held-below (k .frames) (heldIn ss l) b)))))
+
+map-known : (f g : ℕ → Hop) (count : ℕ) → ((l : ℕ) → l < count → f l ≡ g l) → (route : List ℕ) → any (unknown count) route ≡ false → map f route ≡ map g route
+map-known f g count h [] e = refl
+map-known f g count h (l ∷ route) e =
+    let o : (unknown count l ≡ false) × (any (unknown count) route ≡ false) = or-false (unknown count l) (any (unknown count) route) e in
+    rw (h l (known-passed count l (o .0)), map-known f g count h route (o .1))
+
+-- THE HOPS BY STORED WORDS ARE THE HOPS BY THE SESSIONS
+pub hops-held : (network : Network) (held : List ℕ) (ss : List Session) (route : List ℕ) → HeldWords held ss → networkCheck (topologyOf network) ≡ given pass → unknownLink (topologyOf network) route ≡ false → hopsFrom (network .links) held route ≡ hopsOf (topologyOf network) ss route
+unfolding unknownLink
+hops-held network held ss route w e u =
+    map-known (λ l. hopFrom (getD (network .links) l noLink) (getD held l 0)) (hopOf (topologyOf network) ss) (network .count) (λ l h. hop-held network held ss l w e h) route (rw (many-links network) at u)
+
+-- ---- a route that passed may be searched
+hop-passed : (net : Topology) (ss : List Session) (l : ℕ) → GoodLink (net .ticks) (linkAt net l) → Passed (net .ticks) (hopOf net ss l)
+hop-passed net ss l g =
+    let f = frames-passed (net .ticks) (linkAt net l .frames) (g .frames) in
+    record { some-frame = f .0; few-frames = f .1; divides = f .2; in-cycle = range-passed (linkAt net l .frames) (linkAt net l .range) (g .range) .1 }
+
+map-place : (f : ℕ → Hop) (route : List ℕ) (j : ℕ) → j < length route → getD (map f route) j noHop ≡ f (getD route j 0)
+map-place f [] j h = absurd (not-suc-le-zero h)
+map-place f (l ∷ route) zero h = refl
+map-place f (l ∷ route) (suc j) h = map-place f route j (le-of-suc-le-suc h)
+
+-- THE SEARCH OF A ROUTE THAT PASSED MAY BEGIN
+pub route-ready : (net : Topology) (ss : List Session) (route : List ℕ) → networkCheck net ≡ given pass → routeCheck net route ≡ given pass → Ready (net .ticks) (firsts 8 (hopsOf net ss route) noHop) (length route)
+route-ready net ss route e r =
+    let n = route-long net route r in
+    record {
+      cycle = cycle-passed (net .ticks) (network-good net e .cycle) .1;
+      some-hop = n .0;
+      few-hops = n .1;
+      passed = λ j h. rw (getD-firsts 8 j (hopsOf net ss route) noHop (omega arith), map-place (hopOf net ss) route j h) (hop-passed net ss (getD route j 0) (link-passed net (getD route j 0) e (route-known net route r j h)));
+    }

@@ -1,0 +1,55 @@
+-- `routes::rates_apart` meets its contract. The invariant: no link before j is apart from the next. Assumes nothing.
+use Prim.Native.Nat.{_-_}
+use borrow.Author.Needs.{needs}
+use native.Mathlib.Omega.{arith}
+use lib.ListN.{length}
+use Rattle.network.specs.Network.{topologyOf}
+use Rattle.routes.proofs.Links.{known-place, stored-frames}
+use Rattle.routes.proofs.Routes.{Compared, none-compared, two-apart, two-agree, all-agree}
+use Rattle.routes.proofs.rates_apart.Statement.{statement}
+use Rattle.routes.proofs.rates_apart.Tie as tie
+
+abbrev Inv-loop : tie.InvT-loop
+Inv-loop network route j₀ j = Compared (topologyOf network) route j
+
+abbrev μ-loop : tie.MeasureT-loop
+μ-loop network route j₀ j = length route - j
+
+loop-holds : tie.Need-loop-holds Inv-loop μ-loop
+loop-holds c = none-compared _ _
+
+sub-link-of : tie.Need-sub-link-of Inv-loop μ-loop
+sub-link-of c = search needs
+
+shared-slice-read-link-of : tie.Need-shared-slice-read-link-of Inv-loop μ-loop
+shared-slice-read-link-of c = search needs
+
+link-of-requires : tie.Need-link-of-requires Inv-loop μ-loop
+link-of-requires c κs = (c .before .before .before .before .pre .0, (known-place (c .before .before .before .before .args .network) _ (c .before .before .loop .j - 1) (c .before .before .before .before .pre .1) (omega arith)))
+
+shared-slice-read-link-of-2 : tie.Need-shared-slice-read-link-of-2 Inv-loop μ-loop
+shared-slice-read-link-of-2 c = search needs
+
+link-of-requires-2 : tie.Need-link-of-requires-2 Inv-loop μ-loop
+link-of-requires-2 c κs = (c .before .before .before .before .before .before .pre .0, (known-place (c .before .before .before .before .before .before .args .network) _ (c .before .before .before .before .loop .j) (c .before .before .before .before .before .before .pre .1) (omega arith)))
+
+frames-apart-requires : tie.Need-frames-apart-requires Inv-loop μ-loop
+frames-apart-requires c κs = (c .before .before .link-of .ensures .1, c .link-of2 .ensures .1)
+
+returns : tie.Need-returns Inv-loop μ-loop
+returns c = two-apart _ _ _ (c .before .before .before .before .before .before .before .loop .inv) (c .before .before .before .before .before .before .loop-test .taken) _ _ (stored-frames (c .before .before .before .before .before .before .before .before .before .args .network) _ (known-place (c .before .before .before .before .before .before .before .before .before .args .network) _ (c .before .before .before .before .before .before .before .loop .j - 1) (c .before .before .before .before .before .before .before .before .before .pre .1) (omega arith)) _ (c .before .before .before .before .link-of .ensures .0)) (stored-frames (c .before .before .before .before .before .before .before .before .before .args .network) _ (known-place (c .before .before .before .before .before .before .before .before .before .args .network) _ (c .before .before .before .before .before .before .before .loop .j) (c .before .before .before .before .before .before .before .before .before .pre .1) (omega arith)) _ (c .before .before .link-of2 .ensures .0)) _ (c .before .frames-apart .ensures) (c .if1 .taken)
+
+add-j : tie.Need-add-j Inv-loop μ-loop
+add-j c = search needs
+
+loop-less : tie.Need-loop-less Inv-loop μ-loop
+loop-less c = search needs
+
+loop-again : tie.Need-loop-again Inv-loop μ-loop
+loop-again c = two-agree _ _ _ (c .before .before .before .before .before .before .before .loop .inv) (c .before .before .before .before .before .before .loop-test .taken) _ _ (stored-frames (c .before .before .before .before .before .before .before .before .before .args .network) _ (known-place (c .before .before .before .before .before .before .before .before .before .args .network) _ (c .before .before .before .before .before .before .before .loop .j - 1) (c .before .before .before .before .before .before .before .before .before .pre .1) (omega arith)) _ (c .before .before .before .before .link-of .ensures .0)) (stored-frames (c .before .before .before .before .before .before .before .before .before .args .network) _ (known-place (c .before .before .before .before .before .before .before .before .before .args .network) _ (c .before .before .before .before .before .before .before .loop .j) (c .before .before .before .before .before .before .before .before .before .pre .1) (omega arith)) _ (c .before .before .link-of2 .ensures .0)) _ (c .before .frames-apart .ensures) (c .if1 .left)
+
+returns-2 : tie.Need-returns-2 Inv-loop μ-loop
+returns-2 c = all-agree _ _ _ (c .before .loop .inv) (c .loop-test .left)
+
+pub rates-apart-spec : {M : Type 1} → statement M
+rates-apart-spec = tie.close (tie.spec Inv-loop μ-loop loop-holds sub-link-of shared-slice-read-link-of link-of-requires shared-slice-read-link-of-2 link-of-requires-2 frames-apart-requires returns add-j loop-less loop-again returns-2)
