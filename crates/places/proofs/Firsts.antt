@@ -5,7 +5,7 @@ use Prim.Native.Nat.{ℕ, zero, suc, _+_, _<_, _≤_}
 use native.Mathlib.Numerals.{add-one}
 use native.Mathlib.Omega.{arith}
 use native.Mathlib.Nat.{not-suc-le-zero, le-of-suc-le-suc}
-use lib.ListN.{length, getD, drop, set, replicate, drop-of-length-le}
+use lib.ListN.{length, getD, take, drop, set, replicate, drop-of-length-le}
 use Rattle.places.specs.Places.{firsts}
 
 module _ {A : Type 0} where
@@ -92,3 +92,10 @@ module _ {A : Type 0} where
   firsts-past (suc n) zero l x d h = absurd (not-suc-le-zero h)
   firsts-past (suc n) (suc m) [] x d h = refl
   firsts-past (suc n) (suc m) (y ∷ l) x d h = ap (λ (t : List A). y ∷ t) (firsts-past n m l x d (le-of-suc-le-suc h))
+
+  -- places that are all there
+  pub firsts-take : (n : ℕ) (l : List A) (d : A) → n ≤ length l → firsts n l d ≡ take n l
+  unfolding firsts
+  firsts-take zero l d h = refl
+  firsts-take (suc n) [] d h = absurd (not-suc-le-zero h)
+  firsts-take (suc n) (x ∷ l) d h = ap (λ (t : List A). x ∷ t) (firsts-take n l d (le-of-suc-le-suc h))

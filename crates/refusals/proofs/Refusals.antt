@@ -62,3 +62,27 @@ refused-is (refused m) n e =
 pub given-is : {A : Type 0} (o : Outcome A) (a : A) → given pass ≡ rulingOf o → o ≡ given (givenOr a o)
 given-is (given x) a e = refl
 given-is (refused n) a e = cc
+
+-- only 18 has a count
+pub uncounted : (r : Refusal) → (refusalNumber r ≡ 18 → ⊥) → refusalCount r ≡ 0
+uncounted BrokenState h = refl
+uncounted ShortFile h = refl
+uncounted LinkCount h = refl
+uncounted CycleLength h = refl
+uncounted ShortRecord h = refl
+uncounted StrayBit h = refl
+uncounted AbsentWritten h = refl
+uncounted FrameCount h = refl
+uncounted RangeOutside h = refl
+uncounted ClosedOutside h = refl
+uncounted BytesFollow h = refl
+uncounted UnreadableCall h = refl
+uncounted RouteLength h = refl
+uncounted UnknownLink h = refl
+uncounted LinkTwice h = refl
+uncounted RatesApart h = refl
+uncounted NumberLive h = refl
+uncounted PlacesFull h = refl
+uncounted (NoSchedule count) h = absurd (h refl)
+uncounted NumberNotLive h = refl
+uncounted ShortBuffer h = refl

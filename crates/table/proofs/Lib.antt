@@ -6,3 +6,4 @@ pub mod Twice
 pub mod Marks
 pub mod Holding
 pub mod Numbers
+pub mod Looking

@@ -1,0 +1,85 @@
+-- The sessions of a state that isn't broken keep within their arrays. Assumes nothing.
+use mathlib.Core.Path.{_≡_, refl, sym, ap, subst, _∙_}
+use mathlib.Core.Bool.{Bool, true, false}
+use mathlib.Core.List.{List, [], _∷_, map}
+use Prim.Native.Nat.{ℕ, zero, suc, _<_, _≤_}
+use native.Mathlib.Nat.{not-suc-le-zero, le-of-suc-le-suc}
+use native.Mathlib.Omega.{arith}
+use lib.ListN.{length, getD, List·getD-map}
+use Rattle.trellis.specs.Trellis.{Stage}
+use Rattle.trellis.specs.Walk.{Onward}
+use Rattle.places.specs.Places.{firsts}
+use Rattle.places.proofs.Firsts.{length-firsts, getD-firsts}
+use Rattle.refusals.specs.Refusals.{given, pass}
+use Rattle.network.specs.Network.{Topology, topologyOf}
+use Rattle.network.specs.Checks.{networkCheck}
+use Rattle.network.proofs.Tests.{count-passed, frames-passed}
+use Rattle.network.proofs.Checks.{network-good}
+use Rattle.forwarding.specs.declared.Hop.{Hop}
+use Rattle.forwarding.specs.Schedule.{stages, IsSchedule}
+use Rattle.ledger.specs.Lists.{all}
+use Rattle.ledger.specs.Sessions.{Session, View, linkAt, hopOf, hopsOf}
+use Rattle.ledger.specs.Sound.{goodSession, intact}
+use Rattle.ledger.proofs.Lists.{all-member, member-at}
+use Rattle.ledger.proofs.Intact.{Intact, intact-is, GoodSession, session-good}
+use Rattle.routes.proofs.Links.{link-passed}
+use Rattle.routes.proofs.Routes.{route-long, route-known}
+use Rattle.table.specs.declared.Place.{Place}
+use Rattle.table.specs.Table.{sessionOf, noPlace, inPlaces, liveOf, PlaceWithin, AllWithin}
+use Rattle.table.proofs.Live.{in-length}
+use Rattle.state.specs.declared.State.{State}
+use Rattle.state.specs.State.{viewOf}
+
+-- ---- each frame of a schedule is one of its link
+module _ (net : Topology) (T : ℕ) where
+  onward-frame : (K k : ℕ) (route fs : List ℕ) → Onward k (stages T K (hopsOf net [] route)) fs → (j : ℕ) → j < length route → getD fs j 0 < linkAt net (getD route j 0) .frames
+  onward-frame K k [] fs o j h = absurd (not-suc-le-zero h)
+  onward-frame K k (l ∷ route) [] o j h = absurd o
+  onward-frame K k (l ∷ route) (f ∷ fs) o zero h = o .0
+  onward-frame K k (l ∷ route) (f ∷ fs) o (suc j) h = onward-frame (linkAt net l .frames) f route fs (o .2) j (le-of-suc-le-suc h)
+
+  schedule-frame : (route fs : List ℕ) → IsSchedule T (hopsOf net [] route) fs → (j : ℕ) → j < length route → getD fs j 0 < linkAt net (getD route j 0) .frames
+  schedule-frame [] fs s j h = absurd s
+  schedule-frame (l ∷ route) [] s j h = absurd s
+  schedule-frame (l ∷ route) (f ∷ fs) s zero h = s .0
+  schedule-frame (l ∷ route) (f ∷ fs) s (suc j) h = onward-frame (linkAt net l .frames) f route fs (s .2) j (le-of-suc-le-suc h)
+
+-- a good session keeps within the arrays
+module _ (net : Topology) (passed : networkCheck net ≡ given pass) where
+  pub good-within : (place : Place) → GoodSession net (sessionOf place) → PlaceWithin place
+  good-within place g =
+      record {
+        few = omega (arith, route-long net (sessionOf place .route) (g .route) .1, length-firsts (place .hops) (place .route) 0);
+        link = λ j h. omega (arith, known j h, count-passed (length (net .links)) (network-good net passed .count) .1, at-route j h);
+        frame = λ j h.
+          let f = frames-passed (net .ticks) (linkAt net (getD (sessionOf place .route) j 0) .frames) (link-passed net (getD (sessionOf place .route) j 0) passed (known j h) .frames) in
+          omega (arith, schedule-frame net (net .ticks) (sessionOf place .route) (sessionOf place .held .frames) (g .schedule) j (inside j h), f .1, getD-firsts (place .hops) j (place .frames) 0 h);
+      }
+    where
+      inside : (j : ℕ) → j < place .hops → j < length (sessionOf place .route)
+      inside j h = omega (arith, h, length-firsts (place .hops) (place .route) 0)
+      known : (j : ℕ) → j < place .hops → getD (sessionOf place .route) j 0 < length (net .links)
+      known j h = route-known net (sessionOf place .route) (g .route) j (inside j h)
+      at-route : (j : ℕ) → j < place .hops → getD (sessionOf place .route) j 0 ≡ getD (place .route) j 0
+      at-route j h = getD-firsts (place .hops) j (place .route) 0 h
+
+-- the session in a place
+pub place-session : (n i : ℕ) (places : List Place) → i < n → getD (inPlaces n places) i (sessionOf noPlace) ≡ sessionOf (getD places i noPlace)
+place-session n i places h = List·getD-map sessionOf (firsts n places noPlace) i noPlace ∙ ap sessionOf (getD-firsts n i places noPlace h)
+
+module _ (st : State) (e : intact (viewOf st) ≡ true) where
+  ok : Intact (topologyOf (st .network)) (liveOf (st .table))
+  ok = intact-is (viewOf st) e
+
+  pub few-live : st .table .live ≤ 96
+  few-live = omega (arith, ok .few, in-length (st .table .live) (st .table .places))
+
+  pub place-good : (i : ℕ) → i < st .table .live → GoodSession (topologyOf (st .network)) (sessionOf (getD (st .table .places) i noPlace))
+  place-good i h =
+      session-good (topologyOf (st .network)) (sessionOf (getD (st .table .places) i noPlace))
+      (subst (λ (s : Session). goodSession (topologyOf (st .network)) s ≡ true) (place-session (st .table .live) i (st .table .places) h)
+      (all-member (goodSession (topologyOf (st .network))) (liveOf (st .table)) (ok .sessions)
+      (member-at (liveOf (st .table)) i (sessionOf noPlace) (omega (arith, h, in-length (st .table .live) (st .table .places))))))
+
+  pub all-within : AllWithin (st .table)
+  all-within = record { few = few-live; each = λ i h. good-within (topologyOf (st .network)) (ok .network) (getD (st .table .places) i noPlace) (place-good i h) }
