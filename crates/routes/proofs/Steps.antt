@@ -23,7 +23,15 @@ module _ (h : Hop) (i : ℕ) where
   unfolding isFree
   a-frame l b e = rw (lt-ltb i (h .frames) l) e
 
+  pub frame-in : (b : Bool) → b ≡ (ltb i (h .frames) && isFree h i) → b ≡ true → i < h .frames
+  frame-in b e g = ltb-true i (h .frames) (and-true (ltb i (h .frames)) (isFree h i) (sym e ∙ g) .0)
+
 -- ---- one transition
+-- no hold within the range lasts longer than a cycle
+pub hold-lasts : (T : ℕ) (h : Hop) (D time : ℕ) → T ≤ 960 → Passed T h → D ≤ h .range → time ≡ frameTime T (h .frames) → D * time ≤ 960
+hold-lasts T h D time c p l e =
+    rw e (omega (arith, delay-frames T (h .frames) D (p .some-frame) (p .divides), delay-le T (h .frames) D (omega (arith, p .in-cycle))))
+
 later-test : (a m f : Bool) → a && (m && f) ≡ (a && f) && m
 later-test true true true = refl
 later-test true true false = refl
@@ -39,22 +47,12 @@ module _ (T K′ : ℕ) (h : Hop) (k i : ℕ) (b : Bool) (eb : b ≡ (ltb i (h .
   pub not-free : b ≡ false → none ≡ stepIf T K′ h k i
   not-free g = sym (by-hold ∙ rw g)
 
-  module _ (g : b ≡ true) where
-    pub frame-in : i < h .frames
-    frame-in = ltb-true i (h .frames) (and-true (ltb i (h .frames)) (isFree h i) (sym eb ∙ g) .0)
+  module _ (g : b ≡ true) (D : ℕ) (eD : D ≡ hold (h .frames) (reference k (h .frames) K′) i) where
+    pub over-range : h .range < D → none ≡ stepIf T K′ h k i
+    unfolding mayHold holdInto
+    over-range l = sym (by-hold ∙ rw (g, ← eD, lt-leb D (h .range) l))
 
-    module _ (D : ℕ) (eD : D ≡ hold (h .frames) (reference k (h .frames) K′) i) where
-      pub over-range : h .range < D → none ≡ stepIf T K′ h k i
-      unfolding mayHold holdInto
-      over-range l = sym (by-hold ∙ rw (g, ← eD, lt-leb D (h .range) l))
-
-      module _ (p : Passed T h) (l : D ≤ h .range) (time : ℕ) (et : time ≡ frameTime T (h .frames)) where
-        pub hold-lasts : T ≤ 960 → D * time ≤ 960
-        hold-lasts c =
-            rw et
-            (omega (arith, delay-frames T (h .frames) D (p .some-frame) (p .divides), delay-le T (h .frames) D (omega (arith, p .in-cycle))))
-
-        pub step-delay : (d : ℕ) → Delayed D time d → some d ≡ stepIf T K′ h k i
-        unfolding holdInto
-        step-delay d q =
-            sym (by-hold ∙ rw (g, ← eD, hold-may h D l, q .ruled T (h .frames) (p .some-frame) (p .divides) et))
+    pub step-delay : Passed T h → D ≤ h .range → (time : ℕ) → time ≡ frameTime T (h .frames) → (d : ℕ) → Delayed D time d → some d ≡ stepIf T K′ h k i
+    unfolding holdInto
+    step-delay p l time et d q =
+        sym (by-hold ∙ rw (g, ← eD, hold-may h D l, q .ruled T (h .frames) (p .some-frame) (p .divides) et))

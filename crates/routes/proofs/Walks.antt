@@ -95,7 +95,7 @@ module _ (T n : ℕ) (hops : List Hop) (frames : List ℕ) (r : Ready T hops n) 
     pub first-along : b ≡ true → Along T n hops frames k (getD hops 0 noHop .frames) 0 1
     first-along g = record {
       within = r .some-hop;
-      inside = frame-in T 0 (getD hops 0 noHop) 0 k b eb g;
+      inside = frame-in (getD hops 0 noHop) k b eb g;
       few = r .passed 0 (r .some-hop) .few-frames;
       small = omega arith;
       same = begins ∙ rw g;

@@ -50,13 +50,13 @@ enum-told : tie.Need-enum-told Inv-loop μ-loop
 enum-told c = search needs
 
 returns-2 : tie.Need-returns-2 Inv-loop μ-loop
-returns-2 c = no-step _ _ _ _ (c .before .before .before .before .before .before .before .before .before .before .before .pre) _ _ _ _ (c .before .before .before .before .before .before .loop .inv) (c .before .before .before .before .before .loop-test .taken) _ (c .before .before .before .short2 .ensures) _ (c .before .before .step .ensures) (c .enum-told .given .1)
+returns-2 c = let w = c .before .before in let i = w .before in let l = i .before .before in let s = l .before .before .before .before .before .before in no-step _ _ _ _ (s .pre) _ _ _ _ (l .before .loop .inv) (l .loop-test .taken) _ (i .short2 .ensures) _ (w .step .ensures) (c .enum-told .given .1)
 
 enum-known-delay : tie.Need-enum-known-delay Inv-loop μ-loop
 enum-known-delay c = search needs
 
 sum-requires : tie.Need-sum-requires Inv-loop μ-loop
-sum-requires c κs = step-small _ _ _ _ (c .before .before .before .before .before .before .before .before .before .before .before .before .pre) _ _ _ _ (c .before .before .before .before .before .before .before .loop .inv) (c .before .before .before .before .before .before .loop-test .taken) _ (c .before .before .before .before .short2 .ensures) _ (c .before .before .before .step .ensures) _ (c .before .delay .given .1)
+sum-requires c κs = let w = c .before .before .before in let i = w .before in let l = i .before .before in let s = l .before .before .before .before .before .before in step-small _ _ _ _ (s .pre) _ _ _ _ (l .before .loop .inv) (l .loop-test .taken) _ (i .short2 .ensures) _ (w .step .ensures) _ (c .before .delay .given .1)
 
 add-j : tie.Need-add-j Inv-loop μ-loop
 add-j c = search needs
@@ -65,7 +65,7 @@ loop-less : tie.Need-loop-less Inv-loop μ-loop
 loop-less c = search needs
 
 loop-again : tie.Need-loop-again Inv-loop μ-loop
-loop-again c = one-step _ _ _ _ (c .before .before .before .before .before .before .before .before .before .before .before .before .before .pre) _ _ _ _ (c .before .before .before .before .before .before .before .before .loop .inv) (c .before .before .before .before .before .before .before .loop-test .taken) _ (c .before .before .before .before .before .short2 .ensures) _ (c .before .before .before .before .step .ensures) _ (c .before .before .delay .given .1) _ (c .sum .ensures)
+loop-again c = let w = c .before .before .before .before in let i = w .before in let l = i .before .before in let s = l .before .before .before .before .before .before in one-step _ _ _ _ (s .pre) _ _ _ _ (l .before .loop .inv) (l .loop-test .taken) _ (i .short2 .ensures) _ (w .step .ensures) _ (c .before .before .delay .given .1) _ (c .sum .ensures)
 
 returns-3 : tie.Need-returns-3 Inv-loop μ-loop
 returns-3 c = all-steps _ _ _ _ (c .before .before .before .before .before .before .pre) _ _ _ _ (c .before .loop .inv) (c .loop-test .left)
