@@ -75,7 +75,6 @@ module _ (T K′ : ℕ) (h : Hop) (k i : ℕ) where
 
 -- ---- the frames before hop j are a schedule so far, the last of them frame k of a hop with K′ frames
 pub record Along (T n : ℕ) (hops : List Hop) (frames : List ℕ) (k K′ c j : ℕ) : Type 0 where
-  pub within : j ≤ n
   pub inside : k < K′
   pub few : K′ ≤ 64
   pub small : c + 960 ≤ 960 * j
@@ -94,7 +93,6 @@ module _ (T n : ℕ) (hops : List Hop) (frames : List ℕ) (r : Ready T hops n) 
 
     pub first-along : b ≡ true → Along T n hops frames k (getD hops 0 noHop .frames) 0 1
     first-along g = record {
-      within = r .some-hop;
       inside = frame-in (getD hops 0 noHop) k b eb g;
       few = r .passed 0 (r .some-hop) .few-frames;
       small = omega arith;
@@ -125,7 +123,6 @@ module _ (T n : ℕ) (hops : List Hop) (frames : List ℕ) (r : Ready T hops n) 
 
         pub one-step : (s : ℕ) → s ≡ c + d .0 → Along T n hops frames i (getD hops j noHop .frames) s (j + 1)
         one-step s es = record {
-          within = omega arith;
           inside = lasts .0;
           few = r .passed j h .few-frames;
           small = omega (arith, lasts .1, p .small);

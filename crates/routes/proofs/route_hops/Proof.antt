@@ -22,7 +22,9 @@ shared-slice-read-link-of : tie.Need-shared-slice-read-link-of Inv-loop μ-loop
 shared-slice-read-link-of c = search needs
 
 link-of-requires : tie.Need-link-of-requires Inv-loop μ-loop
-link-of-requires c κs = let s = c .before .before .before .before in (s .pre .0, passed-place (s .args .network) _ (s .pre .1) (c .before .before .loop .j) (c .before .loop-test .taken))
+link-of-requires c κs =
+    let s = c .before .before .before .before in
+    (s .pre .0, passed-place (s .args .network) _ (s .pre .1) (c .before .before .loop .j) (c .before .loop-test .taken))
 
 shared-slice-read-wide : tie.Need-shared-slice-read-wide Inv-loop μ-loop
 shared-slice-read-wide c = search needs
@@ -59,10 +61,30 @@ loop-less : tie.Need-loop-less Inv-loop μ-loop
 loop-less c = search needs
 
 loop-again : tie.Need-loop-again Inv-loop μ-loop
-loop-again c = let l = c .before .before .before .before .before .before in one-laid _ _ _ _ _ (l .before .loop .inv) (l .loop-test .taken) (route-long _ _ (l .before .before .before .pre .1) .1) _ _ _ (c .before .before .before .before .link-of .ensures .0) (c .before .before .wide .ensures) (c .hop-of .ensures)
+loop-again c =
+    let l = c .before .before .before .before .before .before in
+    one-laid _ _ _ _ _ (l .before .loop .inv) (l .loop-test .taken) (route-long _ _ (l .before .before .before .pre .1) .1) _ _ _ (c .before .before .before .before .link-of .ensures .0) (c .before .before .wide .ensures) (c .hop-of .ensures)
 
 returns : tie.Need-returns Inv-loop μ-loop
 returns c = all-laid _ _ _ _ _ (c .before .loop .inv) (c .loop-test .left)
 
 pub route-hops-spec : {M : Type 1} → statement M
-route-hops-spec = tie.close (tie.spec Inv-loop μ-loop loop-holds shared-slice-read-link-of link-of-requires shared-slice-read-wide wide-requires mul-hop-of element-copy-out-hop-of hop-of-requires mul-hops array-set-from-hops add-j loop-less loop-again returns)
+route-hops-spec =
+    tie.close
+    (tie.spec
+    Inv-loop
+    μ-loop
+    loop-holds
+    shared-slice-read-link-of
+    link-of-requires
+    shared-slice-read-wide
+    wide-requires
+    mul-hop-of
+    element-copy-out-hop-of
+    hop-of-requires
+    mul-hops
+    array-set-from-hops
+    add-j
+    loop-less
+    loop-again
+    returns)

@@ -44,19 +44,32 @@ short-requires-2 : tie.Need-short-requires-2 Inv-loop μ-loop
 short-requires-2 c κs = search needs
 
 step-requires : tie.Need-step-requires Inv-loop μ-loop
-step-requires c κs = let s = c .before .before .before .before .before .before .before .before in let l = c .before .before .before .loop in (s .pre .cycle, l .inv .inside, l .inv .few, s .pre .passed (l .j) (c .before .before .loop-test .taken))
+step-requires c κs =
+    let s = c .before .before .before .before .before .before .before .before in
+    let l = c .before .before .before .loop in
+    (s .pre .cycle, l .inv .inside, l .inv .few, s .pre .passed (l .j) (c .before .before .loop-test .taken))
 
 enum-told : tie.Need-enum-told Inv-loop μ-loop
 enum-told c = search needs
 
 returns-2 : tie.Need-returns-2 Inv-loop μ-loop
-returns-2 c = let w = c .before .before in let i = w .before in let l = i .before .before in let s = l .before .before .before .before .before .before in no-step _ _ _ _ (s .pre) _ _ _ _ (l .before .loop .inv) (l .loop-test .taken) _ (i .short2 .ensures) _ (w .step .ensures) (c .enum-told .given .1)
+returns-2 c =
+    let w = c .before .before in
+    let i = w .before in
+    let l = i .before .before in
+    let s = l .before .before .before .before .before .before in
+    no-step _ _ _ _ (s .pre) _ _ _ _ (l .before .loop .inv) (l .loop-test .taken) _ (i .short2 .ensures) _ (w .step .ensures) (c .enum-told .given .1)
 
 enum-known-delay : tie.Need-enum-known-delay Inv-loop μ-loop
 enum-known-delay c = search needs
 
 sum-requires : tie.Need-sum-requires Inv-loop μ-loop
-sum-requires c κs = let w = c .before .before .before in let i = w .before in let l = i .before .before in let s = l .before .before .before .before .before .before in step-small _ _ _ _ (s .pre) _ _ _ _ (l .before .loop .inv) (l .loop-test .taken) _ (i .short2 .ensures) _ (w .step .ensures) _ (c .before .delay .given .1)
+sum-requires c κs =
+    let w = c .before .before .before in
+    let i = w .before in
+    let l = i .before .before in
+    let s = l .before .before .before .before .before .before in
+    step-small _ _ _ _ (s .pre) _ _ _ _ (l .before .loop .inv) (l .loop-test .taken) _ (i .short2 .ensures) _ (w .step .ensures) _ (c .before .delay .given .1)
 
 add-j : tie.Need-add-j Inv-loop μ-loop
 add-j c = search needs
@@ -65,10 +78,38 @@ loop-less : tie.Need-loop-less Inv-loop μ-loop
 loop-less c = search needs
 
 loop-again : tie.Need-loop-again Inv-loop μ-loop
-loop-again c = let w = c .before .before .before .before in let i = w .before in let l = i .before .before in let s = l .before .before .before .before .before .before in one-step _ _ _ _ (s .pre) _ _ _ _ (l .before .loop .inv) (l .loop-test .taken) _ (i .short2 .ensures) _ (w .step .ensures) _ (c .before .before .delay .given .1) _ (c .sum .ensures)
+loop-again c =
+    let w = c .before .before .before .before in
+    let i = w .before in
+    let l = i .before .before in
+    let s = l .before .before .before .before .before .before in
+    one-step _ _ _ _ (s .pre) _ _ _ _ (l .before .loop .inv) (l .loop-test .taken) _ (i .short2 .ensures) _ (w .step .ensures) _ (c .before .before .delay .given .1) _ (c .sum .ensures)
 
 returns-3 : tie.Need-returns-3 Inv-loop μ-loop
 returns-3 c = all-steps _ _ _ _ (c .before .before .before .before .before .before .pre) _ _ _ _ (c .before .loop .inv) (c .loop-test .left)
 
 pub walk-spec : {M : Type 1} → statement M
-walk-spec = tie.close (tie.spec Inv-loop μ-loop array-copy-out-first array-read-short short-requires frame-free-requires returns loop-holds mul-hop array-copy-out-hop array-read-short-2 short-requires-2 step-requires enum-told returns-2 enum-known-delay sum-requires add-j loop-less loop-again returns-3)
+walk-spec =
+    tie.close
+    (tie.spec
+    Inv-loop
+    μ-loop
+    array-copy-out-first
+    array-read-short
+    short-requires
+    frame-free-requires
+    returns
+    loop-holds
+    mul-hop
+    array-copy-out-hop
+    array-read-short-2
+    short-requires-2
+    step-requires
+    enum-told
+    returns-2
+    enum-known-delay
+    sum-requires
+    add-j
+    loop-less
+    loop-again
+    returns-3)
