@@ -38,7 +38,7 @@ link-of-requires-2 c κs =
     (s .pre .0, known-place (s .args .network) _ (c .before .before .before .before .loop .j) (s .pre .1) (c .before .before .before .loop-test .taken))
 
 frames-apart-requires : tie.Need-frames-apart-requires Inv-loop μ-loop
-frames-apart-requires c κs = (c .before .before .link-of .ensures .1, c .link-of2 .ensures .1)
+frames-apart-requires c κs = search needs
 
 returns : tie.Need-returns Inv-loop μ-loop
 returns c =

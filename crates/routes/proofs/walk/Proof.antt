@@ -69,7 +69,7 @@ sum-requires c κs =
     let i = w .before in
     let l = i .before .before in
     let s = l .before .before .before .before .before .before in
-    step-small _ _ _ _ (s .pre) _ _ _ _ (l .before .loop .inv) (l .loop-test .taken) _ (i .short2 .ensures) _ (w .step .ensures) _ (c .before .delay .given .1)
+    omega (arith, step-small _ _ _ _ (s .pre) _ _ _ _ (l .before .loop .inv) (l .loop-test .taken) _ (i .short2 .ensures) _ (w .step .ensures) _ (c .before .delay .given .1))
 
 add-j : tie.Need-add-j Inv-loop μ-loop
 add-j c = search needs
