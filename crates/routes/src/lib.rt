@@ -82,7 +82,7 @@ fn link_twice(route: &[u8]) -> bool
     false
 }
 
-// The link of a number below the number of links. The checks of its network bound its frames.
+// The link of a number. Checks 2 and 13 guarantee that it stands in its place; check 7 bounds its frames.
 fn link_of(network: Network, link: u8) -> Link
     requires { ⌜ (networkCheck (topologyOf network) ≡ given pass) × (link < network .count) ⌝ }
     ensures { λ r. ⌜ (r ≡ getD (network .links) link noLink) × (0 < r .frames) × (r .frames ≤ 64) ⌝ }
@@ -100,7 +100,7 @@ fn frames_apart(one: u16, other: u16) -> bool
     one % other != 0 && other % one != 0
 }
 
-// Whether check 15 refuses the route. Check 13 guarantees that the network has its links.
+// Whether check 15 refuses the route. The network passed its checks, and check 13 guarantees that it has the route's links.
 fn rates_apart(network: Network, route: &[u8]) -> bool
     requires { ⌜ (networkCheck (topologyOf network) ≡ given pass) × (unknownLink (topologyOf network) (now route) ≡ false) ⌝ }
     ensures { λ r. ⌜ r ≡ ratesApart (ratesOf (topologyOf network) (now (route .entry))) ⌝ }
