@@ -1,6 +1,6 @@
 -- The hops of a route: as the code lays them, by the words of held frames, and as a search needs them. Assumes nothing.
-use mathlib.Core.Path.{_≡_, refl, sym, ap, _∙_}
-use mathlib.Core.Bool.{Bool, true, false, not, _&&_}
+use mathlib.Core.Path.{_≡_, refl, sym, _∙_}
+use mathlib.Core.Bool.{Bool, false}
 use mathlib.Core.List.{List, [], _∷_, _++_, map, map-append}
 use Prim.Native.Nat.{ℕ, zero, suc, _+_, _<_, _≤_}
 use native.Mathlib.Nat.{not-suc-le-zero, le-of-suc-le-suc}
@@ -27,7 +27,7 @@ use Rattle.ledger.specs.Sessions.{Session, HeldWords, heldIn, linkAt, freeOf, h
 use Rattle.ledger.specs.Routes.{unknown, unknownLink, routeCheck}
 use Rattle.routes.specs.Hops.{hopFrom, hopsFrom}
 use Rattle.routes.proofs.Tests.{known-passed}
-use Rattle.routes.proofs.Links.{link-passed, route-link, many-links, stored-link, in-places, frames-bounded}
+use Rattle.routes.proofs.Links.{link-passed, many-links, stored-link, in-places, frames-bounded}
 use Rattle.routes.proofs.Routes.{route-long, route-known}
 
 pub hop-told : (k : Link) (held w : ℕ) → w ≡ freeWord (k .frames) (k .closed) held → _≡_ {A = Hop} (record { frames = k .frames; range = k .range; free = w }) (hopFrom k held)

@@ -3,3 +3,5 @@ pub mod Sought
 pub mod Links
 pub mod Routes
 pub mod Hops
+pub mod Steps
+pub mod Walks

@@ -1,22 +1,30 @@
-// The checks of a route, 12 to 15, and what a route's links are to the search: its hops.
+// The checks of a route, 12 to 15; what a route's links are to the search, its hops; and what frames over them are: a schedule with its delay, or none.
+use forwarding::Delay;
 use forwarding::Hop;
 use network::Link;
 use network::Network;
 use refusals::Refusal;
 use refusals::Verdict;
 ghost use mathlib.Core.Path.{_≡_};
-ghost use mathlib.Core.Bool.{false};
+ghost use mathlib.Core.Bool.{false, _&&_};
 ghost use Prim.Native.Nat.{_<_, _≤_};
-ghost use lib.Dec.{eqb};
+ghost use lib.Dec.{eqb, ltb};
 ghost use lib.ListN.{getD, drop};
 ghost use Rattle.places.specs.Places.{firsts};
 ghost use Rattle.refusals.specs.Refusals.{given, pass, ruling};
 ghost use Rattle.network.specs.Network.{noLink, topologyOf};
 ghost use Rattle.network.specs.Checks.{networkCheck};
-ghost use Rattle.forwarding.specs.Checked.{noHop};
+ghost use Rattle.forwarding.specs.Forwarding.{isFree};
+ghost use Rattle.forwarding.specs.Checked.{Passed, Ready, noHop};
 ghost use Rattle.ledger.specs.Lists.{any};
 ghost use Rattle.ledger.specs.Routes.{badLength, unknown, unknownLink, linkTwice, apart, ratesApart, ratesOf, routeCheck};
-ghost use Rattle.routes.specs.Hops.{hopFrom, hopsFrom};
+ghost use Rattle.routes.specs.Hops.{hopFrom, hopsFrom, delayIn, stepIf, delayIf};
+
+// What frames over the hops of a route come to: a schedule's delay, or that they are no schedule.
+pub enum Walked {
+    Delayed(Delay),
+    Unfit,
+}
 
 // A link number as an index.
 fn wide(x: u8) -> usize
@@ -74,7 +82,7 @@ fn link_twice(route: &[u8]) -> bool
     false
 }
 
-// The link of a number below the number of links. The checks of its network bound its frames.
+// The link of a number. Checks 2 and 13 guarantee that it stands in its place; check 7 bounds its frames.
 fn link_of(network: Network, link: u8) -> Link
     requires { ⌜ (networkCheck (topologyOf network) ≡ given pass) × (link < network .count) ⌝ }
     ensures { λ r. ⌜ (r ≡ getD (network .links) link noLink) × (0 < r .frames) × (r .frames ≤ 64) ⌝ }
@@ -92,7 +100,7 @@ fn frames_apart(one: u16, other: u16) -> bool
     one % other != 0 && other % one != 0
 }
 
-// Whether check 15 refuses the route. Check 13 guarantees that the network has its links.
+// Whether check 15 refuses the route. The network passed its checks, and check 13 guarantees that it has the route's links.
 fn rates_apart(network: Network, route: &[u8]) -> bool
     requires { ⌜ (networkCheck (topologyOf network) ≡ given pass) × (unknownLink (topologyOf network) (now route) ≡ false) ⌝ }
     ensures { λ r. ⌜ r ≡ ratesApart (ratesOf (topologyOf network) (now (route .entry))) ⌝ }
@@ -160,4 +168,68 @@ pub fn route_hops(network: Network, held: &[u64; 32], route: &[u8]) -> [Hop; 8]
         j += 1;
     }
     hops
+}
+
+// A stored frame as a frame number.
+fn short(x: u8) -> u16
+    ensures { λ r. ⌜ r ≡ x ⌝ }
+{
+    x as u16
+}
+
+// Whether i is a frame of the hop and free. Check 7: a hop has at most 64 frames.
+fn frame_free(hop: Hop, i: u16) -> bool
+    requires { ⌜ hop .frames ≤ 64 ⌝ }
+    ensures { λ r. ⌜ r ≡ (ltb i (hop .frames) && isFree hop i) ⌝ }
+{
+    if hop.frames <= i {
+        return false;
+    }
+    words::has_bit(hop.free, i)
+}
+
+// The transition from frame k of a hop with `before` frames to frame i of the hop: its delay, if it is allowed.
+// Checks 3, 7 and 8 guarantee what is required; the walk has found frame k free.
+fn step(t: u16, before: u16, k: u16, hop: Hop, i: u16) -> Walked
+    requires { ⌜ (t ≤ 960) × (k < before) × (before ≤ 64) × Passed t hop ⌝ }
+    ensures { λ r. ⌜ delayIn r ≡ stepIf t before hop k i ⌝ }
+{
+    if !frame_free(hop, i) {
+        return Walked::Unfit;
+    }
+    let hold = forwarding::hold_into(k, before, hop.frames, i);
+    if hop.range < hold.0 {
+        return Walked::Unfit;
+    }
+    let time = forwarding::frame_time(t, hop.frames);
+    Walked::Delayed(forwarding::delay_of(hold, time))
+}
+
+// Whether the frames are a schedule over the first n hops, and its delay. Checks 3, 7, 8 and 12 guarantee what is required.
+pub fn walk(t: u16, hops: [Hop; 8], frames: [u8; 8], n: usize) -> Walked
+    requires { ⌜ Ready t hops n ⌝ }
+    ensures { λ r. ⌜ delayIn r ≡ delayIf t (firsts n hops noHop) (firsts n frames 0) ⌝ }
+{
+    let first = hops[0];
+    let mut k = short(frames[0]);
+    if !frame_free(first, k) {
+        return Walked::Unfit;
+    }
+    let mut before = first.frames;
+    let mut total = Delay(0);
+    let mut j: usize = 1;
+    while j < n {
+        let hop = hops[j];
+        let i = short(frames[j]);
+        match step(t, before, k, hop, i) {
+            Walked::Unfit => return Walked::Unfit,
+            Walked::Delayed(delay) => {
+                total = forwarding::sum(total, delay);
+            }
+        }
+        before = hop.frames;
+        k = i;
+        j += 1;
+    }
+    Walked::Delayed(total)
 }

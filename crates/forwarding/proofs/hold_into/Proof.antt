@@ -12,16 +12,16 @@ add-t6 : tie.Need-add-t6
 add-t6 c = search needs
 
 add-t7 : tie.Need-add-t7
-add-t7 c = omega (arith, reference-in _ _ _ _ _ (c .reference-frame .ensures) (c .before .pre .0) (c .before .pre .2))
+add-t7 c = omega (arith, reference-in _ _ _ (c .before .args .i) _ (c .reference-frame .ensures) (omega arith) (c .before .pre .2))
 
 sub-t8 : tie.Need-sub-t8
-sub-t8 c = omega (arith, reference-in _ _ _ _ _ (c .reference-frame .ensures) (c .before .pre .0) (c .before .pre .2))
+sub-t8 c = omega (arith, reference-in _ _ _ (c .before .args .i) _ (c .reference-frame .ensures) (omega arith) (c .before .pre .2))
 
 rem-t9 : tie.Need-rem-t9
 rem-t9 c = search needs
 
 add-t10 : tie.Need-add-t10
-add-t10 c = omega (arith, hold-in _ _ _ _ _ (c .reference-frame .ensures) (c .before .pre .0) (c .before .pre .2))
+add-t10 c = omega (arith, hold-in _ _ _ (c .before .args .i) _ (c .reference-frame .ensures) (omega arith) (c .before .pre .2))
 
 returns : tie.Need-returns
 returns c = hold-counted _ _ _ _ _ (c .reference-frame .ensures) (c .before .pre .0) (c .before .pre .2)

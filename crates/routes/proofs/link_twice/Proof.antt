@@ -46,4 +46,17 @@ unfolding linkTwice
 returns-2 c = nowhere-again 0 _ eqb _ (c .before .loop .inv) (c .loop-test .left)
 
 pub link-twice-spec : {M : Type 1} → statement M
-link-twice-spec = tie.close (tie.spec Inv-loop μ-loop loop-holds add-stands-from shared-slice-read-stands-from stands-from-requires returns add-j loop-less loop-again returns-2)
+link-twice-spec =
+    tie.close
+    (tie.spec
+    Inv-loop
+    μ-loop
+    loop-holds
+    add-stands-from
+    shared-slice-read-stands-from
+    stands-from-requires
+    returns
+    add-j
+    loop-less
+    loop-again
+    returns-2)

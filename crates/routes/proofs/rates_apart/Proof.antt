@@ -4,7 +4,7 @@ use borrow.Author.Needs.{needs}
 use native.Mathlib.Omega.{arith}
 use lib.ListN.{length}
 use Rattle.network.specs.Network.{topologyOf}
-use Rattle.routes.proofs.Links.{known-place, stored-frames}
+use Rattle.routes.proofs.Links.{known-place}
 use Rattle.routes.proofs.Routes.{Compared, none-compared, two-apart, two-agree, all-agree}
 use Rattle.routes.proofs.rates_apart.Statement.{statement}
 use Rattle.routes.proofs.rates_apart.Tie as tie
@@ -25,19 +25,26 @@ shared-slice-read-link-of : tie.Need-shared-slice-read-link-of Inv-loop μ-loop
 shared-slice-read-link-of c = search needs
 
 link-of-requires : tie.Need-link-of-requires Inv-loop μ-loop
-link-of-requires c κs = (c .before .before .before .before .pre .0, (known-place (c .before .before .before .before .args .network) _ (c .before .before .loop .j - 1) (c .before .before .before .before .pre .1) (omega arith)))
+link-of-requires c κs =
+    let s = c .before .before .before .before in
+    (s .pre .0, known-place (s .args .network) _ (c .before .before .loop .j - 1) (s .pre .1) (omega arith))
 
 shared-slice-read-link-of-2 : tie.Need-shared-slice-read-link-of-2 Inv-loop μ-loop
 shared-slice-read-link-of-2 c = search needs
 
 link-of-requires-2 : tie.Need-link-of-requires-2 Inv-loop μ-loop
-link-of-requires-2 c κs = (c .before .before .before .before .before .before .pre .0, (known-place (c .before .before .before .before .before .before .args .network) _ (c .before .before .before .before .loop .j) (c .before .before .before .before .before .before .pre .1) (omega arith)))
+link-of-requires-2 c κs =
+    let s = c .before .before .before .before .before .before in
+    (s .pre .0, known-place (s .args .network) _ (c .before .before .before .before .loop .j) (s .pre .1) (c .before .before .before .loop-test .taken))
 
 frames-apart-requires : tie.Need-frames-apart-requires Inv-loop μ-loop
-frames-apart-requires c κs = (c .before .before .link-of .ensures .1, c .link-of2 .ensures .1)
+frames-apart-requires c κs = search needs
 
 returns : tie.Need-returns Inv-loop μ-loop
-returns c = two-apart _ _ _ (c .before .before .before .before .before .before .before .loop .inv) (c .before .before .before .before .before .before .loop-test .taken) _ _ (stored-frames (c .before .before .before .before .before .before .before .before .before .args .network) _ (known-place (c .before .before .before .before .before .before .before .before .before .args .network) _ (c .before .before .before .before .before .before .before .loop .j - 1) (c .before .before .before .before .before .before .before .before .before .pre .1) (omega arith)) _ (c .before .before .before .before .link-of .ensures .0)) (stored-frames (c .before .before .before .before .before .before .before .before .before .args .network) _ (known-place (c .before .before .before .before .before .before .before .before .before .args .network) _ (c .before .before .before .before .before .before .before .loop .j) (c .before .before .before .before .before .before .before .before .before .pre .1) (omega arith)) _ (c .before .before .link-of2 .ensures .0)) _ (c .before .frames-apart .ensures) (c .if1 .taken)
+returns c =
+    let s = c .before .before .before .before .before .before .before .before .before in
+    let l = c .before .before .before .before .before .before in
+    two-apart (s .args .network) _ (s .pre .1) _ (l .before .loop .inv) (l .loop-test .taken) _ _ (c .before .before .before .before .link-of .ensures .0) (c .before .before .link-of2 .ensures .0) _ (c .before .frames-apart .ensures) (c .if1 .taken)
 
 add-j : tie.Need-add-j Inv-loop μ-loop
 add-j c = search needs
@@ -46,10 +53,29 @@ loop-less : tie.Need-loop-less Inv-loop μ-loop
 loop-less c = search needs
 
 loop-again : tie.Need-loop-again Inv-loop μ-loop
-loop-again c = two-agree _ _ _ (c .before .before .before .before .before .before .before .loop .inv) (c .before .before .before .before .before .before .loop-test .taken) _ _ (stored-frames (c .before .before .before .before .before .before .before .before .before .args .network) _ (known-place (c .before .before .before .before .before .before .before .before .before .args .network) _ (c .before .before .before .before .before .before .before .loop .j - 1) (c .before .before .before .before .before .before .before .before .before .pre .1) (omega arith)) _ (c .before .before .before .before .link-of .ensures .0)) (stored-frames (c .before .before .before .before .before .before .before .before .before .args .network) _ (known-place (c .before .before .before .before .before .before .before .before .before .args .network) _ (c .before .before .before .before .before .before .before .loop .j) (c .before .before .before .before .before .before .before .before .before .pre .1) (omega arith)) _ (c .before .before .link-of2 .ensures .0)) _ (c .before .frames-apart .ensures) (c .if1 .left)
+loop-again c =
+    let s = c .before .before .before .before .before .before .before .before .before in
+    let l = c .before .before .before .before .before .before in
+    two-agree (s .args .network) _ (s .pre .1) _ (l .before .loop .inv) (l .loop-test .taken) _ _ (c .before .before .before .before .link-of .ensures .0) (c .before .before .link-of2 .ensures .0) _ (c .before .frames-apart .ensures) (c .if1 .left)
 
 returns-2 : tie.Need-returns-2 Inv-loop μ-loop
-returns-2 c = all-agree _ _ _ (c .before .loop .inv) (c .loop-test .left)
+returns-2 c = let s = c .before .before .before in all-agree (s .args .network) _ (s .pre .1) _ (c .before .loop .inv) (c .loop-test .left)
 
 pub rates-apart-spec : {M : Type 1} → statement M
-rates-apart-spec = tie.close (tie.spec Inv-loop μ-loop loop-holds sub-link-of shared-slice-read-link-of link-of-requires shared-slice-read-link-of-2 link-of-requires-2 frames-apart-requires returns add-j loop-less loop-again returns-2)
+rates-apart-spec =
+    tie.close
+    (tie.spec
+    Inv-loop
+    μ-loop
+    loop-holds
+    sub-link-of
+    shared-slice-read-link-of
+    link-of-requires
+    shared-slice-read-link-of-2
+    link-of-requires-2
+    frames-apart-requires
+    returns
+    add-j
+    loop-less
+    loop-again
+    returns-2)

@@ -38,4 +38,15 @@ returns-2 : tie.Need-returns-2 Inv-loop μ-loop
 returns-2 c = nowhere {A = ℕ} 0 _ (eqb _) (c .before .before .args .from) _ (c .before .loop .inv) (c .loop-test .left)
 
 pub stands-from-spec : {M : Type 1} → statement M
-stands-from-spec = tie.close (tie.spec Inv-loop μ-loop loop-holds shared-slice-read-if1 returns add-j loop-less loop-again returns-2)
+stands-from-spec =
+    tie.close
+    (tie.spec
+    Inv-loop
+    μ-loop
+    loop-holds
+    shared-slice-read-if1
+    returns
+    add-j
+    loop-less
+    loop-again
+    returns-2)

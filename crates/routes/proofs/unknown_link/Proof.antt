@@ -41,4 +41,16 @@ returns-2 : tie.Need-returns-2 Inv-loop μ-loop
 returns-2 c = nowhere {A = ℕ} 0 _ (unknown _) 0 _ (c .before .loop .inv) (c .loop-test .left)
 
 pub unknown-link-spec : {M : Type 1} → statement M
-unknown-link-spec = tie.close (tie.spec Inv-loop μ-loop loop-holds shared-slice-read-wide wide-requires returns add-j loop-less loop-again returns-2)
+unknown-link-spec =
+    tie.close
+    (tie.spec
+    Inv-loop
+    μ-loop
+    loop-holds
+    shared-slice-read-wide
+    wide-requires
+    returns
+    add-j
+    loop-less
+    loop-again
+    returns-2)
