@@ -68,7 +68,7 @@ free-same K closed a b h =
 held-below : (K : ℕ) (f : ℕ → Bool) → K ≤ 64 → (i : ℕ) → i < K → bitOf (wordOf 64 f) i ≡ bitOf (wordOf K f) i
 held-below K f h i l = bit-below 64 f i (omega arith) ∙ sym (bit-below K f i l)
 
-hop-held : (network : Network) (held : List ℕ) (ss : List Session) (l : ℕ) → HeldWords held ss → networkCheck (topologyOf network) ≡ given pass → l < network .count → hopFrom (getD (network .links) l noLink) (getD held l 0) ≡ hopOf (topologyOf network) ss l
+pub hop-held : (network : Network) (held : List ℕ) (ss : List Session) (l : ℕ) → HeldWords held ss → networkCheck (topologyOf network) ≡ given pass → l < network .count → hopFrom (getD (network .links) l noLink) (getD held l 0) ≡ hopOf (topologyOf network) ss l
 unfolding freeOf
 hop-held network held ss l w e h =
     let b : linkAt (topologyOf network) l .frames ≤ 64 = rw (stored-link network l h) (frames-bounded network l h e .1) in

@@ -122,3 +122,23 @@ searched-answers net ss route f s a e q =
       reply = e ∙ ap replyOf (s .answer);
       places = q ∙ s .places ∙ ap (λ (l : List ℕ). firsts 8 l 0) (sym (nodes-frames (routeAnswer (net .ticks) (hopsOf net ss route))));
     }
+
+-- ---- a new session
+-- a stored place reads as the entry of its set-up
+pub stored-entry : (number : ℕ) (route frames eight : List ℕ) (delay : Delay) → length route ≤ 8 → eight ≡ firsts 8 route 0 → length frames ≡ 8
+    → sessionOf (record { number = number; hops = length route; route = eight; frames = frames; delay = delay })
+    ≡ record { number = number; route = route; held = record { frames = take (length route) frames; delay = delay .0 } }
+stored-entry number route frames eight delay few e long =
+    ap₂ (λ (r f : List ℕ). record { number = number; route = r; held = record { frames = f; delay = delay .0 } })
+    (ap (λ (l : List ℕ). firsts (length route) l 0) e ∙ firsts-back 8 route 0 few)
+    (firsts-take (length route) frames 0 (omega (arith, few, long)))
+
+pub entered-view : (v : View) (n : ℕ) (route : List ℕ) (held : Held) (count : ℕ) → reply v (SetUp n route) ≡ schedule held count
+    → next v (SetUp n route) ≡ record { network = v .network; live = v .live ++ (record { number = n; route = route; held = held } ∷ []) }
+unfolding next
+entered-view v n route held count e =
+    ap (λ (r : rules.Reply). record { network = v .network; live = rules.apply (v .live) (effect (SetUp n route) r) }) e
+
+pub struck-view : (v : View) (n : ℕ) → reply v (Release n) ≡ freed → next v (Release n) ≡ record { network = v .network; live = keep (otherThan n) (v .live) }
+unfolding next
+struck-view v n e = ap (λ (r : rules.Reply). record { network = v .network; live = rules.apply (v .live) (effect (Release n) r) }) e

@@ -52,14 +52,16 @@ module _ (net : Topology) (passed : networkCheck net ≡ given pass) where
         few = omega (arith, route-long net (sessionOf place .route) (g .route) .1, length-firsts (place .hops) (place .route) 0);
         link = λ j h. omega (arith, known j h, count-passed (length (net .links)) (network-good net passed .count) .1, at-route j h);
         frame = λ j h.
-          let f = frames-passed (net .ticks) (linkAt net (getD (sessionOf place .route) j 0) .frames) (link-passed net (getD (sessionOf place .route) j 0) passed (known j h) .frames) in
-          omega (arith, schedule-frame net (net .ticks) (sessionOf place .route) (sessionOf place .held .frames) (g .schedule) j (inside j h), f .1, getD-firsts (place .hops) j (place .frames) 0 h);
+            let f = frames-passed (net .ticks) (linkAt net (getD (sessionOf place .route) j 0) .frames) (link-passed net (getD (sessionOf place .route) j 0) passed (known j h) .frames) in
+            omega (arith, schedule-frame net (net .ticks) (sessionOf place .route) (sessionOf place .held .frames) (g .schedule) j (inside j h), f .1, getD-firsts (place .hops) j (place .frames) 0 h);
       }
     where
       inside : (j : ℕ) → j < place .hops → j < length (sessionOf place .route)
       inside j h = omega (arith, h, length-firsts (place .hops) (place .route) 0)
+
       known : (j : ℕ) → j < place .hops → getD (sessionOf place .route) j 0 < length (net .links)
       known j h = route-known net (sessionOf place .route) (g .route) j (inside j h)
+
       at-route : (j : ℕ) → j < place .hops → getD (sessionOf place .route) j 0 ≡ getD (place .route) j 0
       at-route j h = getD-firsts (place .hops) j (place .route) 0 h
 

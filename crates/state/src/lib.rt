@@ -129,7 +129,8 @@ fn answer_of(found: search::Answer) -> Answer
     ensures { λ r. ⌜ ((n : ℕ) → replyIn n (r .reply) (r .frames) ≡ replyOf (reading n (found .found) (found .frames))) × (r .frames ≡ found .frames) ⌝ }
 {
     let frames = found.frames;
-    match found.found {
+    let result = found.found;
+    match result {
         Found::Schedule(delay, count) => Answer {
             reply: Reply::Schedule(delay, count),
             frames,
@@ -162,24 +163,51 @@ pub fn set_up(st: State, number: u16, route: &[u8]) -> Served
     let network = st.network;
     let table = st.table;
     match routes::check_route(network, route) {
-        Verdict::Refused(refusal) => return Served { answer: refused(refusal), state: st },
+        Verdict::Refused(refusal) => return Served {
+            answer: refused(refusal),
+            state: st,
+        },
         Verdict::Passed => {}
     }
     if table::place_of(table, number) < table.live {
-        return Served { answer: refused(Refusal::NumberLive), state: st };
+        return Served {
+            answer: refused(Refusal::NumberLive),
+            state: st,
+        };
     }
     if 96 <= table.live {
-        return Served { answer: refused(Refusal::PlacesFull), state: st };
+        return Served {
+            answer: refused(Refusal::PlacesFull),
+            state: st,
+        };
     }
     let found = least(network, table, route);
     let result = found.found;
     let Found::Schedule(delay, count) = result else {
-        return Served { answer: answer_of(found), state: st };
+        return Served {
+            answer: answer_of(found),
+            state: st,
+        };
     };
     let frames = found.frames;
-    let place = Place { number, hops: route.len(), route: table::in_eight(route), frames, delay };
-    let after = State { network, table: table::with_place(table, place) };
-    Served { answer: Answer { reply: Reply::Schedule(delay, count), frames }, state: after }
+    let place = Place {
+        number,
+        hops: route.len(),
+        route: table::in_eight(route),
+        frames,
+        delay,
+    };
+    let after = State {
+        network,
+        table: table::with_place(table, place),
+    };
+    Served {
+        answer: Answer {
+            reply: Reply::Schedule(delay, count),
+            frames,
+        },
+        state: after,
+    }
 }
 
 // Release: frees exactly the frames of the session with the number.
@@ -189,11 +217,20 @@ pub fn release(st: State, number: u16) -> Released
 {
     let table = st.table;
     if table.live <= table::place_of(table, number) {
-        return Released { verdict: Verdict::Refused(Refusal::NumberNotLive), state: st };
+        return Released {
+            verdict: Verdict::Refused(Refusal::NumberNotLive),
+            state: st,
+        };
     }
     let network = st.network;
-    let after = State { network, table: table::without(table, number) };
-    Released { verdict: Verdict::Passed, state: after }
+    let after = State {
+        network,
+        table: table::without(table, number),
+    };
+    Released {
+        verdict: Verdict::Passed,
+        state: after,
+    }
 }
 
 // A lookup that is refused.
@@ -221,9 +258,18 @@ pub fn lookup(st: State, number: u16) -> Shown
     }
     let place = table.places[at];
     let hops = place.hops;
-    let route = table::cleared(place.route, hops);
-    let frames = table::cleared(place.frames, hops);
-    Shown { verdict: Verdict::Passed, hops, route, frames, delay: place.delay }
+    let links = place.route;
+    let held = place.frames;
+    let route = table::cleared(links, hops);
+    let frames = table::cleared(held, hops);
+    let delay = place.delay;
+    Shown {
+        verdict: Verdict::Passed,
+        hops,
+        route,
+        frames,
+        delay,
+    }
 }
 
 // Free frames of a link: how many of its frames are neither closed nor held.
@@ -234,9 +280,15 @@ pub fn free_frames(st: State, link: u8) -> Counted
     let network = st.network;
     let at = link as usize;
     if network.count <= at {
-        return Counted { verdict: Verdict::Refused(Refusal::UnknownLink), count: 0 };
+        return Counted {
+            verdict: Verdict::Refused(Refusal::UnknownLink),
+            count: 0,
+        };
     }
     let held = table::held_words(st.table);
     let of = network.links[at];
-    Counted { verdict: Verdict::Passed, count: words::free_frames(of.frames, of.closed, held[at]) }
+    Counted {
+        verdict: Verdict::Passed,
+        count: words::free_frames(of.frames, of.closed, held[at]),
+    }
 }

@@ -6,6 +6,11 @@ use lib.ListN.{getD, set, replicate}
 use Rattle.places.specs.Places.{firsts}
 use Rattle.places.proofs.Firsts.{length-firsts, firsts-snoc, firsts-more}
 
+-- eight places without hops
+pub no-hops : replicate {A = ℕ} 8 0 ≡ firsts 8 [] 0
+unfolding firsts
+no-hops = refl
+
 pub none-cleared : (xs : List ℕ) → replicate 8 0 ≡ firsts 8 (firsts 0 xs 0) 0
 unfolding firsts
 none-cleared xs = refl

@@ -24,6 +24,11 @@ map-drop f (suc n) (x ∷ xs) = map-drop f n xs
 pub mapped-length : {A B : Type 0} (n : ℕ) (f : A → B) (xs : List A) → length (map f xs) ≡ n → length xs ≡ n
 mapped-length n f xs e = sym (length-map xs f) ∙ e
 
+-- no place
+pub in-none : (places : List Place) → inPlaces 0 places ≡ []
+unfolding firsts
+in-none places = refl
+
 module _ (n : ℕ) (places : List Place) where
   pub in-length : length (inPlaces n places) ≡ n
   in-length = length-map (firsts n places noPlace) sessionOf ∙ length-firsts n places noPlace

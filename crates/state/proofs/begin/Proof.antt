@@ -1,22 +1,24 @@
+-- `state::begin` meets its contract. Assumes nothing.
 use borrow.Author.Needs.{needs}
 use Rattle.state.proofs.begin.Statement.{statement}
 use Rattle.state.proofs.begin.Tie as tie
-use Rattle.state.proofs.begin.Reads as reads
-use Rattle.state.proofs.begin.Lts as lts
-use Rattle.network.proofs.check_network.Reads as check-network-reads
-use Rattle.state.proofs.no_sessions.Reads as no-sessions-reads
+use mathlib.Core.Path.{refl, ap}
+use mathlib.Core.List.{List}
+use Rattle.network.specs.Network.{topologyOf}
+use Rattle.ledger.specs.Sessions.{Session}
 
--- src/lib.rt:99:9
 check-network-requires : tie.Need-check-network-requires
 check-network-requires c κs = search needs
 
--- src/lib.rt:100:9
 no-sessions-requires : tie.Need-no-sessions-requires
 no-sessions-requires c κs = search needs
 
--- src/lib.rt:96:1
 returns : tie.Need-returns
-returns c = ?
+returns c = record {
+  verdict = c .before .check-network .ensures;
+  network = refl;
+  view = ap (λ (ss : List Session). record { network = topologyOf (c .before .before .args .network); live = ss }) (c .no-sessions .ensures);
+}
 
 pub begin-spec : {M : Type 1} → statement M
 begin-spec = tie.close (tie.spec check-network-requires no-sessions-requires returns)

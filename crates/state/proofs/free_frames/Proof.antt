@@ -1,42 +1,34 @@
+-- `state::free_frames` meets its contract. Assumes nothing.
 use borrow.Author.Needs.{needs}
 use Rattle.state.proofs.free_frames.Statement.{statement}
 use Rattle.state.proofs.free_frames.Tie as tie
-use Rattle.state.proofs.free_frames.Reads as reads
-use Rattle.state.proofs.free_frames.Lts as lts
-use Rattle.table.proofs.held_words.Reads as held-words-reads
-use Rattle.words.proofs.free_frames.Reads as free-frames-reads
+use mathlib.Core.Path.{refl}
+use Rattle.state.proofs.Within.{all-within}
+use Rattle.state.proofs.Calls.{link-refused, link-in, link-frames, link-counted}
 
--- src/lib.rt:237:9
 returns : tie.Need-returns
-returns c = ?
+returns c = link-refused (c .before .before .args .st) (c .before .before .pre) _ (c .if1 .taken) _ refl
 
--- src/lib.rt:239:16
 held-words-requires : tie.Need-held-words-requires
-held-words-requires c κs = ?
+held-words-requires c κs = all-within (c .before .before .args .st) (c .before .before .pre)
 
--- src/lib.rt:240:14
 mul-of : tie.Need-mul-of
 mul-of c = search needs
 
--- src/lib.rt:240:14
 element-copy-out-of : tie.Need-element-copy-out-of
-element-copy-out-of c = ?
+element-copy-out-of c = link-in (c .before .before .before .args .st) (c .before .before .before .pre) _ (c .before .if1 .left)
 
--- src/lib.rt:241:89
 mul-free-frames : tie.Need-mul-free-frames
 mul-free-frames c = search needs
 
--- src/lib.rt:241:89
 array-read-free-frames : tie.Need-array-read-free-frames
-array-read-free-frames c = ?
+array-read-free-frames c = link-in (c .before .before .before .before .args .st) (c .before .before .before .before .pre) _ (c .before .before .if1 .left)
 
--- src/lib.rt:241:48
 free-frames-requires : tie.Need-free-frames-requires
-free-frames-requires c κs = ?
+free-frames-requires c κs = link-frames (c .before .before .before .before .args .st) (c .before .before .before .before .pre) _ (c .before .before .if1 .left)
 
--- src/lib.rt:230:1
 returns-2 : tie.Need-returns-2
-returns-2 c = ?
+returns-2 c = link-counted (c .before .before .before .before .before .args .st) (c .before .before .before .before .before .pre) _ (c .before .before .before .if1 .left) _ (c .before .before .held-words .ensures) _ (c .free-frames .ensures)
 
 pub free-frames-spec : {M : Type 1} → statement M
 free-frames-spec =

@@ -1,27 +1,20 @@
+-- `state::least` meets its contract. Assumes nothing.
 use borrow.Author.Needs.{needs}
 use Rattle.state.proofs.least.Statement.{statement}
 use Rattle.state.proofs.least.Tie as tie
-use Rattle.state.proofs.least.Reads as reads
-use Rattle.state.proofs.least.Lts as lts
-use Rattle.routes.proofs.route_hops.Reads as route-hops-reads
-use Rattle.search.proofs.search.Reads as search-reads
-use Rattle.table.proofs.held_words.Reads as held-words-reads
+use Rattle.state.proofs.Searches.{least-ready, least-searched}
 
--- src/lib.rt:122:16
 held-words-requires : tie.Need-held-words-requires
-held-words-requires c κs = search needs
+held-words-requires c κs = c .before .pre .2
 
--- src/lib.rt:123:9
 route-hops-requires : tie.Need-route-hops-requires
 route-hops-requires c κs = search needs
 
--- src/lib.rt:124:5
 search-requires : tie.Need-search-requires
-search-requires c κs = ?
+search-requires c κs = least-ready _ _ _ (c .before .before .before .before .pre .0) (c .before .before .before .before .pre .1) _ (c .before .before .held-words .ensures) _ (c .route-hops .ensures)
 
--- src/lib.rt:118:1
 returns : tie.Need-returns
-returns c = ?
+returns c = least-searched _ _ _ (c .before .before .before .before .before .pre .0) (c .before .before .before .before .before .pre .1) _ (c .before .before .before .held-words .ensures) _ (c .before .route-hops .ensures) _ (c .search .ensures)
 
 pub least-spec : {M : Type 1} → statement M
 least-spec = tie.close (tie.spec held-words-requires route-hops-requires search-requires returns)

@@ -1,11 +1,11 @@
+-- `state::refused` meets its contract. Assumes nothing.
 use Rattle.state.proofs.refused.Statement.{statement}
 use Rattle.state.proofs.refused.Tie as tie
-use Rattle.state.proofs.refused.Reads as reads
-use Rattle.state.proofs.refused.Lts as lts
+use mathlib.Core.Path.{refl}
+use Rattle.table.proofs.Eight.{no-hops}
 
--- src/lib.rt:108:1
 returns : tie.Need-returns
-returns c = ?
+returns c = λ n. record { reply = refl; places = no-hops }
 
 pub refused-spec : {M : Type 1} → statement M
 refused-spec = tie.close (tie.spec returns)

@@ -1,25 +1,23 @@
+-- `state::release` meets its contract. Assumes nothing.
 use Rattle.state.proofs.release.Statement.{statement}
 use Rattle.state.proofs.release.Tie as tie
-use Rattle.state.proofs.release.Reads as reads
-use Rattle.state.proofs.release.Lts as lts
-use Rattle.table.proofs.place_of.Reads as place-of-reads
-use Rattle.table.proofs.without.Reads as without-reads
+use mathlib.Core.Path.{refl}
+use Rattle.state.proofs.Within.{few-live}
+use Rattle.state.proofs.Calls.{release-refused, release-passed}
 
--- src/lib.rt:191:22
 place-of-requires : tie.Need-place-of-requires
-place-of-requires c κs = ?
+place-of-requires c κs = few-live (c .before .args .st) (c .before .pre)
 
--- src/lib.rt:192:9
 returns : tie.Need-returns
-returns c = ?
+returns c = let start = c .before .before .before .before in
+    release-refused (start .args .st) (start .pre) _ _ (c .before .before .place-of .ensures) (c .if1 .taken) _ refl refl
 
--- src/lib.rt:195:41
 without-requires : tie.Need-without-requires
-without-requires c κs = ?
+without-requires c κs = few-live (c .before .before .before .before .before .args .st) (c .before .before .before .before .before .pre)
 
--- src/lib.rt:186:1
 returns-2 : tie.Need-returns-2
-returns-2 c = ?
+returns-2 c = let start = c .before .before .before .before .before .before in
+    release-passed (start .args .st) (start .pre) _ _ (c .before .before .before .before .place-of .ensures) (c .before .before .if1 .left) _ (c .without .ensures)
 
 pub release-spec : {M : Type 1} → statement M
 release-spec = tie.close (tie.spec place-of-requires returns without-requires returns-2)

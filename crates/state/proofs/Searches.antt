@@ -1,0 +1,75 @@
+-- The search over the frames that the sessions of a state leave free. Assumes nothing.
+use mathlib.Core.Path.{_≡_, refl, sym, ap, subst, _∙_}
+use mathlib.Core.List.{List, [], _∷_, map}
+use Prim.Native.Nat.{ℕ, _≤_}
+use native.Mathlib.Omega.{arith}
+use lib.ListN.{length, take, length-map}
+use Rattle.trellis.specs.Answer.{nodesOf}
+use Rattle.trellis.specs.Answer as trellis
+use Rattle.places.specs.Places.{firsts}
+use Rattle.places.proofs.Firsts.{length-firsts, firsts-back, firsts-take}
+use Rattle.refusals.specs.Refusals.{given, pass}
+use Rattle.refusals.specs.declared.Refusal.the-variants.{NoSchedule}
+use Rattle.network.specs.Network.{Topology, topologyOf}
+use Rattle.network.specs.Checks.{networkCheck}
+use Rattle.network.specs.declared.Network.{Network}
+use Rattle.forwarding.specs.declared.Hop.{Hop}
+use Rattle.forwarding.specs.Checked.{Ready, noHop}
+use Rattle.forwarding.specs.Schedule.{routeAnswer}
+use Rattle.search.specs.Reading.{reading, Answered}
+use Rattle.search.specs.declared.Answer as search
+use Rattle.search.specs.declared.Found.{Found}
+use Rattle.search.specs.declared.Found.the-variants as result
+use Rattle.forwarding.specs.declared.Delay.{Delay}
+use Rattle.ledger.specs.Sessions.{Session, HeldWords, hopOf, hopsOf}
+use Rattle.ledger.specs.Routes.{routeCheck}
+use Rattle.ledger.specs.Calls.{replyOf}
+use Rattle.routes.specs.Hops.{hopsFrom}
+use Rattle.routes.proofs.Routes.{route-long, route-all-known}
+use Rattle.routes.proofs.Hops.{hops-held, route-ready}
+use Rattle.state.specs.declared.Reply.the-variants.{Schedule, Refused}
+use Rattle.state.specs.State.{replyIn, Searched}
+
+ticks-told : (network : Network) → topologyOf network .ticks ≡ network .ticks
+unfolding topologyOf
+ticks-told network = refl
+
+-- a route's hops, back from their eight places
+taken-back : (hops : List Hop) → length hops ≤ 8 → take (length hops) (firsts 8 hops noHop) ≡ hops
+taken-back hops h = sym (firsts-take (length hops) (firsts 8 hops noHop) noHop (omega (arith, h, length-firsts 8 hops noHop))) ∙ firsts-back 8 hops noHop h
+
+module _ (network : Network) (ss : List Session) (route : List ℕ) (passed : networkCheck (topologyOf network) ≡ given pass)
+    (checked : routeCheck (topologyOf network) route ≡ given pass) (held : List ℕ) (w : HeldWords held ss) (hops : List Hop)
+    (e : hops ≡ firsts 8 (hopsFrom (network .links) held route) noHop) where
+  laid : hops ≡ firsts 8 (hopsOf (topologyOf network) ss route) noHop
+  laid = e ∙ ap (λ (l : List Hop). firsts 8 l noHop) (hops-held network held ss route w passed (route-all-known (topologyOf network) route checked))
+
+  pub least-ready : Ready (network .ticks) hops (length route)
+  least-ready =
+      subst (λ (l : List Hop). Ready (network .ticks) l (length route)) (sym laid)
+      (subst (λ (T : ℕ). Ready T (firsts 8 (hopsOf (topologyOf network) ss route) noHop) (length route)) (ticks-told network)
+      (route-ready (topologyOf network) ss route passed checked))
+
+  route-back : take (length route) hops ≡ hopsOf (topologyOf network) ss route
+  route-back =
+      ap (take (length route)) laid
+      ∙ ap (λ (n : ℕ). take n (firsts 8 (hopsOf (topologyOf network) ss route) noHop)) (sym (length-map route (hopOf (topologyOf network) ss)))
+      ∙ taken-back (hopsOf (topologyOf network) ss route)
+      (omega (arith, length-map route (hopOf (topologyOf network) ss), route-long (topologyOf network) route checked .1))
+
+  same-answer : routeAnswer (network .ticks) (take (length route) hops) ≡ routeAnswer (topologyOf network .ticks) (hopsOf (topologyOf network) ss route)
+  same-answer = ap (routeAnswer (network .ticks)) route-back ∙ ap (λ (T : ℕ). routeAnswer T (hopsOf (topologyOf network) ss route)) (sym (ticks-told network))
+
+  pub least-searched : (r : search.Answer) → Answered (network .ticks) hops (length route) r → Searched (topologyOf network) ss route r
+  least-searched r a =
+      record {
+        answer = a .answer ∙ same-answer;
+        places = a .places ∙ ap (λ (x : trellis.Answer). firsts 8 (nodesOf x) 0) same-answer;
+      }
+
+-- ---- a result told as an answer
+pub schedule-told : (x : Found) (frames : List ℕ) (d : Delay) (c : ℕ) → x ≡ result.Schedule d c → (n : ℕ) → replyIn n (Schedule d c) frames ≡ replyOf (reading n x frames)
+schedule-told x frames d c e n = sym (ap (λ (y : Found). replyOf (reading n y frames)) e)
+
+pub blocked-told : (x : Found) (frames : List ℕ) (c : ℕ) → x ≡ result.Blocked c → (n : ℕ) → replyIn n (Refused (NoSchedule c)) frames ≡ replyOf (reading n x frames)
+blocked-told x frames c e n = sym (ap (λ (y : Found). replyOf (reading n y frames)) e)

@@ -1,0 +1,44 @@
+-- `state::quote` meets its contract. Assumes nothing.
+use borrow.Author.Needs.{needs}
+use Rattle.state.proofs.quote.Statement.{statement}
+use Rattle.state.proofs.quote.Tie as tie
+use Rattle.ledger.proofs.Intact.{intact-is}
+use Rattle.state.proofs.Within.{all-within}
+use Rattle.state.proofs.SetUps.{quote-refused, route-passed, quote-answered}
+
+check-route-requires : tie.Need-check-route-requires
+check-route-requires c κs = intact-is _ (c .before .pre) .network
+
+enum-known-refusal : tie.Need-enum-known-refusal
+enum-known-refusal c = search needs
+
+refused-requires : tie.Need-refused-requires
+refused-requires c κs = search needs
+
+returns : tie.Need-returns
+returns c = quote-refused (c .before .before .before .before .before .before .args .st) (c .before .before .before .before .before .before .pre) _ _ (c .before .before .before .before .check-route .ensures) _ (c .before .before .refusal .given .1) _ (c .refused .ensures)
+
+enum-told : tie.Need-enum-told
+enum-told c = search needs
+
+least-requires : tie.Need-least-requires
+least-requires c κs = (intact-is _ (c .before .before .before .before .pre) .network, route-passed (c .before .before .before .before .args .st) (c .before .before .before .before .pre) _ _ (c .before .before .check-route .ensures) (c .enum-told .given .1), all-within (c .before .before .before .before .args .st) (c .before .before .before .before .pre))
+
+answer-of-requires : tie.Need-answer-of-requires
+answer-of-requires c κs = search needs
+
+returns-2 : tie.Need-returns-2
+returns-2 c = quote-answered (c .before .before .before .before .before .before .args .st) (c .before .before .before .before .before .before .pre) _ _ (c .before .before .before .before .check-route .ensures) (c .before .before .enum-told .given .1) _ (c .before .least .ensures) _ (c .answer-of .ensures)
+
+pub quote-spec : {M : Type 1} → statement M
+quote-spec =
+    tie.close
+    (tie.spec
+    check-route-requires
+    enum-known-refusal
+    refused-requires
+    returns
+    enum-told
+    least-requires
+    answer-of-requires
+    returns-2)
