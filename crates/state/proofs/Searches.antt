@@ -30,13 +30,9 @@ use Rattle.routes.proofs.Hops.{hops-held, route-ready}
 use Rattle.state.specs.declared.Reply.the-variants.{Schedule, Refused}
 use Rattle.state.specs.State.{replyIn, Searched}
 
-ticks-told : (network : Network) → topologyOf network .ticks ≡ network .ticks
+pub ticks-told : (network : Network) → topologyOf network .ticks ≡ network .ticks
 unfolding topologyOf
 ticks-told network = refl
-
--- a route's hops, back from their eight places
-taken-back : (hops : List Hop) → length hops ≤ 8 → take (length hops) (firsts 8 hops noHop) ≡ hops
-taken-back hops h = sym (firsts-take (length hops) (firsts 8 hops noHop) noHop (omega (arith, h, length-firsts 8 hops noHop))) ∙ firsts-back 8 hops noHop h
 
 module _ (network : Network) (ss : List Session) (route : List ℕ) (passed : networkCheck (topologyOf network) ≡ given pass)
     (checked : routeCheck (topologyOf network) route ≡ given pass) (held : List ℕ) (w : HeldWords held ss) (hops : List Hop)
@@ -50,12 +46,18 @@ module _ (network : Network) (ss : List Session) (route : List ℕ) (passed : ne
       (subst (λ (T : ℕ). Ready T (firsts 8 (hopsOf (topologyOf network) ss route) noHop) (length route)) (ticks-told network)
       (route-ready (topologyOf network) ss route passed checked))
 
+  pub hops-laid : firsts (length route) hops noHop ≡ hopsOf (topologyOf network) ss route
+  hops-laid =
+      ap (λ (l : List Hop). firsts (length route) l noHop) laid
+      ∙ ap (λ (n : ℕ). firsts n (firsts 8 (hopsOf (topologyOf network) ss route) noHop) noHop) (sym (length-map route (hopOf (topologyOf network) ss)))
+      ∙ firsts-back 8 (hopsOf (topologyOf network) ss route) noHop
+      (omega (arith, length-map route (hopOf (topologyOf network) ss), route-long (topologyOf network) route checked .1))
+
   route-back : take (length route) hops ≡ hopsOf (topologyOf network) ss route
   route-back =
-      ap (take (length route)) laid
-      ∙ ap (λ (n : ℕ). take n (firsts 8 (hopsOf (topologyOf network) ss route) noHop)) (sym (length-map route (hopOf (topologyOf network) ss)))
-      ∙ taken-back (hopsOf (topologyOf network) ss route)
-      (omega (arith, length-map route (hopOf (topologyOf network) ss), route-long (topologyOf network) route checked .1))
+      sym (firsts-take (length route) hops noHop
+      (omega (arith, ap length laid, length-firsts 8 (hopsOf (topologyOf network) ss route) noHop, route-long (topologyOf network) route checked .1)))
+      ∙ hops-laid
 
   same-answer : routeAnswer (network .ticks) (take (length route) hops) ≡ routeAnswer (topologyOf network .ticks) (hopsOf (topologyOf network) ss route)
   same-answer = ap (routeAnswer (network .ticks)) route-back ∙ ap (λ (T : ℕ). routeAnswer T (hopsOf (topologyOf network) ss route)) (sym (ticks-told network))

@@ -25,6 +25,7 @@ use Rattle.ledger.proofs.Intact.{Intact, intact-is, GoodSession, session-good}
 use Rattle.routes.proofs.Links.{link-passed}
 use Rattle.routes.proofs.Routes.{route-long, route-known}
 use Rattle.table.specs.declared.Place.{Place}
+use Rattle.table.specs.declared.Table.{Table}
 use Rattle.table.specs.Table.{sessionOf, noPlace, inPlaces, liveOf, PlaceWithin, AllWithin}
 use Rattle.table.proofs.Live.{in-length}
 use Rattle.state.specs.declared.State.{State}
@@ -69,6 +70,18 @@ module _ (net : Topology) (passed : networkCheck net ≡ given pass) where
 pub place-session : (n i : ℕ) (places : List Place) → i < n → getD (inPlaces n places) i (sessionOf noPlace) ≡ sessionOf (getD places i noPlace)
 place-session n i places h = List·getD-map sessionOf (firsts n places noPlace) i noPlace ∙ ap sessionOf (getD-firsts n i places noPlace h)
 
+-- a table whose sessions are all good
+module _ (net : Topology) (table : Table) (good : all (goodSession net) (liveOf table) ≡ true) where
+  pub place-good : (i : ℕ) → i < table .live → GoodSession net (sessionOf (getD (table .places) i noPlace))
+  place-good i h =
+      session-good net (sessionOf (getD (table .places) i noPlace))
+      (subst (λ (s : Session). goodSession net s ≡ true) (place-session (table .live) i (table .places) h)
+      (all-member (goodSession net) (liveOf table) good
+      (member-at (liveOf table) i (sessionOf noPlace) (omega (arith, h, in-length (table .live) (table .places))))))
+
+  pub table-within : networkCheck net ≡ given pass → table .live ≤ 96 → AllWithin table
+  table-within passed few = record { few = few; each = λ i h. good-within net passed (getD (table .places) i noPlace) (place-good i h) }
+
 module _ (st : State) (e : intact (viewOf st) ≡ true) where
   ok : Intact (topologyOf (st .network)) (liveOf (st .table))
   ok = intact-is (viewOf st) e
@@ -76,12 +89,5 @@ module _ (st : State) (e : intact (viewOf st) ≡ true) where
   pub few-live : st .table .live ≤ 96
   few-live = omega (arith, ok .few, in-length (st .table .live) (st .table .places))
 
-  pub place-good : (i : ℕ) → i < st .table .live → GoodSession (topologyOf (st .network)) (sessionOf (getD (st .table .places) i noPlace))
-  place-good i h =
-      session-good (topologyOf (st .network)) (sessionOf (getD (st .table .places) i noPlace))
-      (subst (λ (s : Session). goodSession (topologyOf (st .network)) s ≡ true) (place-session (st .table .live) i (st .table .places) h)
-      (all-member (goodSession (topologyOf (st .network))) (liveOf (st .table)) (ok .sessions)
-      (member-at (liveOf (st .table)) i (sessionOf noPlace) (omega (arith, h, in-length (st .table .live) (st .table .places))))))
-
   pub all-within : AllWithin (st .table)
-  all-within = record { few = few-live; each = λ i h. good-within (topologyOf (st .network)) (ok .network) (getD (st .table .places) i noPlace) (place-good i h) }
+  all-within = table-within (topologyOf (st .network)) (st .table) (ok .sessions) (ok .network) few-live

@@ -9,18 +9,14 @@ use Rattle.refusals.specs.Refusals.{refusalNumber, refusalCount, Outcome, given
 use Rattle.refusals.specs.declared.Verdict.{Verdict}
 use Rattle.refusals.specs.declared.Verdict.the-variants as verdict
 use Rattle.network.specs.Network.{Topology, topologyOf}
-use Rattle.network.specs.Checks.{networkCheck}
-use Rattle.network.specs.declared.Network.{Network}
 use Rattle.forwarding.specs.Schedule.{routeAnswer}
 use Rattle.search.specs.Reading.{reading}
 use Rattle.search.specs.declared.Answer as search
 use Rattle.ledger.specs.Sessions.{Session, View, hopsOf}
 use Rattle.ledger.specs.Calls.{Call, SetUp, Release, schedule, freed, refusal, leaves, effect, next}
 use Rattle.ledger.specs.Calls as rules
-use Rattle.ledger.specs.Demand.{fresh}
 use Rattle.table.specs.Table.{liveOf}
 use Rattle.state.specs.declared.State.{State}
-use Rattle.state.specs.declared.Begun.{Begun}
 use Rattle.state.specs.declared.Reply.{Reply}
 use Rattle.state.specs.declared.Reply.the-variants.{Schedule, Refused}
 use Rattle.state.specs.declared.Answer.{Answer}
@@ -32,12 +28,6 @@ use Rattle.state.specs.declared.Counted.{Counted}
 -- what a stored state shows: unused places are no part of it, and a number above its places shows in it
 abbrev pub viewOf : State → View
 viewOf st = record { network = topologyOf (st .network); live = liveOf (st .table) }
-
--- `begin`: the network's checks, and the state that holds no sessions; a state on a network that its checks refused is broken
-pub record Begins (net : Network) (r : Begun) : Type 0 where
-  pub verdict : ruling (r .verdict) ≡ networkCheck (topologyOf net)
-  pub network : r .state .network ≡ net
-  pub view : viewOf (r .state) ≡ fresh (topologyOf net)
 
 -- document 01's number and values for each answer of a set-up or a quote over n links
 abbrev pub replyIn : ℕ → Reply → List ℕ → rules.Reply

@@ -9,7 +9,6 @@ use table::Place;
 use table::Table;
 ghost use mathlib.Core.Path.{_≡_};
 ghost use mathlib.Core.Bool.{true};
-ghost use mathlib.Core.List.{[]};
 ghost use Prim.Native.Nat.{ℕ};
 ghost use lib.ListN.{length};
 ghost use Rattle.refusals.specs.Refusals.{refusalNumber, refusalCount, given, pass};
@@ -22,18 +21,12 @@ ghost use Rattle.ledger.specs.Sound.{intact};
 ghost use Rattle.ledger.specs.Calls.{SetUp, Quote, replyOf, reply, freeCount};
 ghost use Rattle.ledger.specs.Calls as rules;
 ghost use Rattle.table.specs.Table.{liveOf, AllWithin};
-ghost use Rattle.state.specs.State.{viewOf, Begins, Searched, replyIn, Answers, Serves, Releases, Shows, Counts};
+ghost use Rattle.state.specs.State.{viewOf, Searched, replyIn, Answers, Serves, Releases, Shows, Counts};
 
 // The stored state: a network and its live sessions.
 pub struct State {
     pub network: Network,
     pub table: Table,
-}
-
-// What `begin` answers: the verdict of the network's checks, and a state that holds no sessions.
-pub struct Begun {
-    pub verdict: Verdict,
-    pub state: State,
 }
 
 // What a set-up or a quote answers: a schedule with its delay and the count of transitions considered, or a refusal.
@@ -73,35 +66,6 @@ pub struct Shown {
 pub struct Counted {
     pub verdict: Verdict,
     pub count: u32,
-}
-
-// A table without sessions.
-fn no_sessions() -> Table
-    ensures { λ r. ⌜ liveOf r ≡ [] ⌝ }
-{
-    let none = Place {
-        number: 0,
-        hops: 0,
-        route: [0u8; 8],
-        frames: [0u8; 8],
-        delay: Delay(0),
-    };
-    Table {
-        live: 0,
-        places: [none; 96],
-    }
-}
-
-// The state of a fresh network: its checks, and no sessions. A state on a network that was refused is broken.
-pub fn begin(network: Network) -> Begun
-    ensures { λ r. ⌜ Begins network r ⌝ }
-{
-    let verdict = network::check_network(network);
-    let table = no_sessions();
-    Begun {
-        verdict,
-        state: State { network, table },
-    }
 }
 
 // A refused answer.

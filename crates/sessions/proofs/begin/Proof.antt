@@ -1,7 +1,7 @@
--- `state::begin` meets its contract. Assumes nothing.
+-- `sessions::begin` meets its contract. Assumes nothing.
 use borrow.Author.Needs.{needs}
-use Rattle.state.proofs.begin.Statement.{statement}
-use Rattle.state.proofs.begin.Tie as tie
+use Rattle.sessions.proofs.begin.Statement.{statement}
+use Rattle.sessions.proofs.begin.Tie as tie
 use mathlib.Core.Path.{refl, ap}
 use mathlib.Core.List.{List}
 use Rattle.network.specs.Network.{topologyOf}

@@ -1,0 +1,143 @@
+-- A stored session that keeps the rules, test by test. Assumes nothing.
+use mathlib.Core.Path.{_≡_, refl, sym, ap, ap₂, subst, _∙_}
+use mathlib.Core.Bool.{Bool, true, false, not, _&&_, cond}
+use mathlib.Core.List.{List, [], _∷_}
+use mathlib.Core.Option.{Option, some, none}
+use Prim.Native.Nat.{ℕ, _+_, _<_, _≤_}
+use native.Mathlib.Omega.{arith}
+use lib.ListN.{length, getD, take, drop, replicate}
+use lib.Seq.{length-take-le}
+use lib.Dec.{eqb}
+use borrow.Author.Tests.{lt-ltb, ne-eqb}
+use Rattle.places.specs.Places.{firsts}
+use Rattle.places.proofs.Firsts.{length-firsts, firsts-back, firsts-take}
+use Rattle.refusals.specs.Refusals.{refusalNumber, Ruling, given, refused, pass, ruling}
+use Rattle.refusals.specs.declared.Refusal.{Refusal}
+use Rattle.refusals.specs.declared.Verdict.{Verdict}
+use Rattle.refusals.specs.declared.Verdict.the-variants.{Passed, Refused}
+use Rattle.network.specs.Network.{topologyOf}
+use Rattle.network.specs.Checks.{networkCheck}
+use Rattle.network.specs.declared.Network.{Network}
+use Rattle.forwarding.specs.declared.Hop.{Hop}
+use Rattle.forwarding.specs.declared.Delay.{Delay}
+use Rattle.forwarding.specs.Checked.{Ready, noHop}
+use Rattle.forwarding.specs.Schedule.{isSchedule, scheduleDelay}
+use Rattle.ledger.specs.Lists.{all}
+use Rattle.ledger.specs.Sessions.{Session, HeldWords, heldIn, hopsOf}
+use Rattle.ledger.specs.Routes.{badLength, routeCheck}
+use Rattle.ledger.specs.Sound.{passes, goodSession}
+use Rattle.ledger.proofs.Lists.{eqb-flip}
+use Rattle.routes.specs.Hops.{hopsFrom, delayIf, delayIn}
+use Rattle.routes.specs.declared.Walked.{Walked}
+use Rattle.routes.specs.declared.Walked.the-variants.{Delayed, Unfit}
+use Rattle.table.specs.declared.Place.{Place}
+use Rattle.table.specs.Table.{sessionOf, noPlace, inPlaces, Words}
+use Rattle.table.proofs.Live.{in-next, in-end}
+use Rattle.table.proofs.Banks.{words-none}
+use Rattle.state.proofs.Searches.{hops-laid, least-ready, ticks-told}
+
+-- a verdict that isn't passed is a refusal
+pub not-passed : (tag : Verdict → ℕ) → tag Passed ≡ 0 → (v : Verdict) → tag v ≡ 1 → (r : Refusal) × (v ≡ Refused r)
+not-passed tag h Passed e = absurd (omega (arith, h, e))
+not-passed tag h (Refused r) e = (r, refl)
+
+-- words in which nothing is held
+pub none-held : HeldWords (replicate 32 0) []
+none-held = let w : Words 32 (replicate 32 0) (λ a i. false) = words-none 32 in record { long = w .long; word = w .word }
+
+module _ (network : Network) (place : Place) where
+  -- 12 refuses a route of more than 8 links
+  pub too-long : 8 < place .hops → false ≡ goodSession (topologyOf network) (sessionOf place)
+  unfolding goodSession routeCheck badLength
+  too-long h = rw (length-firsts (place .hops) (place .route) 0, ne-eqb (place .hops) 0 (omega arith), lt-ltb 8 (place .hops) h)
+
+  module _ (few : place .hops ≤ 8) (long : length (place .route) ≡ 8) where
+    same-route : take (place .hops) (place .route) ≡ firsts (place .hops) (place .route) 0
+    same-route = sym (firsts-take (place .hops) (place .route) 0 (omega (arith, few, long)))
+
+    pub taken-length : place .hops ≡ length (take (place .hops) (place .route))
+    taken-length = sym (length-take-le (place .hops) (place .route) (omega (arith, few, long)))
+
+    module _ (v : Verdict) (ev : ruling v ≡ routeCheck (topologyOf network) (take (place .hops) (place .route))) where
+      told : (r : Ruling) → ruling v ≡ r → routeCheck (topologyOf network) (firsts (place .hops) (place .route) 0) ≡ r
+      told r e = ap (routeCheck (topologyOf network)) (sym same-route) ∙ sym ev ∙ e
+
+      pub route-fails : (r : Refusal) → v ≡ Refused r → false ≡ goodSession (topologyOf network) (sessionOf place)
+      unfolding goodSession
+      route-fails r e = rw (told (refused (refusalNumber r)) (ap ruling e))
+
+      module _ (e : v ≡ Passed) where
+        pub route-stands : routeCheck (topologyOf network) (take (place .hops) (place .route)) ≡ given pass
+        route-stands = sym ev ∙ ap ruling e
+
+        module _ (passed : networkCheck (topologyOf network) ≡ given pass) (laid : List Hop)
+            (el : laid ≡ firsts 8 (hopsFrom (network .links) (replicate 32 0) (take (place .hops) (place .route))) noHop) where
+          pub walk-ready : Ready (network .ticks) laid (place .hops)
+          walk-ready =
+              subst (λ (n : ℕ). Ready (network .ticks) laid n) (sym taken-length)
+              (least-ready network [] (take (place .hops) (place .route)) passed route-stands (replicate 32 0) none-held laid el)
+
+          walked-hops : firsts (place .hops) laid noHop ≡ hopsOf (topologyOf network) [] (firsts (place .hops) (place .route) 0)
+          walked-hops =
+              ap (λ (n : ℕ). firsts n laid noHop) taken-length
+              ∙ hops-laid network [] (take (place .hops) (place .route)) passed route-stands (replicate 32 0) none-held laid el
+              ∙ ap (hopsOf (topologyOf network) []) same-route
+
+          -- what a walk over the session's frames tells of it
+          module _ (w : Walked) (ew : delayIn w ≡ delayIf (network .ticks) (firsts (place .hops) laid noHop) (firsts (place .hops) (place .frames) 0)) where
+            walked-told : delayIn w ≡ delayIf (topologyOf network .ticks) (hopsOf (topologyOf network) [] (firsts (place .hops) (place .route) 0)) (firsts (place .hops) (place .frames) 0)
+            walked-told =
+                ew
+                ∙ ap (λ (T : ℕ). delayIf T (firsts (place .hops) laid noHop) (firsts (place .hops) (place .frames) 0)) (sym (ticks-told network))
+                ∙ ap (λ (hs : List Hop). delayIf (topologyOf network .ticks) hs (firsts (place .hops) (place .frames) 0)) walked-hops
+
+            is-schedule : Bool
+            is-schedule = isSchedule (topologyOf network .ticks) (hopsOf (topologyOf network) [] (firsts (place .hops) (place .route) 0)) (firsts (place .hops) (place .frames) 0)
+
+            its-delay : ℕ
+            its-delay = scheduleDelay (topologyOf network .ticks) (hopsOf (topologyOf network) [] (firsts (place .hops) (place .route) 0)) (firsts (place .hops) (place .frames) 0)
+
+            by-walk : (b : Bool) (x : ℕ) → passes (routeCheck (topologyOf network) (sessionOf place .route)) && (b && eqb (place .delay .0) x) ≡ (b && eqb (place .delay .0) x)
+            by-walk b x = ap (λ (r : Ruling). passes r && (b && eqb (place .delay .0) x)) (told (given pass) (ap ruling e))
+
+            pub session-walked : (d : Delay) → w ≡ Delayed d → eqb (d .0) (place .delay .0) ≡ goodSession (topologyOf network) (sessionOf place)
+            unfolding goodSession is-schedule its-delay
+            session-walked d q =
+                sym (by-walk is-schedule its-delay ∙ fits is-schedule its-delay (sym walked-told ∙ ap delayIn q))
+              where
+                fits : (b : Bool) (x : ℕ) → cond b (some x) none ≡ some (d .0) → (b && eqb (place .delay .0) x) ≡ eqb (d .0) (place .delay .0)
+                fits true x k = let z : x ≡ d .0 = cc in ap (eqb (place .delay .0)) z ∙ eqb-flip (place .delay .0) (d .0)
+                fits false x k = cc
+
+            pub session-unfit : w ≡ Unfit → false ≡ goodSession (topologyOf network) (sessionOf place)
+            unfolding goodSession is-schedule its-delay
+            session-unfit q = sym (by-walk is-schedule its-delay ∙ unfit is-schedule its-delay (sym walked-told ∙ ap delayIn q))
+              where
+                unfit : (b : Bool) (x : ℕ) → cond b (some x) none ≡ none → (b && eqb (place .delay .0) x) ≡ false
+                unfit true x k = cc
+                unfit false x k = refl
+
+-- ---- the sessions of a table, one after the other: the first i keep the rules
+module _ (network : Network) (n : ℕ) (places : List Place) where
+  pub record GoodSoFar (i : ℕ) : Type 0 where
+    pub within : i ≤ n
+    pub same : all (goodSession (topologyOf network)) (inPlaces n places) ≡ all (goodSession (topologyOf network)) (drop i (inPlaces n places))
+
+  pub none-bad : GoodSoFar 0
+  none-bad = record { within = omega arith; same = refl }
+
+  module _ (i : ℕ) (p : GoodSoFar i) where
+    module _ (h : i < n) (b : Bool) (eb : b ≡ goodSession (topologyOf network) (sessionOf (getD places i noPlace))) where
+      split : all (goodSession (topologyOf network)) (inPlaces n places) ≡ (b && all (goodSession (topologyOf network)) (drop (i + 1) (inPlaces n places)))
+      split =
+          p .same ∙ ap (all (goodSession (topologyOf network))) (in-next n places i h)
+          ∙ ap (λ (x : Bool). x && all (goodSession (topologyOf network)) (drop (i + 1) (inPlaces n places))) (sym eb)
+
+      pub one-bad : b ≡ false → false ≡ all (goodSession (topologyOf network)) (inPlaces n places)
+      one-bad e = sym (split ∙ ap (λ (x : Bool). x && all (goodSession (topologyOf network)) (drop (i + 1) (inPlaces n places))) e)
+
+      pub one-good : b ≡ true → GoodSoFar (i + 1)
+      one-good e = record { within = omega arith; same = split ∙ ap (λ (x : Bool). x && all (goodSession (topologyOf network)) (drop (i + 1) (inPlaces n places))) e }
+
+    pub all-good : n ≤ i → true ≡ all (goodSession (topologyOf network)) (inPlaces n places)
+    all-good h = sym (p .same ∙ ap (all (goodSession (topologyOf network))) (in-end n places i h))
