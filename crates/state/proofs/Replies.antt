@@ -29,6 +29,7 @@ use Rattle.ledger.specs.Sound.{intact}
 use Rattle.ledger.specs.Calls.{Call, SetUp, Quote, Release, schedule, freed, refusal, replyOf, unless, full, callCheck, served, reply, leaves, effect, otherThan, next}
 use Rattle.ledger.specs.Calls as rules
 use Rattle.ledger.proofs.Answered.{reply-intact}
+use Rattle.ledger.proofs.Kept.{next-intact}
 use Rattle.table.specs.declared.Place.{Place}
 use Rattle.table.specs.declared.Table.{Table}
 use Rattle.table.specs.Table.{sessionOf, liveOf}
@@ -90,6 +91,10 @@ next-same v call e = ap (λ (x : rules.Effect). record { network = v .network; l
 -- a call that changes no session leaves the very same state
 pub stays : (st : State) (call : Call) → effect call (reply (viewOf st) call) ≡ leaves → Leaves st call st
 stays st call e = record { view = sym (next-same (viewOf st) call e); same = λ _. refl }
+
+-- A CALL ON A STATE THAT ISN'T BROKEN LEAVES ONE THAT ISN'T BROKEN
+pub left-intact : (st : State) (call : Call) (after : State) → Leaves st call after → intact (viewOf st) ≡ true → intact (viewOf after) ≡ true
+left-intact st call after l e = subst (λ (v : View). intact v ≡ true) (sym (l .view)) (next-intact (viewOf st) call e)
 
 -- "routes fail 12 to 15": none of them is 18
 not-eighteen : (r : Refusal) (net : Topology) (route : List ℕ) → routeCheck net route ≡ outcome.refused (refusalNumber r) → refusalNumber r ≡ 18 → ⊥
