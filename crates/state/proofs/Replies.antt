@@ -1,6 +1,6 @@
 -- What a call answers and leaves on a state that isn't broken, check by check. Assumes nothing.
 use mathlib.Core.Path.{_≡_, refl, sym, ap, ap₂, subst, _∙_}
-use mathlib.Core.Bool.{Bool, true, false}
+use mathlib.Core.Bool.{Bool, true, false, not}
 use mathlib.Core.List.{List, [], _∷_, _++_}
 use Prim.Native.Nat.{ℕ, _≤_}
 use native.Mathlib.Omega.{arith}
@@ -95,24 +95,6 @@ stays st call e = record { view = sym (next-same (viewOf st) call e); same = λ 
 -- A CALL ON A STATE THAT ISN'T BROKEN LEAVES ONE THAT ISN'T BROKEN
 pub left-intact : (st : State) (call : Call) (after : State) → Leaves st call after → intact (viewOf st) ≡ true → intact (viewOf after) ≡ true
 left-intact st call after l e = subst (λ (v : View). intact v ≡ true) (sym (l .view)) (next-intact (viewOf st) call e)
-
--- "routes fail 12 to 15": none of them is 18
-not-eighteen : (r : Refusal) (net : Topology) (route : List ℕ) → routeCheck net route ≡ outcome.refused (refusalNumber r) → refusalNumber r ≡ 18 → ⊥
-unfolding routeCheck
-not-eighteen r net route e q = go (badLength (length route)) (unknownLink net route) (linkTwice route) (ratesApart (ratesOf net route)) (e ∙ ap outcome.refused q)
-  where
-    go : (a b c d : Bool)
-        → outcome.orElse (outcome.refuseIf a 12) (outcome.orElse (outcome.refuseIf b 13) (outcome.orElse (outcome.refuseIf c 14) (outcome.refuseIf d 15))) ≡ outcome.refused 18 → ⊥
-    go true b c d w = let z : _≡_ {A = ℕ} 12 18 = cc in omega arith
-    go false true c d w = let z : _≡_ {A = ℕ} 13 18 = cc in omega arith
-    go false false true d w = let z : _≡_ {A = ℕ} 14 18 = cc in omega arith
-    go false false false true w = let z : _≡_ {A = ℕ} 15 18 = cc in omega arith
-    go false false false false w = let z : _≡_ {A = ℕ} 15 18 = cc in omega arith
-
--- a refused route's answer has no count
-pub route-uncounted : (r : Refusal) (net : Topology) (route : List ℕ) → routeCheck net route ≡ outcome.refused (refusalNumber r)
-    → refusal (refusalNumber r) (refusalCount r) ≡ refusal (refusalNumber r) 0
-route-uncounted r net route e = ap (refusal (refusalNumber r)) (uncounted r (not-eighteen r net route e))
 
 -- ---- a search's result as an answer
 nodes-frames : (a : trellis.Answer) → framesOf (replyOf a) ≡ nodesOf a

@@ -48,8 +48,9 @@ element-copy-out-other c = at-place (c .before .before .before .before .before .
 
 frames-apart-requires : tie.Need-frames-apart-requires Inv-loop μ-loop
 frames-apart-requires c κs = (
-      at-frames (c .before .before .before .before .before .before .before .before .before .args .t1) _ (known-place (c .before .before .before .before .before .before .before .before .before .args .t1) _ (c .before .before .before .before .before .before .before .loop .j - 1) (c .before .before .before .before .before .before .before .before .before .pre .1) (omega arith)) (c .before .before .before .before .before .before .before .before .before .pre .0) _ (c .before .before .before .before .wide .ensures) .0,
-      at-frames (c .before .before .before .before .before .before .before .before .before .args .t1) _ (known-place (c .before .before .before .before .before .before .before .before .before .args .t1) _ (c .before .before .before .before .before .before .before .loop .j) (c .before .before .before .before .before .before .before .before .before .pre .1) (c .before .before .before .before .before .before .loop-test .taken)) (c .before .before .before .before .before .before .before .before .before .pre .0) _ (c .before .before .wide2 .ensures) .0)
+  at-frames (c .before .before .before .before .before .before .before .before .before .args .t1) _ (known-place (c .before .before .before .before .before .before .before .before .before .args .t1) _ (c .before .before .before .before .before .before .before .loop .j - 1) (c .before .before .before .before .before .before .before .before .before .pre .1) (omega arith)) (c .before .before .before .before .before .before .before .before .before .pre .0) _ (c .before .before .before .before .wide .ensures) .0,
+  at-frames (c .before .before .before .before .before .before .before .before .before .args .t1) _ (known-place (c .before .before .before .before .before .before .before .before .before .args .t1) _ (c .before .before .before .before .before .before .before .loop .j) (c .before .before .before .before .before .before .before .before .before .pre .1) (c .before .before .before .before .before .before .loop-test .taken)) (c .before .before .before .before .before .before .before .before .before .pre .0) _ (c .before .before .wide2 .ensures) .0,
+)
 
 returns : tie.Need-returns Inv-loop μ-loop
 returns c = let s = c .before .before .before .before .before .before .before .before .before .before .before in
