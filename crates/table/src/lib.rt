@@ -88,8 +88,8 @@ fn mark_place(words: &mut [u64; 32], place: Place)
     let frames = place.frames;
     let mut j: usize = 0;
     while j < hops {
-        let l = route[j] as usize;
-        words[l] = words::set_bit(words[l], frames[j] as u16);
+        let link = route[j] as usize;
+        words[link] = words::set_bit(words[link], frames[j] as u16);
         j += 1;
     }
 }
