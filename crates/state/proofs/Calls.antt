@@ -1,7 +1,7 @@
 -- Each return of the calls on a state that isn't broken. Assumes nothing.
 use mathlib.Core.Path.{_≡_, refl, sym, ap, ap₂, subst, _∙_}
 use mathlib.Core.Bool.{Bool, true, false}
-use mathlib.Core.List.{List, [], _∷_, _++_}
+use mathlib.Core.List.{List}
 use Prim.Native.Nat.{ℕ, _<_, _≤_}
 use native.Mathlib.Omega.{arith}
 use lib.ListN.{length, getD}
@@ -13,7 +13,6 @@ use Rattle.places.proofs.Firsts.{length-firsts}
 use Rattle.refusals.specs.Refusals.{refusalNumber, refusalCount, Outcome, given, pass, rulingOf, givenOr}
 use Rattle.refusals.specs.Refusals as outcome
 use Rattle.refusals.specs.declared.Refusal.{Refusal}
-use Rattle.refusals.specs.declared.Verdict.{Verdict}
 use Rattle.refusals.specs.declared.Verdict.the-variants as verdict
 use Rattle.words.specs.Word.{freeAt, freeFrames}
 use Rattle.words.proofs.Ones.{free-count}
@@ -22,23 +21,20 @@ use Rattle.network.specs.Checks.{networkCheck}
 use Rattle.network.specs.declared.Link.{Link}
 use Rattle.forwarding.specs.declared.Hop.{Hop}
 use Rattle.ledger.specs.Lists.{keep}
-use Rattle.ledger.specs.Sessions.{Session, View, HeldWords, isLive, linkAt, freeOf}
-use Rattle.ledger.specs.Routes.{unknown}
+use Rattle.ledger.specs.Sessions.{Session, HeldWords, isLive, linkAt, freeOf}
 use Rattle.ledger.specs.Sound.{intact}
-use Rattle.ledger.specs.Calls.{Call, SetUp, Quote, Release, freed, refusal, served, reply, otherThan, lookIn, lookup, freeCount}
+use Rattle.ledger.specs.Calls.{Release, freed, refusal, served, reply, otherThan, lookIn, lookup, freeCount}
 use Rattle.ledger.specs.Calls as rules
 use Rattle.ledger.proofs.Intact.{intact-is}
 use Rattle.ledger.proofs.Shown.{lookup-intact}
-use Rattle.routes.specs.Hops.{hopFrom}
 use Rattle.routes.proofs.Tests.{known, not-known}
-use Rattle.routes.proofs.Links.{many-links, stored-link, in-places, frames-bounded}
+use Rattle.routes.proofs.Links.{many-links, in-places, frames-bounded}
 use Rattle.routes.proofs.Hops.{hop-held}
 use Rattle.table.specs.declared.Table.{Table}
 use Rattle.table.specs.Table.{sessionOf, noPlace, liveOf, placeOf}
 use Rattle.table.proofs.Live.{in-length}
 use Rattle.table.proofs.Looking.{stands-live, stands-shown, gone-live, gone-refused}
 use Rattle.state.specs.declared.State.{State}
-use Rattle.state.specs.declared.Released.{Released}
 use Rattle.state.specs.declared.Shown.{Shown}
 use Rattle.state.specs.declared.Counted.{Counted}
 use Rattle.state.specs.State.{viewOf, Releases, Shows, Counts}

@@ -1,41 +1,32 @@
 -- What a call answers and leaves on a state that isn't broken, check by check. Assumes nothing.
 use mathlib.Core.Path.{_≡_, refl, sym, ap, ap₂, subst, _∙_}
-use mathlib.Core.Bool.{Bool, true, false, not}
+use mathlib.Core.Bool.{true, false}
 use mathlib.Core.List.{List, [], _∷_, _++_}
 use Prim.Native.Nat.{ℕ, _≤_}
 use native.Mathlib.Omega.{arith}
-use lib.ListN.{length, take, replicate}
+use lib.ListN.{length, take}
 use Rattle.trellis.specs.Answer.{found, blocked, nodesOf}
 use Rattle.trellis.specs.Answer as trellis
 use Rattle.places.specs.Places.{firsts}
-use Rattle.places.proofs.Firsts.{length-firsts, firsts-filled, firsts-back, firsts-take}
-use Rattle.refusals.specs.Refusals.{refusalNumber, refusalCount, given, pass, ruling}
+use Rattle.places.proofs.Firsts.{firsts-back, firsts-take}
+use Rattle.refusals.specs.Refusals.{given, pass}
 use Rattle.refusals.specs.Refusals as outcome
-use Rattle.refusals.specs.declared.Refusal.{Refusal}
-use Rattle.refusals.specs.declared.Verdict.{Verdict}
-use Rattle.refusals.specs.declared.Verdict.the-variants as verdict
-use Rattle.refusals.proofs.Refusals.{uncounted}
-use Rattle.network.specs.Network.{Topology, topologyOf}
+use Rattle.network.specs.Network.{Topology}
 use Rattle.forwarding.specs.declared.Delay.{Delay}
 use Rattle.forwarding.specs.Schedule.{routeAnswer}
 use Rattle.search.specs.Reading.{reading}
 use Rattle.search.specs.declared.Answer as search
-use Rattle.search.specs.declared.Found.the-variants.{Blocked}
-use Rattle.search.specs.declared.Found.the-variants as found-variants
 use Rattle.ledger.specs.Lists.{keep}
 use Rattle.ledger.specs.Sessions.{Held, Session, View, isLive, hopsOf}
-use Rattle.ledger.specs.Routes.{badLength, unknownLink, linkTwice, ratesApart, ratesOf, routeCheck}
+use Rattle.ledger.specs.Routes.{routeCheck}
 use Rattle.ledger.specs.Sound.{intact}
 use Rattle.ledger.specs.Calls.{Call, SetUp, Quote, Release, schedule, freed, refusal, replyOf, unless, full, callCheck, served, reply, leaves, effect, otherThan, next}
 use Rattle.ledger.specs.Calls as rules
 use Rattle.ledger.proofs.Answered.{reply-intact}
 use Rattle.ledger.proofs.Kept.{next-intact}
-use Rattle.table.specs.declared.Place.{Place}
-use Rattle.table.specs.declared.Table.{Table}
-use Rattle.table.specs.Table.{sessionOf, liveOf}
+use Rattle.table.specs.Table.{sessionOf}
 use Rattle.state.specs.declared.State.{State}
 use Rattle.state.specs.declared.Reply.{Reply}
-use Rattle.state.specs.declared.Reply.the-variants.{Schedule, Refused}
 use Rattle.state.specs.declared.Answer.{Answer}
 use Rattle.state.specs.State.{viewOf, replyIn, framesOf, Answers, Searched, Leaves}
 

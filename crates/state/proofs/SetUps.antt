@@ -1,8 +1,8 @@
 -- Each return of a quote and of a set-up on a state that isn't broken. Assumes nothing.
-use mathlib.Core.Path.{_≡_, refl, sym, ap, ap₂, subst, _∙_}
+use mathlib.Core.Path.{_≡_, refl, sym, ap, subst, _∙_}
 use mathlib.Core.Bool.{Bool, true, false}
 use mathlib.Core.List.{List, [], _∷_, _++_}
-use Prim.Native.Nat.{ℕ, _<_, _≤_}
+use Prim.Native.Nat.{ℕ, _<_}
 use native.Mathlib.Omega.{arith}
 use lib.ListN.{length, take}
 use lib.Dec.{leb}
@@ -16,16 +16,15 @@ use Rattle.refusals.specs.declared.Refusal.{Refusal}
 use Rattle.refusals.proofs.Refusals.{uncounted}
 use Rattle.refusals.specs.declared.Verdict.{Verdict}
 use Rattle.refusals.specs.declared.Verdict.the-variants as verdict
-use Rattle.network.specs.Network.{Topology, topologyOf}
+use Rattle.network.specs.Network.{topologyOf}
 use Rattle.network.specs.declared.Network.{Network}
-use Rattle.network.specs.Checks.{networkCheck}
 use Rattle.forwarding.specs.declared.Delay.{Delay}
 use Rattle.forwarding.specs.Schedule.{routeAnswer}
 use Rattle.search.specs.Reading.{reading}
 use Rattle.search.specs.declared.Answer as search
 use Rattle.search.specs.declared.Found.{Found}
 use Rattle.search.specs.declared.Found.the-variants as result
-use Rattle.ledger.specs.Sessions.{Held, Session, isLive, hopsOf}
+use Rattle.ledger.specs.Sessions.{Session, isLive, hopsOf}
 use Rattle.ledger.specs.Routes.{routeCheck}
 use Rattle.ledger.specs.Sound.{intact}
 use Rattle.ledger.specs.Calls.{Call, SetUp, Quote, schedule, refusal, replyOf, full, callCheck, served, reply}
@@ -34,8 +33,7 @@ use Rattle.ledger.proofs.Answered.{admitted}
 use Rattle.ledger.proofs.Refused.{not-eighteen}
 use Rattle.routes.proofs.Routes.{route-long}
 use Rattle.table.specs.declared.Table.{Table}
-use Rattle.table.specs.declared.Place.{Place}
-use Rattle.table.specs.Table.{sessionOf, liveOf, placeOf}
+use Rattle.table.specs.Table.{sessionOf, liveOf}
 use Rattle.table.proofs.Live.{in-length}
 use Rattle.state.specs.declared.State.{State}
 use Rattle.state.specs.declared.Reply.the-variants.{Schedule, Refused}
