@@ -1,0 +1,145 @@
+// States built by hand. A change is written as four words: a field's name, the link or the table's place that has it, the place in the route or in the
+// frames, and the new value; 0 stands where a field needs no place. Up to three changes stand in a line.
+use super::calls;
+use super::lines;
+use super::show;
+use forwarding::Delay;
+use network::Link;
+use network::Network;
+use state::State;
+use table::Place;
+use table::Table;
+ghost use Prim.Native.Nat.{_≤_};
+
+// A field's first letter tells it: links, ticks, K, Z, closed, sessions, number, hops, route, frame, delay.
+struct Change {
+    field: u8,
+    at: usize,
+    index: usize,
+    value: u64,
+}
+
+// The new value where this is the field, and else the old one.
+fn changed(change: Change, field: u8, old: u64) -> u64 {
+    if change.field == field {
+        change.value
+    } else {
+        old
+    }
+}
+
+// A change of one place of eight, if this is the field.
+fn changed_in(change: Change, field: u8, old: [u8; 8]) -> [u8; 8] {
+    let mut eight = old;
+    if change.field != field {
+        return old;
+    }
+    eight[change.index % 8] = lines::byte(change.value);
+    eight
+}
+
+fn changed_link(change: Change, link: Link) -> Link {
+    Link {
+        frames: lines::word(changed(change, b'K', link.frames as u64)),
+        range: lines::word(changed(change, b'Z', link.range as u64)),
+        closed: changed(change, b'c', link.closed),
+    }
+}
+
+fn changed_network(change: Change, network: Network) -> Network {
+    let at = change.at % 32;
+    let link = network.links[at];
+    let mut links = network.links;
+    links[at] = changed_link(change, link);
+    Network {
+        ticks: lines::word(changed(change, b't', network.ticks as u64)),
+        count: changed(change, b'l', network.count as u64) as usize,
+        links,
+    }
+}
+
+fn changed_place(change: Change, place: Place) -> Place {
+    let route = place.route;
+    let frames = place.frames;
+    let delay = place.delay;
+    Place {
+        number: lines::word(changed(change, b'n', place.number as u64)),
+        hops: changed(change, b'h', place.hops as u64) as usize,
+        route: changed_in(change, b'r', route),
+        frames: changed_in(change, b'f', frames),
+        delay: Delay(lines::word(changed(change, b'd', delay.0 as u64))),
+    }
+}
+
+fn changed_table(change: Change, table: Table) -> Table {
+    let at = change.at % 96;
+    let place = table.places[at];
+    let mut next = table;
+    next.places[at] = changed_place(change, place);
+    next.live = changed(change, b's', table.live as u64) as usize;
+    next
+}
+
+// The change whose words stand from a place on, on a state.
+fn with_change(st: State, values: &[u64; lines::MOST], from: usize) -> State
+    requires { ⌜ from ≤ 36 ⌝ }
+{
+    let change = Change {
+        field: lines::byte(values[from]),
+        at: values[from + 1] as usize,
+        index: values[from + 2] as usize,
+        value: values[from + 3],
+    };
+    State {
+        network: changed_network(change, st.network),
+        table: changed_table(change, st.table),
+    }
+}
+
+// The state with the changes that stand after a text's first word.
+fn built(st: State, text: &[u8]) -> State {
+    let values = lines::values(text);
+    let first = with_change(st, &values, 1);
+    let second = with_change(first, &values, 5);
+    with_change(second, &values, 9)
+}
+
+fn live(st: State) -> usize {
+    let table = st.table;
+    table.live
+}
+
+// A state built by hand in place of a state.
+pub(super) fn put(st: State, line: &[u8]) -> State {
+    let next = built(st, line);
+    show::text(b" live");
+    show::next(live(next) as u64);
+    next
+}
+
+// A state handed to five calls: what they answer, and whether the states they return have as many sessions.
+fn handed(st: State) {
+    show::text(b": S");
+    let a = live(calls::set_up(st, b"S 9 0"));
+    show::text(b", Q");
+    let b = live(calls::quote(st, b"Q 0"));
+    show::text(b", R");
+    let c = live(calls::release(st, 5));
+    show::text(b", L");
+    let d = live(calls::lookup(st, 5, false));
+    show::text(b", F");
+    let e = live(calls::free_frames(st, 0));
+    let n = live(st);
+    show::text(b", live");
+    show::same(a == n && b == n && c == n && d == n && e == n);
+}
+
+// A state built by hand by the changes after the colon. The state itself stays.
+pub(super) fn case(st: State, line: &[u8]) -> State {
+    let at = lines::find(line, 0, b':');
+    if line.len() <= at {
+        return st;
+    }
+    handed(built(st, &line[at + 1..]));
+    st
+}

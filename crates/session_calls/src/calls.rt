@@ -1,0 +1,173 @@
+// The calls, each written as a line of text: the line is shown as it stands, and after it what the call answers.
+use super::broken;
+use super::lines;
+use super::many;
+use super::show;
+use network::Link;
+use network::Network;
+use state::State;
+
+// The place where the next link's values begin: after the link at this place, if there are more.
+fn next_link(at: usize, more: bool) -> usize
+    ensures { λ r. ⌜ r ≤ 37 ⌝ }
+{
+    if more && at <= 34 { at + 3 } else { at % 38 }
+}
+
+// The links whose values stand after T. The places that are not in use hold the last of them.
+fn links(values: &[u64; lines::MOST], count: usize) -> [Link; 32] {
+    let mut links = [Link {
+        frames: 0,
+        range: 0,
+        closed: 0,
+    }; 32];
+    let mut at: usize = 1;
+    let mut i: usize = 0;
+    while i < 32 {
+        links[i] = Link {
+            frames: lines::word(values[at]),
+            range: lines::word(values[at + 1]),
+            closed: values[at + 2],
+        };
+        i += 1;
+        at = next_link(at, i < count);
+    }
+    links
+}
+
+// The state of a fresh network.
+fn begin(line: &[u8]) -> State {
+    let values = lines::values(line);
+    let count = lines::words_after(line, 1) / 3;
+    let begun = sessions::begin(Network {
+        ticks: lines::word(values[0]),
+        count,
+        links: links(&values, count),
+    });
+    let verdict = begun.verdict;
+    show::text(b"N ");
+    show::text(line);
+    show::verdict(verdict);
+    show::text(b"\n");
+    begun.state
+}
+
+pub(super) fn set_up(st: State, line: &[u8]) -> State {
+    let values = lines::values(line);
+    let route = lines::route(&values, 2);
+    let n = lines::words_after(line, 2);
+    let served = sessions::set_up(st, lines::word(values[1]), &route[..n]);
+    let answer = served.answer;
+    show::answer(answer, n);
+    served.state
+}
+
+pub(super) fn quote(st: State, line: &[u8]) -> State {
+    let values = lines::values(line);
+    let route = lines::route(&values, 1);
+    let n = lines::words_after(line, 1);
+    let served = sessions::quote(st, &route[..n]);
+    let answer = served.answer;
+    show::answer(answer, n);
+    served.state
+}
+
+// A route of 200 links.
+fn long_route(st: State) -> State {
+    let route = [0u8; 200];
+    let first = sessions::set_up(st, 5, &route);
+    let answer = first.answer;
+    show::text(b" S");
+    show::answer(answer, 0);
+    let second = sessions::quote(first.state, &route);
+    let answer = second.answer;
+    show::text(b", Q");
+    show::answer(answer, 0);
+    second.state
+}
+
+pub(super) fn release(st: State, number: u16) -> State {
+    let released = sessions::release(st, number);
+    let verdict = released.verdict;
+    show::verdict(verdict);
+    released.state
+}
+
+pub(super) fn lookup(st: State, number: u16, all: bool) -> State {
+    let looked = sessions::lookup(st, number);
+    let shown = looked.shown;
+    show::session(shown, if all { 8 } else { shown.hops });
+    looked.state
+}
+
+pub(super) fn free_frames(st: State, link: u8) -> State {
+    let tallied = sessions::free_frames(st, link);
+    let counted = tallied.counted;
+    show::counted(counted);
+    tallied.state
+}
+
+// The calls that go beyond one of the document's.
+fn more_calls(st: State, line: &[u8], letter: u8) -> State {
+    let values = lines::values(line);
+    let from = lines::word(values[1]);
+    let to = lines::word(values[2]);
+    if letter == b'M' {
+        return many::set_up_all(st, from, to, lines::byte(values[3]));
+    }
+    if letter == b'D' {
+        return many::release_all(st, from, to);
+    }
+    if letter == b'W' {
+        return long_route(st);
+    }
+    if letter == b'P' {
+        return broken::put(st, line);
+    }
+    if letter == b'B' {
+        return broken::case(st, line);
+    }
+    st
+}
+
+fn call(st: State, line: &[u8]) -> State {
+    let values = lines::values(line);
+    let letter = lines::byte(values[0]);
+    let number = lines::word(values[1]);
+    if letter == b'S' {
+        return set_up(st, line);
+    }
+    if letter == b'Q' {
+        return quote(st, line);
+    }
+    if letter == b'R' {
+        return release(st, number);
+    }
+    if letter == b'L' {
+        return lookup(st, number, false);
+    }
+    if letter == b'E' {
+        return lookup(st, number, true);
+    }
+    if letter == b'F' {
+        return free_frames(st, lines::byte(values[1]));
+    }
+    more_calls(st, line, letter)
+}
+
+// A fresh network, and then every line of a text on the state that the line before it left; each ends with a line end.
+pub(super) fn run(network: &[u8], text: &[u8]) {
+    let mut st = begin(network);
+    let mut from = 0;
+    while from < text.len() {
+        let end = lines::find(text, from, b'\n');
+        if text.len() <= end {
+            return;
+        }
+        let line = &text[from..end];
+        show::name(line);
+        st = call(st, line);
+        show::text(b"\n");
+        from = end + 1;
+    }
+}
