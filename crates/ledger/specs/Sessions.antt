@@ -1,11 +1,10 @@
 -- Sessions and the frames that they hold (document 01, "Calls on sessions"), and the hops of a route over the frames left free. Assumes nothing.
-use mathlib.Core.Path.{_≡_}
 use mathlib.Core.Bool.{Bool, false, _&&_, _||_}
 use mathlib.Core.List.{List, [], _∷_, map}
-use Prim.Native.Nat.{ℕ, _<_}
-use lib.ListN.{length, getD}
+use Prim.Native.Nat.{ℕ}
+use lib.ListN.{getD}
 use lib.Dec.{eqb}
-use Rattle.words.specs.Word.{wordOf, freeWord}
+use Rattle.words.specs.Word.{wordOf, freeWord, Words}
 use Rattle.network.specs.Network.{Topology, noLink}
 use Rattle.network.specs.declared.Link.{Link}
 use Rattle.forwarding.specs.declared.Hop.{Hop}
@@ -42,9 +41,8 @@ abbrev pub heldIn : List Session → ℕ → ℕ → Bool
 heldIn ss l i = any (holds l i) ss
 
 -- the words of held frames of 32 links: bit i of word l stands where a session holds frame i of link l
-pub record HeldWords (words : List ℕ) (ss : List Session) : Type 0 where
-  pub long : length words ≡ 32
-  pub word : (l : ℕ) → l < 32 → getD words l 0 ≡ wordOf 64 (heldIn ss l)
+abbrev pub HeldWords : List ℕ → List Session → Type 0
+HeldWords words ss = Words 32 words (heldIn ss)
 
 -- a session of the list has the number: "the number is live"
 abbrev pub isLive : ℕ → List Session → Bool

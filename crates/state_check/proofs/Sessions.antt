@@ -31,7 +31,8 @@ use Rattle.routes.specs.Hops.{hopsFrom, delayIf, delayIn}
 use Rattle.routes.specs.declared.Walked.{Walked}
 use Rattle.routes.specs.declared.Walked.the-variants.{Delayed, Unfit}
 use Rattle.table.specs.declared.Place.{Place}
-use Rattle.table.specs.Table.{sessionOf, noPlace, inPlaces, Words}
+use Rattle.words.specs.Word.{Words}
+use Rattle.table.specs.Table.{sessionOf, noPlace, inPlaces}
 use Rattle.table.proofs.Live.{in-next, in-end}
 use Rattle.table.proofs.Banks.{words-none}
 use Rattle.state.proofs.Searches.{hops-laid, least-ready, ticks-told}
@@ -43,7 +44,7 @@ not-passed tag h (Refused r) e = (r, refl)
 
 -- words in which nothing is held
 pub none-held : HeldWords (replicate 32 0) []
-none-held = let w : Words 32 (replicate 32 0) (λ a i. false) = words-none 32 in record { long = w .long; word = w .word }
+none-held = words-none 32
 
 module _ (network : Network) (place : Place) where
   -- 12 refuses a route of more than 8 links

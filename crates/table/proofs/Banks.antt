@@ -9,11 +9,10 @@ use lib.Seq.{getD-set-same, getD-set-other}
 use lib.Pow.{pow-pos}
 use lib.Dec.{eqb}
 use borrow.Author.Tests.{eqb-true, eqb-false}
-use Rattle.words.specs.Word.{bitOf, wordOf, withBit}
+use Rattle.words.specs.Word.{bitOf, wordOf, withBit, Words}
 use Rattle.words.proofs.Bits.{bit-zero}
 use Rattle.words.proofs.Words.{word-lt, word-only, bit-below}
 use Rattle.ledger.proofs.Lists.{eqb-flip}
-use Rattle.table.specs.Table.{Words}
 
 -- words of the same bits
 pub word-cong : (K : ℕ) (f g : ℕ → Bool) → ((i : ℕ) → i < K → f i ≡ g i) → wordOf K f ≡ wordOf K g

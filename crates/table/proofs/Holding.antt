@@ -1,18 +1,18 @@
 -- The words of held frames of the sessions in the first places. Assumes nothing.
-use mathlib.Core.Path.{_≡_, refl, sym, ap, ap₂, _∙_}
+use mathlib.Core.Path.{_≡_, refl, sym, ap, ap₂, subst, _∙_}
 use mathlib.Core.Bool.{Bool, true, false, _||_}
 use mathlib.Core.List.{List, [], _∷_}
 use Prim.Native.Nat.{ℕ, zero, suc, _+_, _<_}
 use native.Mathlib.Omega.{arith}
 use lib.ListN.{getD, replicate}
 use Rattle.places.specs.Places.{firsts}
-use Rattle.words.specs.Word.{bitOf, wordOf}
+use Rattle.words.specs.Word.{bitOf, wordOf, Words}
 use Rattle.ledger.specs.Lists.{any, anyTwo}
 use Rattle.ledger.specs.Sessions.{Session, HeldWords, holds, heldIn}
 use Rattle.ledger.specs.Sound.{someFrame, shareFrame, frameTwice}
 use Rattle.ledger.proofs.Lists.{or-middle, any-snoc}
 use Rattle.table.specs.declared.Place.{Place}
-use Rattle.table.specs.Table.{sessionOf, noPlace, inPlaces, PlaceWithin, Words, Marked}
+use Rattle.table.specs.Table.{sessionOf, noPlace, inPlaces, PlaceWithin, Marked}
 use Rattle.table.proofs.Live.{in-snoc}
 use Rattle.table.proofs.Banks.{words-bit, words-same, words-none}
 
@@ -66,8 +66,7 @@ met-shares places i words w h =
 
 -- the words of all sessions
 pub held-all : (places : List Place) (n i : ℕ) (words : List ℕ) → Words 32 words (heldIn (inPlaces i places)) → i ≡ n → HeldWords words (inPlaces n places)
-held-all places n i words w e =
-    record { long = w .long; word = λ l h. w .word l h ∙ ap (λ (m : ℕ). wordOf 64 (heldIn (inPlaces m places) l)) e }
+held-all places n i words w e = subst (λ (m : ℕ). Words 32 words (heldIn (inPlaces m places))) e w
 
 -- "two sessions hold one frame", by twos
 pub frames-rule : (ss : List Session) → anyTwo shareFrame ss ≡ frameTwice ss

@@ -8,12 +8,12 @@ use lib.ListN.{length, getD, drop, set, length-set, replicate}
 use lib.Dec.{eqb}
 use Rattle.places.specs.Places.{firsts}
 use Rattle.places.proofs.Firsts.{length-firsts, next-first, no-first, firsts-snoc}
-use Rattle.words.specs.Word.{bitOf, withBit}
+use Rattle.words.specs.Word.{bitOf, withBit, Words}
 use Rattle.ledger.specs.Lists.{any}
 use Rattle.ledger.specs.Sessions.{Session, HeldWords, names, holds, heldIn}
 use Rattle.ledger.specs.Sound.{someFrame, shareFrame}
 use Rattle.table.specs.declared.Place.{Place}
-use Rattle.table.specs.Table.{sessionOf, noPlace, inPlaces, Within, Words, Marked}
+use Rattle.table.specs.Table.{sessionOf, noPlace, inPlaces, Within, Marked}
 use Rattle.table.proofs.Live.{in-snoc}
 use Rattle.table.proofs.Banks.{words-bit, words-same, words-none, words-put}
 

@@ -8,13 +8,13 @@ use lib.ListN.{getD, set, replicate}
 use lib.Dec.{eqb}
 use borrow.Author.Tests.{eq-eqb, ne-eqb, eqb-true, eqb-false}
 use Rattle.places.specs.Places.{firsts}
-use Rattle.words.specs.Word.{bitOf, withBit}
+use Rattle.words.specs.Word.{bitOf, withBit, Words}
 use Rattle.ledger.specs.Lists.{any, anyTwo}
 use Rattle.ledger.specs.Sessions.{Session}
 use Rattle.ledger.specs.Sound.{sameNumber, numberTwice}
 use Rattle.ledger.proofs.Lists.{any-snoc}
 use Rattle.table.specs.declared.Place.{Place}
-use Rattle.table.specs.Table.{sessionOf, noPlace, inPlaces, Words}
+use Rattle.table.specs.Table.{sessionOf, noPlace, inPlaces}
 use Rattle.table.proofs.Live.{in-snoc}
 use Rattle.table.proofs.Banks.{words-bit, words-same, words-none, words-put}
 

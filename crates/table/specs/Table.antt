@@ -1,12 +1,11 @@
 -- The sessions that a table of places stands for. Assumes nothing.
-use mathlib.Core.Path.{_≡_}
 use mathlib.Core.Bool.{Bool, cond, _||_}
 use mathlib.Core.List.{List, [], _∷_, map}
 use Prim.Native.Nat.{ℕ, suc, _<_, _≤_}
-use lib.ListN.{length, getD}
+use lib.ListN.{getD}
 use lib.Dec.{eqb}
 use Rattle.places.specs.Places.{firsts}
-use Rattle.words.specs.Word.{wordOf}
+use Rattle.words.specs.Word.{Words}
 use Rattle.ledger.specs.Sessions.{Session, holds}
 use Rattle.table.specs.declared.Place.{Place}
 use Rattle.table.specs.declared.Table.{Table}
@@ -49,11 +48,6 @@ PlaceWithin p = Within (p .hops) (p .route) (p .frames)
 pub record AllWithin (t : Table) : Type 0 where
   pub few : t .live ≤ 96
   pub each : (i : ℕ) → i < t .live → PlaceWithin (getD (t .places) i noPlace)
-
--- n words of 64 bits: bit i of word a stands where a test passes
-pub record Words (n : ℕ) (words : List ℕ) (p : ℕ → ℕ → Bool) : Type 0 where
-  pub long : length words ≡ n
-  pub word : (a : ℕ) → a < n → getD words a 0 ≡ wordOf 64 (p a)
 
 -- the words of 32 links gain the frames of a session, whatever they had
 abbrev pub Marked : Place → List ℕ → List ℕ → Type 0

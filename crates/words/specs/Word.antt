@@ -1,6 +1,9 @@
 -- Words of frames: bit i of a word stands for frame i. Assumes nothing.
+use mathlib.Core.Path.{_≡_}
 use mathlib.Core.Bool.{Bool, true, not, _&&_, _||_}
-use Prim.Native.Nat.{ℕ, zero, suc, _+_, _*_, _/_, _%_, _^_}
+use mathlib.Core.List.{List}
+use Prim.Native.Nat.{ℕ, zero, suc, _+_, _*_, _/_, _%_, _^_, _<_}
+use lib.ListN.{length, getD}
 use lib.Dec.{eqb}
 use Rattle.trellis.specs.Count.{oneIf, countBelow}
 
@@ -36,3 +39,8 @@ freeWord K closed held = wordOf K (freeAt closed held)
 -- "The free frames of a link are the ones among its K bits": the bits of a word, counted one by one
 unfoldable pub freeFrames : ℕ → ℕ → ℕ
 freeFrames K w = countBelow K (bitOf w)
+
+-- n words of 64 bits: bit i of word a stands where a test passes
+pub record Words (n : ℕ) (words : List ℕ) (p : ℕ → ℕ → Bool) : Type 0 where
+  pub long : length words ≡ n
+  pub word : (a : ℕ) → a < n → getD words a 0 ≡ wordOf 64 (p a)

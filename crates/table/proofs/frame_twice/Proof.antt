@@ -7,7 +7,8 @@ use Prim.Native.Nat.{ℕ, _-_, _<_}
 use lib.ListN.{getD}
 use Rattle.ledger.specs.Sessions.{heldIn}
 use Rattle.ledger.specs.Sound.{shareFrame}
-use Rattle.table.specs.Table.{noPlace, inPlaces, PlaceWithin, Words}
+use Rattle.words.specs.Word.{Words}
+use Rattle.table.specs.Table.{noPlace, inPlaces, PlaceWithin}
 use Rattle.table.proofs.Holding.{held-none, held-more, met-shares, frames-rule}
 use Rattle.table.proofs.Twice.{NoTwo, none-yet, two-found, two-missed, two-none}
 

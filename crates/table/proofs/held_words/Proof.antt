@@ -6,7 +6,8 @@ use Prim.Native.Nat.{ℕ, _-_, _<_, _≤_}
 use native.Mathlib.Omega.{arith}
 use lib.ListN.{getD}
 use Rattle.ledger.specs.Sessions.{heldIn}
-use Rattle.table.specs.Table.{noPlace, inPlaces, PlaceWithin, Words}
+use Rattle.words.specs.Word.{Words}
+use Rattle.table.specs.Table.{noPlace, inPlaces, PlaceWithin}
 use Rattle.table.proofs.Holding.{held-none, held-more, held-all}
 
 abbrev Inv-loop : tie.InvT-loop

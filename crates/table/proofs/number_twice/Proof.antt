@@ -4,7 +4,7 @@ use Rattle.table.proofs.number_twice.Tie as tie
 use borrow.Author.Needs.{needs}
 use Prim.Native.Nat.{_-_, _≤_}
 use Rattle.ledger.specs.Sound.{sameNumber}
-use Rattle.table.specs.Table.{Words}
+use Rattle.words.specs.Word.{Words}
 use Rattle.table.proofs.Numbers.{seenIn, none-seen}
 use Rattle.table.proofs.Twice.{NoTwo, none-yet}
 use mathlib.Core.Path.{refl, _∙_}
