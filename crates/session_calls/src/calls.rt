@@ -6,12 +6,14 @@ use super::show;
 use network::Link;
 use network::Network;
 use state::State;
+ghost use Prim.Native.Nat.{_≤_};
 
-// The place where the next link's values begin: after the link at this place, if there are more.
+// The place where the values of the next link begin, if there are more.
 fn next_link(at: usize, more: bool) -> usize
+    requires { ⌜ at ≤ 37 ⌝ }
     ensures { λ r. ⌜ r ≤ 37 ⌝ }
 {
-    if more && at <= 34 { at + 3 } else { at % 38 }
+    if more { (at + 3) % 38 } else { at }
 }
 
 // The links whose values stand after T. The places that are not in use hold the last of them.
