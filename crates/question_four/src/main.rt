@@ -10,7 +10,6 @@ use network::Network;
 use search::Answer;
 use search::Found;
 use state::Reply;
-use state::State;
 
 // The cycle, in ticks.
 const CYCLE: u16 = 48;
@@ -196,18 +195,17 @@ fn link(frames: u16, range: u16) -> Link {
     }
 }
 
-// The state of the network of these links, without sessions.
-fn fresh() -> State {
+// The network of these links.
+fn network() -> Network {
     let mut links = [link(8, 2); 32];
     links[2] = link(16, 4);
     links[3] = link(4, 2);
     links[5] = link(6, 2);
-    let begun = sessions::begin(Network {
+    Network {
         ticks: CYCLE,
         count: 6,
         links,
-    });
-    begun.state
+    }
 }
 
 // What a quote says where it should refuse.
@@ -229,7 +227,8 @@ fn show_reply(reply: Reply) {
 // A case that goes no further than the checks of its route, of two links.
 fn checked_route(name: &[u8], first: u8, second: u8) {
     let route = [first, second];
-    let served = sessions::quote(fresh(), &route);
+    let begun = sessions::begin(network());
+    let served = sessions::quote(begun.state, &route);
     let answer = served.answer;
     let reply = answer.reply;
     text(name);

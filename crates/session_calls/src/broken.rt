@@ -117,21 +117,16 @@ pub(super) fn put(st: State, line: &[u8]) -> State {
     next
 }
 
-// A state handed to five calls: what they answer, and whether the states they return have as many sessions.
+// A state handed to five calls, each on what the one before returned, and whether as many sessions are live in the end.
 fn handed(st: State) {
-    show::text(b": S");
-    let a = live(calls::set_up(st, b"S 9 0"));
-    show::text(b", Q");
-    let b = live(calls::quote(st, b"Q 0"));
-    show::text(b", R");
-    let c = live(calls::release(st, 5));
-    show::text(b", L");
-    let d = live(calls::lookup(st, 5, false));
-    show::text(b", F");
-    let e = live(calls::free_frames(st, 0));
-    let n = live(st);
-    show::text(b", live");
-    show::same(a == n && b == n && c == n && d == n && e == n);
+    show::text(b":");
+    let first = calls::set_up(st, b"S 9 0");
+    let second = calls::quote(first, b"Q 0");
+    let third = calls::release(second, 5);
+    let fourth = calls::lookup(third, 5, false);
+    let last = calls::free_frames(fourth, 0);
+    show::text(b" live");
+    show::same(live(last) == live(st));
 }
 
 // A state built by hand by the changes after the colon. The state itself stays.

@@ -5,6 +5,7 @@ use super::many;
 use super::show;
 use network::Link;
 use network::Network;
+use sessions::Begun;
 use state::State;
 ghost use Prim.Native.Nat.{_≤_};
 
@@ -23,7 +24,7 @@ fn links(values: &[u64; lines::MOST], count: usize) -> [Link; 32] {
         range: 0,
         closed: 0,
     }; 32];
-    let mut at: usize = 1;
+    let mut at: usize = 2;
     let mut i: usize = 0;
     while i < 32 {
         links[i] = Link {
@@ -37,20 +38,20 @@ fn links(values: &[u64; lines::MOST], count: usize) -> [Link; 32] {
     links
 }
 
-// The state of a fresh network.
-fn begin(line: &[u8]) -> State {
+fn begin(line: &[u8]) -> Begun {
     let values = lines::values(line);
-    let count = lines::words_after(line, 1) / 3;
-    let begun = sessions::begin(Network {
-        ticks: lines::word(values[0]),
+    let count = lines::words_after(line, 2) / 3;
+    sessions::begin(Network {
+        ticks: lines::word(values[1]),
         count,
         links: links(&values, count),
-    });
+    })
+}
+
+fn fresh(line: &[u8]) -> State {
+    let begun = begin(line);
     let verdict = begun.verdict;
-    show::text(b"N ");
-    show::text(line);
     show::verdict(verdict);
-    show::text(b"\n");
     begun.state
 }
 
@@ -74,16 +75,14 @@ pub(super) fn quote(st: State, line: &[u8]) -> State {
     served.state
 }
 
-// A route of 200 links.
+// A set-up and a quote over a route of 200 links.
 fn long_route(st: State) -> State {
     let route = [0u8; 200];
     let first = sessions::set_up(st, 5, &route);
     let answer = first.answer;
-    show::text(b" S");
     show::answer(answer, 0);
     let second = sessions::quote(first.state, &route);
     let answer = second.answer;
-    show::text(b", Q");
     show::answer(answer, 0);
     second.state
 }
@@ -114,6 +113,9 @@ fn more_calls(st: State, line: &[u8], letter: u8) -> State {
     let values = lines::values(line);
     let from = lines::word(values[1]);
     let to = lines::word(values[2]);
+    if letter == b'N' {
+        return fresh(line);
+    }
     if letter == b'M' {
         return many::set_up_all(st, from, to, lines::byte(values[3]));
     }
@@ -157,9 +159,10 @@ fn call(st: State, line: &[u8]) -> State {
     more_calls(st, line, letter)
 }
 
-// A fresh network, and then every line of a text on the state that the line before it left; each ends with a line end.
-pub(super) fn run(network: &[u8], text: &[u8]) {
-    let mut st = begin(network);
+// Every line of a text, on the state that the line before it left; each ends with a line end. A line that is no call is only shown.
+pub(super) fn run(text: &[u8]) {
+    let begun = begin(b"N");
+    let mut st = begun.state;
     let mut from = 0;
     while from < text.len() {
         let end = lines::find(text, from, b'\n');

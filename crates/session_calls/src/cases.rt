@@ -1,13 +1,12 @@
-// The cases of each section. A section begins with a line that names it.
+// The cases of each section. A section begins with a line that names it, after a number sign.
 use super::calls;
-use super::show;
 
 // The five calls of "The program frames", and what is stored after each.
 pub(super) fn worked_example() {
-    show::text(b"The worked example\n");
     calls::run(
-        b"48 8 2 0 8 2 0",
-        b"L 5\nL 0\nF 0\nF 1\n\
+        b"# The worked example\n\
+          N 48 8 2 0 8 2 0\n\
+          L 5\nL 0\nF 0\nF 1\n\
           S 5 0 1\nL 5\nF 0\nF 1\n\
           S 5 0 1\nL 5\nF 0\nF 1\n\
           R 5\nL 5\nF 0\nF 1\n\
@@ -18,10 +17,10 @@ pub(super) fn worked_example() {
 
 // Refusals 12 to 15 and their order, each for a set-up and a quote, and routes that just pass.
 pub(super) fn refused_routes() {
-    show::text(b"Refusals of the route\n");
     calls::run(
-        b"48 4 2 0 6 2 0 8 2 0 8 2 0 8 2 0 8 2 0 8 2 0 8 2 0 8 2 0 8 2 0 8 2 255 12 1 0",
-        b"S 5\nQ\n\
+        b"# Refusals of the route\n\
+          N 48 4 2 0 6 2 0 8 2 0 8 2 0 8 2 0 8 2 0 8 2 0 8 2 0 8 2 0 8 2 0 8 2 255 12 1 0\n\
+          S 5\nQ\n\
           S 5 0 2 3 4 5 6 7 8 9\nQ 0 2 3 4 5 6 7 8 9\n\
           W\n\
           S 5 12 12 12 12 12 12 12 12 12\nQ 12 12 12 12 12 12 12 12 12\n\
@@ -53,10 +52,10 @@ pub(super) fn refused_routes() {
 
 // Link 0 has three frames to give. Filled, it blocks routes that end in it; a released frame is given again.
 pub(super) fn filled_link() {
-    show::text(b"A link is filled\n");
     calls::run(
-        b"48 4 2 2 8 2 0 8 2 0",
-        b"F 0\nQ 1 2 0\n\
+        b"# A link is filled\n\
+          N 48 4 2 2 8 2 0 8 2 0\n\
+          F 0\nQ 1 2 0\n\
           S 1 0\nF 0\n\
           S 2 0\nF 0\n\
           S 3 0\nF 0\n\
@@ -69,10 +68,10 @@ pub(super) fn filled_link() {
 
 // As many sessions as there can be, on two links; link 2 is closed throughout and its rate is apart from theirs.
 pub(super) fn most_sessions() {
-    show::text(b"96 live sessions\n");
     calls::run(
-        b"192 64 64 0 64 64 0 48 2 281474976710655",
-        b"M 0 64 0\nF 0\n\
+        b"# 96 live sessions\n\
+          N 192 64 64 0 64 64 0 48 2 281474976710655\n\
+          M 0 64 0\nF 0\n\
           M 64 96 1\nF 1\n\
           L 0\nL 63\nL 64\nL 95\nL 96\n\
           S 96 1\nS 96 2\nS 40 1\nS 40 2\n\
@@ -93,10 +92,10 @@ pub(super) fn most_sessions() {
 
 // Routes of unequal rates over link 1, which has the frames 7 and 8 to give.
 pub(super) fn shared_links() {
-    show::text(b"Routes that share links\n");
     calls::run(
-        b"48 8 2 0 16 4 65151 4 2 0 8 2 0",
-        b"F 1\n\
+        b"# Routes that share links\n\
+          N 48 8 2 0 16 4 65151 4 2 0 8 2 0\n\
+          F 1\n\
           Q 2 1 0\nQ 2 1 0\n\
           S 1 0 1 2\n\
           Q 0 1 2\nQ 0 1 2\n\
@@ -118,10 +117,10 @@ pub(super) fn shared_links() {
 
 // States whose links or sessions are broken in one way; and that check 0 comes before every other.
 pub(super) fn broken_sessions() {
-    show::text(b"Broken sessions\n");
     calls::run(
-        b"48 8 2 0 8 2 0 4 2 0 6 2 0 8 2 0",
-        b"S 5 0 1\nS 6 0 1\nL 5\nL 6\n\
+        b"# Broken sessions\n\
+          N 48 8 2 0 8 2 0 4 2 0 6 2 0 8 2 0\n\
+          S 5 0 1\nS 6 0 1\nL 5\nL 6\n\
           B K 0: K 4 0 0\n\
           B K 5 with T 48: K 4 0 5\n\
           B Z 0: Z 4 0 0\n\
@@ -158,31 +157,36 @@ pub(super) fn broken_sessions() {
 
 // States whose network is broken in one way; and states begun on a network that was refused.
 pub(super) fn broken_networks() {
-    show::text(b"Broken networks\n");
     calls::run(
-        b"960 1 1 0 1 1 0",
-        b"S 5 0\nS 6 1\nL 5\nL 6\n\
+        b"# Broken networks\n\
+          N 960 1 1 0 1 1 0\n\
+          S 5 0\nS 6 1\nL 5\nL 6\n\
           B 0 links: links 0 0 0\n\
           B 0 links and no sessions: links 0 0 0 sessions 0 0 0\n\
           B 33 links: links 0 0 33\n\
           B as many links as there can be: links 0 0 18446744073709551615\n\
           B T 0: ticks 0 0 0\n\
           B T 961: ticks 0 0 961\n\
-          B K 96 with T 960: K 1 0 96\n",
+          B K 96 with T 960: K 1 0 96\n\
+          N 48\n\
+          Q 0\n\
+          N 0 8 2 0\n\
+          Q 0\n\
+          N 48 5 2 0\n\
+          S 5 0\n\
+          N 48 8 9 0\n\
+          R 5\n\
+          N 48 8 2 256\n\
+          F 0\n",
     );
-    calls::run(b"48", b"Q 0\n");
-    calls::run(b"0 8 2 0", b"Q 0\n");
-    calls::run(b"48 5 2 0", b"S 5 0\n");
-    calls::run(b"48 8 9 0", b"R 5\n");
-    calls::run(b"48 8 2 256", b"F 0\n");
 }
 
 // A full table, broken in one way.
 pub(super) fn broken_tables() {
-    show::text(b"Broken tables\n");
     calls::run(
-        b"192 64 64 0 64 64 0",
-        b"M 0 64 0\nM 64 96 1\nL 95\n\
+        b"# Broken tables\n\
+          N 192 64 64 0 64 64 0\n\
+          M 0 64 0\nM 64 96 1\nL 95\n\
           B 97 sessions: sessions 0 0 97\n\
           B as many sessions as there can be: sessions 0 0 18446744073709551615\n\
           B the first number again in the last place: number 95 0 0\n\
@@ -194,10 +198,10 @@ pub(super) fn broken_tables() {
 
 // A state is not broken by what stands in places that are not in use: of a route, of the frames, of the table and of the links.
 pub(super) fn unused_places() {
-    show::text(b"Places that are not in use\n");
     calls::run(
-        b"48 8 2 0 8 2 0 4 2 0 6 2 0 8 2 0",
-        b"S 5 0 1\nS 6 0 1\n\
+        b"# Places that are not in use\n\
+          N 48 8 2 0 8 2 0 4 2 0 6 2 0 8 2 0\n\
+          S 5 0 1\nS 6 0 1\n\
           P route 0 2 200 frame 0 2 9 frame 0 7 255\n\
           P number 2 0 5 hops 2 0 9 delay 2 0 7\n\
           P number 95 0 6 hops 95 0 1 frame 95 0 7\n\

@@ -6,10 +6,13 @@ use Rattle.session_calls.proofs.calls.run.Statement.{statement}
 use Rattle.session_calls.proofs.calls.run.Tie as tie
 
 abbrev Inv-loop : tie.InvT-loop
-Inv-loop network text st₀ from₀ t7 st from = from ≤ length text
+Inv-loop text st₀ from₀ t8 st from = from ≤ length text
 
 abbrev μ-loop : tie.MeasureT-loop
-μ-loop network text st₀ from₀ t7 st from = length text - from
+μ-loop text st₀ from₀ t8 st from = length text - from
+
+slice-aggregate-begin : tie.Need-slice-aggregate-begin Inv-loop μ-loop
+slice-aggregate-begin c = search needs
 
 begin-requires : tie.Need-begin-requires Inv-loop μ-loop
 begin-requires c κs = search needs
@@ -62,6 +65,7 @@ run-spec =
     (tie.spec
     Inv-loop
     μ-loop
+    slice-aggregate-begin
     begin-requires
     loop-holds
     find-requires
