@@ -1,5 +1,5 @@
 // States built by hand. A change is written as four words: a field's name, the link or the table's place that has it, the place in the route or in the
-// frames, and the new value; 0 stands where a field needs no place. Up to three changes stand in a line.
+// frames, and the new value; 0 stands where a field needs no place. One or two changes stand in a line.
 use super::calls;
 use super::lines;
 use super::show;
@@ -80,28 +80,27 @@ fn changed_table(change: Change, table: Table) -> Table {
     next
 }
 
-// The change whose words stand from a place on, on a state.
-fn with_change(st: State, values: &[u64; lines::MOST], from: usize) -> State
+// The change whose words stand from a place on.
+fn change_at(values: &[u64; lines::MOST], from: usize) -> Change
     requires { ⌜ from ≤ 36 ⌝ }
 {
-    let change = Change {
+    Change {
         field: lines::byte(values[from]),
         at: values[from + 1] as usize,
         index: values[from + 2] as usize,
         value: values[from + 3],
-    };
-    State {
-        network: changed_network(change, st.network),
-        table: changed_table(change, st.table),
     }
 }
 
 // The state with the changes that stand after a text's first word.
 fn built(st: State, text: &[u8]) -> State {
     let values = lines::values(text);
-    let first = with_change(st, &values, 1);
-    let second = with_change(first, &values, 5);
-    with_change(second, &values, 9)
+    let first = change_at(&values, 1);
+    let second = change_at(&values, 5);
+    State {
+        network: changed_network(second, changed_network(first, st.network)),
+        table: changed_table(second, changed_table(first, st.table)),
+    }
 }
 
 fn live(st: State) -> usize {
@@ -119,9 +118,10 @@ pub(super) fn put(st: State, line: &[u8]) -> State {
 
 // A state handed to five calls, each on what the one before returned, and whether as many sessions are live in the end.
 fn handed(st: State) {
+    let route = [0u8; 1];
     show::text(b":");
-    let first = calls::set_up(st, b"S 9 0");
-    let second = calls::quote(first, b"Q 0");
+    let first = calls::set_up(st, 9, &route);
+    let second = calls::quote(first, &route);
     let third = calls::release(second, 5);
     let fourth = calls::lookup(third, 5, false);
     let last = calls::free_frames(fourth, 0);

@@ -55,36 +55,35 @@ fn fresh(line: &[u8]) -> State {
     begun.state
 }
 
-pub(super) fn set_up(st: State, line: &[u8]) -> State {
-    let values = lines::values(line);
-    let route = lines::route(&values, 2);
-    let n = lines::words_after(line, 2);
-    let served = sessions::set_up(st, lines::word(values[1]), &route[..n]);
+pub(super) fn set_up(st: State, number: u16, route: &[u8]) -> State {
+    let served = sessions::set_up(st, number, route);
     let answer = served.answer;
-    show::answer(answer, n);
+    show::answer(answer, route.len());
     served.state
 }
 
-pub(super) fn quote(st: State, line: &[u8]) -> State {
-    let values = lines::values(line);
-    let route = lines::route(&values, 1);
-    let n = lines::words_after(line, 1);
-    let served = sessions::quote(st, &route[..n]);
+pub(super) fn quote(st: State, route: &[u8]) -> State {
+    let served = sessions::quote(st, route);
     let answer = served.answer;
-    show::answer(answer, n);
+    show::answer(answer, route.len());
     served.state
 }
 
-// A set-up and a quote over a route of 200 links.
+// A set-up, or a quote, whose route has two words before it, or one.
+fn route_call(st: State, line: &[u8], number: u16, before: usize) -> State {
+    let values = lines::values(line);
+    let links = lines::route(&values, before);
+    let n = lines::words_after(line, before);
+    let route = &links[..n];
+    if before == 2 {
+        return set_up(st, number, route);
+    }
+    quote(st, route)
+}
+
 fn long_route(st: State) -> State {
     let route = [0u8; 200];
-    let first = sessions::set_up(st, 5, &route);
-    let answer = first.answer;
-    show::answer(answer, 0);
-    let second = sessions::quote(first.state, &route);
-    let answer = second.answer;
-    show::answer(answer, 0);
-    second.state
+    quote(set_up(st, 5, &route), &route)
 }
 
 pub(super) fn release(st: State, number: u16) -> State {
@@ -108,9 +107,8 @@ pub(super) fn free_frames(st: State, link: u8) -> State {
     tallied.state
 }
 
-// The calls that go beyond one of the document's.
-fn more_calls(st: State, line: &[u8], letter: u8) -> State {
-    let values = lines::values(line);
+// The lines that are more, or less, than a call on a session.
+fn more_calls(st: State, line: &[u8], values: &[u64; lines::MOST], letter: u8) -> State {
     let from = lines::word(values[1]);
     let to = lines::word(values[2]);
     if letter == b'N' {
@@ -139,10 +137,10 @@ fn call(st: State, line: &[u8]) -> State {
     let letter = lines::byte(values[0]);
     let number = lines::word(values[1]);
     if letter == b'S' {
-        return set_up(st, line);
+        return route_call(st, line, number, 2);
     }
     if letter == b'Q' {
-        return quote(st, line);
+        return route_call(st, line, number, 1);
     }
     if letter == b'R' {
         return release(st, number);
@@ -156,7 +154,7 @@ fn call(st: State, line: &[u8]) -> State {
     if letter == b'F' {
         return free_frames(st, lines::byte(values[1]));
     }
-    more_calls(st, line, letter)
+    more_calls(st, line, &values, letter)
 }
 
 // Every line of a text, on the state that the line before it left; each ends with a line end. A line that is no call is only shown.

@@ -120,7 +120,7 @@ pub(super) fn broken_sessions() {
     calls::run(
         b"# Broken sessions\n\
           N 48 8 2 0 8 2 0 4 2 0 6 2 0 8 2 0\n\
-          S 5 0 1\nS 6 0 1\nL 5\nL 6\n\
+          S 5 0 1\nS 6 0 1\nS 7 4\nL 5\nL 6\nL 7\n\
           B K 0: K 4 0 0\n\
           B K 5 with T 48: K 4 0 5\n\
           B Z 0: Z 4 0 0\n\
@@ -136,16 +136,16 @@ pub(super) fn broken_sessions() {
           B a link twice: route 1 1 0\n\
           B rates apart: route 0 1 3 delay 0 0 8\n\
           B hold 3 with Z 2: frame 0 1 2 delay 0 0 18\n\
-          B frame 8 with K 8: hops 0 0 1 frame 0 0 8 delay 0 0 0\n\
+          B frame 8 with K 8: frame 2 0 8\n\
           B frame 8 with K 8 at the last hop: frame 0 1 8\n\
-          B frame 255: hops 0 0 1 frame 0 0 255 delay 0 0 0\n\
+          B frame 255: frame 2 0 255\n\
           B closed frame held at hop 0: closed 0 0 128\n\
           B closed frame held at hop 1: closed 1 0 1\n\
           B delay one too large: delay 0 0 7\n\
           B delay one too small: delay 0 0 5\n\
           B second delay one too large: delay 1 0 7\n\
           B one frame held twice at hop 0: frame 1 0 7 delay 1 0 12\n\
-          B one frame held twice at hop 1: frame 1 0 6 frame 1 1 0 delay 1 0 12\n\
+          B one frame held twice at hop 1: route 2 0 1\n\
           L 5\n\
           P delay 0 0 7\n\
           S 5\nS 9 9 9\nQ\nR 9\nL 9\nF 200\n\
@@ -202,10 +202,11 @@ pub(super) fn unused_places() {
         b"# Places that are not in use\n\
           N 48 8 2 0 8 2 0 4 2 0 6 2 0 8 2 0\n\
           S 5 0 1\nS 6 0 1\n\
-          P route 0 2 200 frame 0 2 9 frame 0 7 255\n\
-          P number 2 0 5 hops 2 0 9 delay 2 0 7\n\
-          P number 95 0 6 hops 95 0 1 frame 95 0 7\n\
-          P K 5 0 0 closed 31 0 256 Z 31 0 0\n\
+          P route 0 2 200 frame 0 2 9\n\
+          P route 0 7 1 frame 0 7 255\n\
+          P number 2 0 5 hops 2 0 9\n\
+          P number 95 0 6 hops 95 0 1\n\
+          P K 5 0 0 closed 31 0 256\n\
           E 5\nE 6\n\
           F 0\nF 1\nF 5\nF 31\n\
           Q 0 1\nS 7 0 1\nE 7\n\

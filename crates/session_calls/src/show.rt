@@ -79,16 +79,17 @@ pub(super) fn session(shown: Shown, n: usize) {
     let route = shown.route;
     let frames = shown.frames;
     let delay = shown.delay;
-    verdict(said);
     match said {
         Verdict::Passed => {
+            text(b" ok");
             places(&route, n);
             text(b" /");
             places(&frames, n);
             text(b" /");
             next(delay.0 as u64);
         }
-        Verdict::Refused(_) => {
+        Verdict::Refused(refusal) => {
+            no(refusal);
             places(&route, 0);
             places(&frames, 0);
         }
@@ -97,10 +98,12 @@ pub(super) fn session(shown: Shown, n: usize) {
 
 pub(super) fn counted(counted: Counted) {
     let said = counted.verdict;
-    verdict(said);
     match said {
-        Verdict::Passed => next(counted.count as u64),
-        Verdict::Refused(_) => {}
+        Verdict::Passed => {
+            text(b" ok");
+            next(counted.count as u64);
+        }
+        Verdict::Refused(refusal) => no(refusal),
     }
 }
 
