@@ -17,21 +17,24 @@ fn next_link(at: usize, more: bool) -> usize
     if more { (at + 3) % 38 } else { at }
 }
 
+// The link whose values stand from a place on.
+fn link_at(values: &[u64; lines::MOST], at: usize) -> Link
+    requires { ⌜ at ≤ 37 ⌝ }
+{
+    Link {
+        frames: lines::word(values[at]),
+        range: lines::word(values[at + 1]),
+        closed: values[at + 2],
+    }
+}
+
 // The links whose values stand after T. The places that are not in use hold the last of them.
 fn links(values: &[u64; lines::MOST], count: usize) -> [Link; 32] {
-    let mut links = [Link {
-        frames: 0,
-        range: 0,
-        closed: 0,
-    }; 32];
+    let mut links = [link_at(values, 2); 32];
     let mut at: usize = 2;
     let mut i: usize = 0;
     while i < 32 {
-        links[i] = Link {
-            frames: lines::word(values[at]),
-            range: lines::word(values[at + 1]),
-            closed: values[at + 2],
-        };
+        links[i] = link_at(values, at);
         i += 1;
         at = next_link(at, i < count);
     }
@@ -107,54 +110,25 @@ pub(super) fn free_frames(st: State, link: u8) -> State {
     tallied.state
 }
 
-// The lines that are more, or less, than a call on a session.
-fn more_calls(st: State, line: &[u8], values: &[u64; lines::MOST], letter: u8) -> State {
-    let from = lines::word(values[1]);
-    let to = lines::word(values[2]);
-    if letter == b'N' {
-        return fresh(line);
-    }
-    if letter == b'M' {
-        return many::set_up_all(st, from, to, lines::byte(values[3]));
-    }
-    if letter == b'D' {
-        return many::release_all(st, from, to);
-    }
-    if letter == b'W' {
-        return long_route(st);
-    }
-    if letter == b'P' {
-        return broken::put(st, line);
-    }
-    if letter == b'B' {
-        return broken::case(st, line);
-    }
-    st
-}
-
 fn call(st: State, line: &[u8]) -> State {
     let values = lines::values(line);
-    let letter = lines::byte(values[0]);
     let number = lines::word(values[1]);
-    if letter == b'S' {
-        return route_call(st, line, number, 2);
+    let to = lines::word(values[2]);
+    match lines::byte(values[0]) {
+        b'N' => fresh(line),
+        b'S' => route_call(st, line, number, 2),
+        b'Q' => route_call(st, line, number, 1),
+        b'R' => release(st, number),
+        b'L' => lookup(st, number, false),
+        b'E' => lookup(st, number, true),
+        b'F' => free_frames(st, lines::byte(values[1])),
+        b'M' => many::set_up_all(st, number, to, lines::byte(values[3])),
+        b'D' => many::release_all(st, number, to),
+        b'W' => long_route(st),
+        b'P' => broken::put(st, line),
+        b'B' => broken::case(st, line),
+        _ => st,
     }
-    if letter == b'Q' {
-        return route_call(st, line, number, 1);
-    }
-    if letter == b'R' {
-        return release(st, number);
-    }
-    if letter == b'L' {
-        return lookup(st, number, false);
-    }
-    if letter == b'E' {
-        return lookup(st, number, true);
-    }
-    if letter == b'F' {
-        return free_frames(st, lines::byte(values[1]));
-    }
-    more_calls(st, line, &values, letter)
 }
 
 // Every line of a text, on the state that the line before it left; each ends with a line end. A line that is no call is only shown.

@@ -13,38 +13,14 @@ Inv-loop values count links₀ at₀ i₀ links at i = (i ≤ 32) × (at ≤ 37)
 abbrev μ-loop : tie.MeasureT-loop
 μ-loop values count links₀ at₀ i₀ links at i = 32 - i
 
+link-at-requires : tie.Need-link-at-requires Inv-loop μ-loop
+link-at-requires c κs = search needs
+
 loop-holds : tie.Need-loop-holds Inv-loop μ-loop
 loop-holds c = search needs
 
-mul-word : tie.Need-mul-word Inv-loop μ-loop
-mul-word c = search needs
-
-element-copy-out-word : tie.Need-element-copy-out-word Inv-loop μ-loop
-element-copy-out-word c = search needs
-
-word-requires : tie.Need-word-requires Inv-loop μ-loop
-word-requires c κs = search needs
-
-add-word : tie.Need-add-word Inv-loop μ-loop
-add-word c = search needs
-
-mul-word-2 : tie.Need-mul-word-2 Inv-loop μ-loop
-mul-word-2 c = search needs
-
-element-copy-out-word-2 : tie.Need-element-copy-out-word-2 Inv-loop μ-loop
-element-copy-out-word-2 c = search needs
-
-word-requires-2 : tie.Need-word-requires-2 Inv-loop μ-loop
-word-requires-2 c κs = search needs
-
-add-t19 : tie.Need-add-t19 Inv-loop μ-loop
-add-t19 c = search needs
-
-mul-t20 : tie.Need-mul-t20 Inv-loop μ-loop
-mul-t20 c = search needs
-
-element-copy-out-t23 : tie.Need-element-copy-out-t23 Inv-loop μ-loop
-element-copy-out-t23 c = search needs
+link-at-requires-2 : tie.Need-link-at-requires-2 Inv-loop μ-loop
+link-at-requires-2 c κs = search needs
 
 mul-links : tie.Need-mul-links Inv-loop μ-loop
 mul-links c = search needs
@@ -73,17 +49,9 @@ links-spec =
     (tie.spec
     Inv-loop
     μ-loop
+    link-at-requires
     loop-holds
-    mul-word
-    element-copy-out-word
-    word-requires
-    add-word
-    mul-word-2
-    element-copy-out-word-2
-    word-requires-2
-    add-t19
-    mul-t20
-    element-copy-out-t23
+    link-at-requires-2
     mul-links
     array-set-from-links
     add-i
