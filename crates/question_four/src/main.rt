@@ -14,6 +14,13 @@ use state::Reply;
 // The cycle, in ticks.
 const CYCLE: u16 = 48;
 
+// The numbers of the links in their network: A, B, C, D, E and F are 0 to 5.
+const LINK_A: u8 = 0;
+
+const LINK_D: u8 = 3;
+
+const LINK_F: u8 = 5;
+
 // The refusal where no schedule exists.
 const NO_SCHEDULE: u16 = 18;
 
@@ -179,13 +186,6 @@ fn unequal_rates() {
     two_hops(b"A{4,5} D{3}", F4 | F5, link_d(F3));
 }
 
-// The links by their numbers: A, B, C, D, E and F are 0 to 5.
-const A: u8 = 0;
-
-const D: u8 = 3;
-
-const F: u8 = 5;
-
 // A link without closed frames.
 fn link(frames: u16, range: u16) -> Link {
     Link {
@@ -208,7 +208,7 @@ fn network() -> Network {
     }
 }
 
-// What a quote says where it should refuse.
+// What a quote says, of its schedule only the delay and the count.
 fn show_reply(reply: Reply) {
     match reply {
         Reply::Schedule(delay, count) => {
@@ -239,6 +239,6 @@ fn checked_route(name: &[u8], first: u8, second: u8) {
 fn main() {
     equal_rates();
     unequal_rates();
-    checked_route(b"D F", D, F);
-    checked_route(b"A A", A, A);
+    checked_route(b"D F", LINK_D, LINK_F);
+    checked_route(b"A A", LINK_A, LINK_A);
 }

@@ -30,10 +30,10 @@ fn changed(change: Change, field: u8, old: u64) -> u64 {
 
 // A change of one place of eight, if this is the field.
 fn changed_in(change: Change, field: u8, old: [u8; 8]) -> [u8; 8] {
-    let mut eight = old;
     if change.field != field {
         return old;
     }
+    let mut eight = old;
     eight[change.index % 8] = lines::byte(change.value);
     eight
 }
@@ -116,17 +116,19 @@ pub(super) fn put(st: State, line: &[u8]) -> State {
     next
 }
 
-// A state handed to five calls, each on what the one before returned, and whether as many sessions are live in the end.
+// A state handed to five calls, each on what the one before returned, and whether each left as many sessions live.
 fn handed(st: State) {
+    let n = live(st);
     let route = [0u8; 1];
     show::text(b":");
     let first = calls::set_up(st, 9, &route);
     let second = calls::quote(first, &route);
     let third = calls::release(second, 5);
     let fourth = calls::lookup(third, 5, false);
-    let last = calls::free_frames(fourth, 0);
+    let fifth = calls::free_frames(fourth, 0);
     show::text(b" live");
-    show::same(live(last) == live(st));
+    let early = live(first) == n && live(second) == n && live(third) == n;
+    show::same(early && live(fourth) == n && live(fifth) == n);
 }
 
 // A state built by hand by the changes after the colon. The state itself stays.

@@ -10,7 +10,7 @@
 //   D from to: a release for each of these numbers; how many were accepted
 //   W: a set-up and a quote over a route of 200 links
 //   P changes: a state built by hand takes the place of the state; how many sessions it says are live
-//   B name: a state built by hand is handed to S, Q, R, L and F in turn; their answers, and whether as many sessions are live. The state itself stays
+//   B name: a state built by hand is handed to S, Q, R, L and F in turn; their answers, and whether as many sessions stay live. The state itself stays
 // A place that is not in use is shown only where it doesn't hold 0.
 // The expected lines, in the file stdout, are written by hand from the document.
 mod broken;
