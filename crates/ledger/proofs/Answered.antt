@@ -6,8 +6,8 @@ use Prim.Native.Nat.{ℕ}
 use lib.ListN.{length}
 use Rattle.trellis.specs.Answer.{found, blocked}
 use Rattle.trellis.specs.Answer as trellis
-use Rattle.refusals.specs.Refusals.{Ruling, given, refused, pass, refuseIf, orElse}
-use Rattle.refusals.proofs.Refusals.{past}
+use Rattle.refusals.specs.Refusals.{given, pass, refuseIf, orElse}
+use Rattle.refusals.proofs.Refusals.{past, not-refused, both-passed}
 use Rattle.network.specs.Network.{Topology}
 use Rattle.forwarding.specs.Schedule.{routeAnswer, RouteAnswer, IsSchedule, Given, transitions}
 use Rattle.forwarding.proofs.Answers.{answer-rules, found-given, blocked-none}
@@ -17,7 +17,7 @@ use Rattle.ledger.specs.Sound.{intact}
 use Rattle.ledger.specs.Calls.{Call, SetUp, Quote, Release, Reply, replyOf, unless, full, callCheck, served, reply}
 use Rattle.ledger.specs.Demand.{Served, scheduled, none, ServedCall}
 use Rattle.ledger.proofs.Lists.{clash}
-use Rattle.ledger.proofs.Intact.{route-good, not-refused}
+use Rattle.ledger.proofs.Intact.{route-good}
 
 -- the answer of a call where 0 doesn't refuse
 abbrev pub answerOn : Topology → List Session → Call → Reply
@@ -33,15 +33,10 @@ pub record Admitted (net : Topology) (ss : List Session) (n : ℕ) (route : List
   pub unused : isLive n ss ≡ false
   pub room : full ss ≡ false
 
--- of two checks that passed, each did
-both : (a b : Ruling) → orElse a b ≡ given pass → (a ≡ given pass) × (b ≡ given pass)
-both (given pass) b e = (refl, e)
-both (refused n) b e = (cc, cc)
-
 pub admitted : (net : Topology) (ss : List Session) (n : ℕ) (route : List ℕ) → callCheck net ss (SetUp n route) ≡ given pass → Admitted net ss n route
 unfolding callCheck
 admitted net ss n route e =
-    let a = both (routeCheck net route) (orElse (refuseIf (isLive n ss) 16) (refuseIf (full ss) 17)) e in
+    let a = both-passed (routeCheck net route) (orElse (refuseIf (isLive n ss) 16) (refuseIf (full ss) 17)) e in
     let b = past (isLive n ss) 16 (refuseIf (full ss) 17) pass (a .1) in
     record { passed = a .0; unused = b .0; room = not-refused (full ss) 17 (b .1) }
 
@@ -73,6 +68,6 @@ module _ (net : Topology) (ss : List Session) where
   -- WHAT NO CHECK REFUSED IS SERVED: a least schedule over the frames then free, or blocked where there is none
   pub call-served : (call : Call) → callCheck net ss call ≡ given pass → ServedCall net ss call (served net ss call)
   unfolding callCheck served
-  call-served (SetUp n route) e = route-served route (both (routeCheck net route) (orElse (refuseIf (isLive n ss) 16) (refuseIf (full ss) 17)) e .0)
+  call-served (SetUp n route) e = route-served route (both-passed (routeCheck net route) (orElse (refuseIf (isLive n ss) 16) (refuseIf (full ss) 17)) e .0)
   call-served (Quote route) e = route-served route e
   call-served (Release n) e = refl

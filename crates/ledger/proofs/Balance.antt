@@ -21,7 +21,7 @@ use Rattle.ledger.specs.Sound.{sameNumber, numberTwice}
 use Rattle.ledger.specs.Calls.{Call, SetUp, Quote, Release, replyOf, unless, callCheck, served, Effect, enters, strikes, leaves, effect, otherThan, apply}
 use Rattle.ledger.specs.Ledger.{isEntering, isStriking}
 use Rattle.ledger.proofs.Lists.{clash, either, none-all, keep-all}
-use Rattle.ledger.proofs.Intact.{not-refused}
+use Rattle.refusals.proofs.Refusals.{not-refused}
 use Rattle.ledger.proofs.Answered.{answerOn}
 
 -- a release strikes out one session

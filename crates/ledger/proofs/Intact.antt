@@ -9,7 +9,7 @@ use lib.Dec.{eqb, leb}
 use borrow.Author.Tests.{eq-eqb, eqb-true, le-leb, leb-true, not-true}
 use Rattle.trellis.proofs.Count as tests
 use Rattle.refusals.specs.Refusals.{Ruling, given, refused, pass, refuseIf, orElse}
-use Rattle.refusals.proofs.Refusals.{past}
+use Rattle.refusals.proofs.Refusals.{past, not-refused}
 use Rattle.network.specs.Network.{Topology}
 use Rattle.network.specs.Checks.{networkCheck}
 use Rattle.forwarding.specs.Schedule.{IsSchedule, isSchedule, scheduleDelay}
@@ -35,10 +35,6 @@ pub record GoodRoute (net : Topology) (route : List ℕ) : Type 0 where
   pub once : linkTwice route ≡ false
   pub rates : ratesApart (ratesOf net route) ≡ false
 
-pub not-refused : (b : Bool) (n : ℕ) → refuseIf b n ≡ given pass → b ≡ false
-not-refused true n e = cc
-not-refused false n e = refl
-
 pub route-good : (net : Topology) (route : List ℕ) → routeCheck net route ≡ given pass → GoodRoute net route
 unfolding routeCheck
 route-good net route e =
@@ -49,10 +45,6 @@ route-good net route e =
     let b : (unknownLink net route ≡ false) × (o ≡ given pass) = past (unknownLink net route) 13 o pass (a .1) in
     let c : (linkTwice route ≡ false) × (r ≡ given pass) = past (linkTwice route) 14 r pass (b .1) in
     record { length = a .0; known = b .0; once = c .0; rates = not-refused (ratesApart (ratesOf net route)) 15 (c .1) }
-
-pub good-route : (net : Topology) (route : List ℕ) → GoodRoute net route → routeCheck net route ≡ given pass
-unfolding routeCheck
-good-route net route g = rw (g .length, g .known, g .once, g .rates)
 
 -- ---- a session that keeps the rules
 pub record GoodSession (net : Topology) (s : Session) : Type 0 where

@@ -80,13 +80,6 @@ module _ {A : Type 0} where
       let both = tests.or-false (p y) (any p ys) h in
       ⊎-elim (λ e. ap p e ∙ both .0) (λ k. none-member p ys (both .1) k) (List·Memᴰ·cases-cons m)
 
-  pub member-any : (p : A → Bool) {x : A} (xs : List A) → List·Memᴰ x xs → p x ≡ true → any p xs ≡ true
-  member-any p {x} xs m h = go (any p xs) refl
-    where
-      go : (b : Bool) → any p xs ≡ b → any p xs ≡ true
-      go true e = e
-      go false e = clash (p x) h (none-member p xs e m)
-
   -- where no element passes, every one fails
   pub none-all : (p : A → Bool) (xs : List A) → any p xs ≡ false → all (λ x. not (p x)) xs ≡ true
   none-all p [] h = refl

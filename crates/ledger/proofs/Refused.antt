@@ -50,6 +50,9 @@ call-plain net ss (SetUp n route) =
 call-plain net ss (Quote route) = route-plain net route
 call-plain net ss (Release n) = special-if (not (isLive n ss)) 19 refl
 
+pub not-eighteen : (net : Topology) (ss : List Session) (call : Call) (k : ℕ) → callCheck net ss call ≡ refused k → k ≡ 18 → ⊥
+not-eighteen net ss call k e q = clash (special (refused k)) (ap (λ (j : ℕ). special (refused j)) q) (ap special (sym e) ∙ call-plain net ss call)
+
 -- ---- what is served and yet refused has the number 18
 route-refusal : (a : trellis.Answer) (k count : ℕ) → replyOf a ≡ refusal k count → k ≡ 18
 route-refusal (found d n fs) k count e = cc

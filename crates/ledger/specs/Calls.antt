@@ -6,7 +6,7 @@ use lib.ListN.{length}
 use lib.Dec.{eqb, leb}
 use Rattle.trellis.specs.Answer.{found, blocked}
 use Rattle.trellis.specs.Answer as trellis
-use Rattle.refusals.specs.Refusals.{Ruling, Outcome, given, refused, pass, refuseIf, orElse}
+use Rattle.refusals.specs.Refusals.{Ruling, Outcome, given, refused, refuseIf, orElse}
 use Rattle.words.specs.Word.{freeFrames}
 use Rattle.network.specs.Network.{Topology}
 use Rattle.forwarding.specs.Schedule.{routeAnswer}

@@ -8,7 +8,7 @@ use Rattle.refusals.specs.Refusals.{Ruling, given, refused, refuseIf}
 use Rattle.network.specs.Network.{Topology}
 use Rattle.network.specs.Checks.{networkCheck}
 use Rattle.forwarding.specs.Schedule.{isSchedule, scheduleDelay}
-use Rattle.ledger.specs.Lists.{all, any, anyTwo}
+use Rattle.ledger.specs.Lists.{all, anyTwo}
 use Rattle.ledger.specs.Sessions.{Session, View, holds, hopsOf}
 use Rattle.ledger.specs.Routes.{routeCheck}
 

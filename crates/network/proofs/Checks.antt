@@ -11,7 +11,7 @@ use Rattle.refusals.specs.Refusals.{Ruling, given, refused, pass, refuseIf, orE
 use Rattle.refusals.specs.declared.Verdict.{Verdict}
 use Rattle.refusals.specs.declared.Verdict.the-variants.{Passed, Refused}
 use Rattle.refusals.specs.declared.Refusal.{Refusal}
-use Rattle.refusals.proofs.Refusals.{past}
+use Rattle.refusals.proofs.Refusals.{past, not-refused, both-passed}
 use Rattle.network.specs.Network.{Topology, noLink, topologyOf}
 use Rattle.network.specs.declared.Network.{Network}
 use Rattle.network.specs.Checks.{badCount, badCycle, badFrames, badRange, badClosed, linkCheck, linksCheck, networkCheck}
@@ -90,10 +90,6 @@ pub record GoodLink (T : ℕ) (l : Link) : Type 0 where
   pub range : badRange (l .frames) (l .range) ≡ false
   pub closed : badClosed (l .frames) (l .closed) ≡ false
 
-last : (b : Bool) (n : ℕ) → refuseIf b n ≡ given pass → b ≡ false
-last true n e = cc
-last false n e = refl
-
 pub link-good : (T : ℕ) (l : Link) → linkCheck T l ≡ given pass → GoodLink T l
 unfolding linkCheck
 link-good T l e =
@@ -101,7 +97,7 @@ link-good T l e =
     let r : Ruling = orElse (refuseIf (badRange (l .frames) (l .range)) 8) c in
     let a : (badFrames T (l .frames) ≡ false) × (r ≡ given pass) = past (badFrames T (l .frames)) 7 r pass e in
     let b : (badRange (l .frames) (l .range) ≡ false) × (c ≡ given pass) = past (badRange (l .frames) (l .range)) 8 c pass (a .1) in
-    record { frames = a .0; range = b .0; closed = last (badClosed (l .frames) (l .closed)) 9 (b .1) }
+    record { frames = a .0; range = b .0; closed = not-refused (badClosed (l .frames) (l .closed)) 9 (b .1) }
 
 -- K and Z of a link that passed fit in a byte
 pub link-few : (T : ℕ) (l : Link) → GoodLink T l → (l .frames ≤ 64) × (l .range ≤ 64)
@@ -133,8 +129,4 @@ good-network t g = rw (g .count, g .cycle) (g .links)
 -- the first of some links that passed, and the others
 pub links-good : (T : ℕ) (l : Link) (ls : List Link) → linksCheck T (l ∷ ls) ≡ given pass → (linkCheck T l ≡ given pass) × (linksCheck T ls ≡ given pass)
 unfolding linksCheck
-links-good T l ls e = both (linkCheck T l) (linksCheck T ls) e
-  where
-    both : (a b : Ruling) → orElse a b ≡ given pass → (a ≡ given pass) × (b ≡ given pass)
-    both (given pass) b e = (refl, e)
-    both (refused n) b e = (cc, cc)
+links-good T l ls e = both-passed (linkCheck T l) (linksCheck T ls) e

@@ -59,3 +59,11 @@ module _ (network : Network) where
 
     pub stored-frames : (k : Link) → k ≡ getD (network .links) l noLink → k .frames ≡ linkAt (topologyOf network) l .frames
     stored-frames k e = rw (stored-link, e)
+
+    -- the same by a number that equals the link's
+    module _ (e : networkCheck (topologyOf network) ≡ given pass) (at : ℕ) (ea : at ≡ l) where
+      pub at-place : at < 32
+      at-place = omega (arith, in-places e, ea)
+
+      pub at-frames : (0 < getD (network .links) at noLink .frames) × (getD (network .links) at noLink .frames ≤ 64)
+      at-frames = rw ea (frames-bounded e)

@@ -9,10 +9,10 @@ ghost use mathlib.Core.Path.{_≡_};
 ghost use mathlib.Core.Bool.{false, _&&_};
 ghost use Prim.Native.Nat.{_<_, _≤_};
 ghost use lib.Dec.{eqb, ltb};
-ghost use lib.ListN.{getD, drop};
+ghost use lib.ListN.{drop};
 ghost use Rattle.places.specs.Places.{firsts};
 ghost use Rattle.refusals.specs.Refusals.{given, pass, ruling};
-ghost use Rattle.network.specs.Network.{noLink, topologyOf};
+ghost use Rattle.network.specs.Network.{topologyOf};
 ghost use Rattle.network.specs.Checks.{networkCheck};
 ghost use Rattle.forwarding.specs.Forwarding.{isFree};
 ghost use Rattle.forwarding.specs.Checked.{Passed, Ready, noHop};
@@ -82,16 +82,6 @@ fn link_twice(route: &[u8]) -> bool
     false
 }
 
-// The link of a number. Checks 2 and 13 guarantee that it stands in its place; check 7 bounds its frames.
-fn link_of(network: Network, link: u8) -> Link
-    requires { ⌜ (networkCheck (topologyOf network) ≡ given pass) × (link < network .count) ⌝ }
-    ensures { λ r. ⌜ (r ≡ getD (network .links) link noLink) × (0 < r .frames) × (r .frames ≤ 64) ⌝ }
-{
-    let links = network.links;
-    let at = link as usize;
-    links[at]
-}
-
 // Whether of two links neither number of frames divides the other. Check 7: neither is 0.
 fn frames_apart(one: u16, other: u16) -> bool
     requires { ⌜ (0 < one) × (0 < other) ⌝ }
@@ -107,9 +97,11 @@ fn rates_apart(network: Network, route: &[u8]) -> bool
 {
     let mut j = 1;
     while j < route.len() {
-        let before = link_of(network, route[j - 1]);
-        let link = link_of(network, route[j]);
-        if frames_apart(before.frames, link.frames) {
+        let before = wide(route[j - 1]);
+        let at = wide(route[j]);
+        let one = network.links[before];
+        let other = network.links[at];
+        if frames_apart(one.frames, other.frames) {
             return true;
         }
         j += 1;
@@ -163,8 +155,9 @@ pub fn route_hops(network: Network, held: &[u64; 32], route: &[u8]) -> [Hop; 8]
     }; 8];
     let mut j = 0;
     while j < route.len() {
-        let link = link_of(network, route[j]);
-        hops[j] = hop_of(link, held[wide(route[j])]);
+        let at = wide(route[j]);
+        let link = network.links[at];
+        hops[j] = hop_of(link, held[at]);
         j += 1;
     }
     hops

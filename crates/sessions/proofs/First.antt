@@ -3,7 +3,7 @@ use mathlib.Core.Path.{_≡_, refl, sym, ap, ap₂, subst, _∙_}
 use mathlib.Core.Bool.{Bool, true, false, not}
 use mathlib.Core.List.{List}
 use Prim.Native.Nat.{ℕ}
-use Rattle.refusals.specs.Refusals.{refusalNumber, refusalCount, Outcome, refused, rulingOf, givenOr}
+use Rattle.refusals.specs.Refusals.{refusalNumber, refusalCount, Outcome, refused}
 use Rattle.refusals.specs.declared.Refusal.{Refusal}
 use Rattle.refusals.specs.declared.Verdict.the-variants as verdict
 use Rattle.ledger.specs.Sessions.{Session}
@@ -13,7 +13,8 @@ use Rattle.ledger.specs.Calls as rules
 use Rattle.state.specs.declared.State.{State}
 use Rattle.state.specs.declared.Answer.{Answer}
 use Rattle.state.specs.declared.Shown.{Shown}
-use Rattle.state.specs.State.{viewOf, Answers, Serves, Releases, Shows}
+use Rattle.state.specs.declared.Counted.{Counted}
+use Rattle.state.specs.State.{viewOf, Answers, Serves, Releases, Shows, Counts}
 use Rattle.state.proofs.Replies.{refusal-leaves, stays}
 use Rattle.sessions.specs.Calls.{Looks, Tallies}
 
@@ -29,44 +30,41 @@ module _ (st : State) (b : Bool) (eb : b ≡ not (intact (viewOf st))) where
   pub quote-serves : (route : List ℕ) (n : ℕ) (a : Answer) → Answers n (reply (viewOf st) (Quote route)) a → Serves st (Quote route) n (record { answer = a; state = st })
   quote-serves route n a w = record { answer = w; after = stays st (Quote route) refl }
 
-  module _ (e : b ≡ true) where
-    is-broken : intact (viewOf st) ≡ false
-    is-broken = turned (intact (viewOf st)) eb .1 e
+  pub is-broken : b ≡ true → intact (viewOf st) ≡ false
+  is-broken = turned (intact (viewOf st)) eb .1
 
-    broken-reply : (call : Call) → reply (viewOf st) call ≡ refusal 0 0
-    unfolding reply
-    broken-reply call = rw is-broken
+module _ (st : State) (e : intact (viewOf st) ≡ false) where
+  broken-reply : (call : Call) → reply (viewOf st) call ≡ refusal 0 0
+  unfolding reply
+  broken-reply call = rw e
 
-    pub broken-serves : (call : Call) (n k count : ℕ) → k ≡ 0 → count ≡ 0 → (a : Answer) → ((m : ℕ) → Answers m (refusal k count) a)
-        → Serves st call n (record { answer = a; state = st })
-    broken-serves call n k count p q a w =
-        record {
-          answer = subst (λ (r : rules.Reply). Answers n r a) (ap₂ refusal p q ∙ sym (broken-reply call)) (w n);
-          after = stays st call (refusal-leaves call (reply (viewOf st) call) 0 0 (broken-reply call));
-        }
+  pub broken-serves : (call : Call) (n k count : ℕ) → k ≡ 0 → count ≡ 0 → (a : Answer) → ((m : ℕ) → Answers m (refusal k count) a)
+      → Serves st call n (record { answer = a; state = st })
+  broken-serves call n k count p q a w =
+      record {
+        answer = subst (λ (r : rules.Reply). Answers n r a) (ap₂ refusal p q ∙ sym (broken-reply call)) (w n);
+        after = stays st call (refusal-leaves call (reply (viewOf st) call) 0 0 (broken-reply call));
+      }
 
-    pub broken-releases : (n : ℕ) (r : Refusal) → refusalNumber r ≡ 0 → refusalCount r ≡ 0 → Releases st n (record { verdict = verdict.Refused r; state = st })
-    broken-releases n r p q =
-        record {
-          answer = ap₂ refusal p q ∙ sym (broken-reply (Release n));
-          after = stays st (Release n) (refusal-leaves (Release n) (reply (viewOf st) (Release n)) 0 0 (broken-reply (Release n)));
-        }
+  pub broken-releases : (n : ℕ) (r : Refusal) → refusalNumber r ≡ 0 → refusalCount r ≡ 0 → Releases st n (record { verdict = verdict.Refused r; state = st })
+  broken-releases n r p q =
+      record {
+        answer = ap₂ refusal p q ∙ sym (broken-reply (Release n));
+        after = stays st (Release n) (refusal-leaves (Release n) (reply (viewOf st) (Release n)) 0 0 (broken-reply (Release n)));
+      }
 
-    broken-lookup : (n : ℕ) → lookup (viewOf st) n ≡ refused 0
-    unfolding lookup
-    broken-lookup n = rw is-broken
+  broken-lookup : (n : ℕ) → lookup (viewOf st) n ≡ refused 0
+  unfolding lookup
+  broken-lookup n = rw e
 
-    pub broken-looks : (n k : ℕ) → k ≡ 0 → (s : Shown) → Shows (refused k) s → Looks st n (record { shown = s; state = st })
-    broken-looks n k p s w =
-        record { shown = subst (λ (o : Outcome Session). Shows o s) (ap refused p ∙ sym (broken-lookup n)) w; same = refl }
+  pub broken-looks : (n k : ℕ) → k ≡ 0 → (s : Shown) → Shows (refused k) s → Looks st n (record { shown = s; state = st })
+  broken-looks n k p s w =
+      record { shown = subst (λ (o : Outcome Session). Shows o s) (ap refused p ∙ sym (broken-lookup n)) w; same = refl }
 
-    broken-count : (l : ℕ) → freeCount (viewOf st) l ≡ refused 0
-    unfolding freeCount
-    broken-count l = rw is-broken
+  broken-count : (l : ℕ) → freeCount (viewOf st) l ≡ refused 0
+  unfolding freeCount
+  broken-count l = rw e
 
-    pub broken-tallies : (l : ℕ) (r : Refusal) → refusalNumber r ≡ 0 → Tallies st l (record { counted = record { verdict = verdict.Refused r; count = 0 }; state = st })
-    broken-tallies l r p =
-        record {
-          counted = record { verdict = ap refused p ∙ sym (ap rulingOf (broken-count l)); count = sym (ap (givenOr 0) (broken-count l)) };
-          same = refl;
-        }
+  pub broken-tallies : (l k : ℕ) → k ≡ 0 → (r : Counted) → Counts (refused k) r → Tallies st l (record { counted = r; state = st })
+  broken-tallies l k p r w =
+      record { counted = subst (λ (o : Outcome ℕ). Counts o r) (ap refused p ∙ sym (broken-count l)) w; same = refl }

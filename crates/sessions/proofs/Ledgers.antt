@@ -1,18 +1,17 @@
 -- DEMAND 3 of the stored states that the calls return. Assumes nothing.
-use mathlib.Core.Path.{_≡_, refl, sym, ap, subst, _∙_}
+use mathlib.Core.Path.{_≡_, sym, ap, subst, _∙_}
 use mathlib.Core.Bool.{true}
-use mathlib.Core.List.{List, [], _∷_}
-use Prim.Native.Nat.{ℕ}
+use mathlib.Core.List.{List, _∷_}
 use Rattle.refusals.specs.Refusals.{given, pass, ruling}
 use Rattle.refusals.specs.declared.Verdict.the-variants.{Passed}
-use Rattle.network.specs.Network.{Topology, topologyOf}
+use Rattle.network.specs.Network.{topologyOf}
 use Rattle.network.specs.Checks.{networkCheck}
 use Rattle.network.specs.declared.Network.{Network}
 use Rattle.ledger.specs.Sessions.{View}
 use Rattle.ledger.specs.Sound.{intact}
 use Rattle.ledger.specs.Calls.{Call, SetUp, Quote, Release, Reply, reply, next}
 use Rattle.ledger.specs.Ledger.{Step, did}
-use Rattle.ledger.specs.Demand.{fresh, Demand3, Runs, over, then}
+use Rattle.ledger.specs.Demand.{Demand3, Runs, over, then}
 use Rattle.ledger.proofs.Intact.{fresh-intact}
 use Rattle.ledger.proofs.Whole.{demand3}
 use Rattle.state.specs.declared.State.{State}

@@ -3,7 +3,7 @@ use mathlib.Core.Path.{_≡_}
 use mathlib.Core.List.{List, [], _∷_}
 use Prim.Native.Nat.{ℕ}
 use lib.ListN.{length}
-use Rattle.refusals.specs.Refusals.{given, pass, ruling}
+use Rattle.refusals.specs.Refusals.{ruling}
 use Rattle.network.specs.Network.{topologyOf}
 use Rattle.network.specs.Checks.{networkCheck}
 use Rattle.network.specs.declared.Network.{Network}

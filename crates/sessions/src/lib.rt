@@ -12,11 +12,14 @@ use state::State;
 use table::Place;
 use table::Table;
 ghost use mathlib.Core.Path.{_≡_};
+ghost use mathlib.Core.Bool.{false};
 ghost use mathlib.Core.List.{[]};
+ghost use Prim.Native.Nat.{ℕ};
 ghost use lib.ListN.{length};
-ghost use Rattle.ledger.specs.Calls.{SetUp, Quote};
+ghost use Rattle.ledger.specs.Sound.{intact};
+ghost use Rattle.ledger.specs.Calls.{Call, SetUp, Quote};
 ghost use Rattle.table.specs.Table.{liveOf};
-ghost use Rattle.state.specs.State.{Serves, Releases};
+ghost use Rattle.state.specs.State.{viewOf, Serves, Releases};
 ghost use Rattle.sessions.specs.Calls.{Begins, Looks, Tallies};
 
 // What `begin` answers: the verdict of the network's checks, and a state that holds no sessions.
@@ -66,16 +69,23 @@ pub fn begin(network: Network) -> Begun
     }
 }
 
+// A set-up or a quote on a broken state: refused with 0, and the state is the same.
+fn not_served(st: State) -> Served
+    ensures { λ r. ⌜ ((call : Call) (n : ℕ) → intact (viewOf st) ≡ false → Serves st call n r) ⌝ }
+{
+    Served {
+        answer: state::refused(Refusal::BrokenState),
+        state: st,
+    }
+}
+
 // Set-up: holds the frames of the least-delay schedule over the route for a session of this number. Refuses with 0, 12 to 17, or 18 with
 // the count.
 pub fn set_up(st: State, number: u16, route: &[u8]) -> Served
     ensures { λ r. ⌜ Serves st (SetUp number (now (route .entry))) (length (now (route .entry))) r ⌝ }
 {
     if state_check::broken(st) {
-        return Served {
-            answer: state::refused(Refusal::BrokenState),
-            state: st,
-        };
+        return not_served(st);
     }
     state::set_up(st, number, route)
 }
@@ -85,10 +95,7 @@ pub fn quote(st: State, route: &[u8]) -> Served
     ensures { λ r. ⌜ Serves st (Quote (now (route .entry))) (length (now (route .entry))) r ⌝ }
 {
     if state_check::broken(st) {
-        return Served {
-            answer: state::refused(Refusal::BrokenState),
-            state: st,
-        };
+        return not_served(st);
     }
     Served {
         answer: state::quote(st, route),
@@ -131,10 +138,7 @@ pub fn free_frames(st: State, link: u8) -> Tallied
 {
     if state_check::broken(st) {
         return Tallied {
-            counted: Counted {
-                verdict: Verdict::Refused(Refusal::BrokenState),
-                count: 0,
-            },
+            counted: state::not_counted(Refusal::BrokenState),
             state: st,
         };
     }

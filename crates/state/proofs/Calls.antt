@@ -1,18 +1,18 @@
 -- Each return of the calls on a state that isn't broken. Assumes nothing.
 use mathlib.Core.Path.{_≡_, refl, sym, ap, ap₂, subst, _∙_}
 use mathlib.Core.Bool.{Bool, true, false}
-use mathlib.Core.List.{List, [], _∷_, _++_}
+use mathlib.Core.List.{List}
 use Prim.Native.Nat.{ℕ, _<_, _≤_}
 use native.Mathlib.Omega.{arith}
 use lib.ListN.{length, getD}
-use borrow.Author.Tests.{lt-ltb, le-ltb}
+use lib.Dec.{ltb}
+use borrow.Author.Tests.{ltb-true, ltb-false}
 use Rattle.trellis.specs.Count.{countBelow}
 use Rattle.places.specs.Places.{firsts}
 use Rattle.places.proofs.Firsts.{length-firsts}
 use Rattle.refusals.specs.Refusals.{refusalNumber, refusalCount, Outcome, given, pass, rulingOf, givenOr}
 use Rattle.refusals.specs.Refusals as outcome
 use Rattle.refusals.specs.declared.Refusal.{Refusal}
-use Rattle.refusals.specs.declared.Verdict.{Verdict}
 use Rattle.refusals.specs.declared.Verdict.the-variants as verdict
 use Rattle.words.specs.Word.{freeAt, freeFrames}
 use Rattle.words.proofs.Ones.{free-count}
@@ -21,28 +21,32 @@ use Rattle.network.specs.Checks.{networkCheck}
 use Rattle.network.specs.declared.Link.{Link}
 use Rattle.forwarding.specs.declared.Hop.{Hop}
 use Rattle.ledger.specs.Lists.{keep}
-use Rattle.ledger.specs.Sessions.{Session, View, HeldWords, isLive, linkAt, freeOf}
-use Rattle.ledger.specs.Routes.{unknown}
+use Rattle.ledger.specs.Sessions.{Session, HeldWords, isLive, linkAt, freeOf}
 use Rattle.ledger.specs.Sound.{intact}
-use Rattle.ledger.specs.Calls.{Call, SetUp, Quote, Release, freed, refusal, served, reply, otherThan, lookIn, lookup, freeCount}
+use Rattle.ledger.specs.Calls.{Release, freed, refusal, served, reply, otherThan, lookIn, lookup, freeCount}
 use Rattle.ledger.specs.Calls as rules
 use Rattle.ledger.proofs.Intact.{intact-is}
 use Rattle.ledger.proofs.Shown.{lookup-intact}
-use Rattle.routes.specs.Hops.{hopFrom}
 use Rattle.routes.proofs.Tests.{known, not-known}
-use Rattle.routes.proofs.Links.{many-links, stored-link, in-places, frames-bounded}
+use Rattle.routes.proofs.Links.{many-links, in-places, frames-bounded}
 use Rattle.routes.proofs.Hops.{hop-held}
 use Rattle.table.specs.declared.Table.{Table}
 use Rattle.table.specs.Table.{sessionOf, noPlace, liveOf, placeOf}
 use Rattle.table.proofs.Live.{in-length}
 use Rattle.table.proofs.Looking.{stands-live, stands-shown, gone-live, gone-refused}
 use Rattle.state.specs.declared.State.{State}
-use Rattle.state.specs.declared.Released.{Released}
 use Rattle.state.specs.declared.Shown.{Shown}
 use Rattle.state.specs.declared.Counted.{Counted}
 use Rattle.state.specs.State.{viewOf, Releases, Shows, Counts}
 use Rattle.state.proofs.Within.{place-session, all-within}
 use Rattle.state.proofs.Replies.{release-refuses, release-passes, refused-reply, served-reply, refusal-leaves, stays, struck-view}
+
+-- a number is live where its place is one of the live ones
+pub live-told : (n place : ℕ) (table : Table) → place ≡ placeOf n (liveOf table) → (b : Bool) → ltb place (table .live) ≡ b → b ≡ isLive n (liveOf table)
+live-told n place table e true q =
+    sym (stands-live n (liveOf table) (omega (arith, ltb-true place (table .live) q, e, in-length (table .live) (table .places))))
+live-told n place table e false q =
+    sym (gone-live n (liveOf table) (omega (arith, ltb-false place (table .live) q, e, in-length (table .live) (table .places))))
 
 module _ (st : State) (ok : intact (viewOf st) ≡ true) where
   passed : networkCheck (topologyOf (st .network)) ≡ given pass
@@ -52,26 +56,20 @@ module _ (st : State) (ok : intact (viewOf st) ≡ true) where
   live-length = in-length (st .table .live) (st .table .places)
 
   -- ---- release
-  module _ (n place : ℕ) (e : place ≡ placeOf n (liveOf (st .table))) where
-    pub number-live : place < st .table .live → isLive n (liveOf (st .table)) ≡ true
-    number-live h = stands-live n (liveOf (st .table)) (omega (arith, h, e, live-length))
-
-    pub number-gone : st .table .live ≤ place → isLive n (liveOf (st .table)) ≡ false
-    number-gone h = gone-live n (liveOf (st .table)) (omega (arith, h, e, live-length))
-
-    pub release-refused : st .table .live ≤ place → (r : Refusal) → refusalNumber r ≡ 19 → refusalCount r ≡ 0
+  module _ (n : ℕ) where
+    pub release-refused : isLive n (liveOf (st .table)) ≡ false → (r : Refusal) → refusalNumber r ≡ 19 → refusalCount r ≡ 0
         → Releases st n (record { verdict = verdict.Refused r; state = st })
     release-refused h r p q =
         let a : reply (viewOf st) (Release n) ≡ refusal 19 0 =
-        refused-reply (viewOf st) ok (Release n) 19 (release-refuses (topologyOf (st .network)) (liveOf (st .table)) n (number-gone h)) in
+        refused-reply (viewOf st) ok (Release n) 19 (release-refuses (topologyOf (st .network)) (liveOf (st .table)) n h) in
         record { answer = ap₂ refusal p q ∙ sym a; after = stays st (Release n) (refusal-leaves (Release n) _ 19 0 a) }
 
-    pub release-passed : place < st .table .live → (t : Table) → liveOf t ≡ keep (otherThan n) (liveOf (st .table))
+    pub release-passed : isLive n (liveOf (st .table)) ≡ true → (t : Table) → liveOf t ≡ keep (otherThan n) (liveOf (st .table))
         → Releases st n (record { verdict = verdict.Passed; state = record { network = st .network; table = t } })
     unfolding served
     release-passed h t l =
         let a : reply (viewOf st) (Release n) ≡ freed =
-        served-reply (viewOf st) ok (Release n) (release-passes (topologyOf (st .network)) (liveOf (st .table)) n (number-live h)) in
+        served-reply (viewOf st) ok (Release n) (release-passes (topologyOf (st .network)) (liveOf (st .table)) n h) in
         record {
           answer = sym a;
           after = record {
@@ -83,7 +81,8 @@ module _ (st : State) (ok : intact (viewOf st) ≡ true) where
         struck-moves : {X : Type 0} → rules.strikes n ≡ rules.leaves → X
         struck-moves q = let z : _≡_ {A = ℕ} 0 1 = cc in absurd (omega arith)
 
-    -- ---- lookup
+  -- ---- lookup
+  module _ (n place : ℕ) (e : place ≡ placeOf n (liveOf (st .table))) where
     lookup-told : (o : Outcome Session) → lookIn n (liveOf (st .table)) ≡ o → lookup (viewOf st) n ≡ o
     lookup-told o q = lookup-intact (viewOf st) n ok ∙ q
 
@@ -129,8 +128,8 @@ module _ (st : State) (ok : intact (viewOf st) ≡ true) where
     unfolding freeCount
     free-refused h = rw (ok, many-links (st .network), not-known (st .network .count) l l refl h)
 
-    pub link-refused : st .network .count ≤ l → (r : Refusal) → refusalNumber r ≡ 13 → Counts (freeCount (viewOf st) l) (record { verdict = verdict.Refused r; count = 0 })
-    link-refused h r p = record { verdict = ap outcome.refused p ∙ sym (ap rulingOf (free-refused h)); count = sym (ap (givenOr 0) (free-refused h)) }
+    pub link-refused : st .network .count ≤ l → (k : ℕ) → k ≡ 13 → (r : Counted) → Counts (outcome.refused k) r → Counts (freeCount (viewOf st) l) r
+    link-refused h k p r w = subst (λ (o : Outcome ℕ). Counts o r) (ap outcome.refused p ∙ sym (free-refused h)) w
 
     module _ (h : l < st .network .count) where
       pub link-in : l < 32

@@ -1,40 +1,32 @@
 -- What a call answers and leaves on a state that isn't broken, check by check. Assumes nothing.
 use mathlib.Core.Path.{_≡_, refl, sym, ap, ap₂, subst, _∙_}
-use mathlib.Core.Bool.{Bool, true, false}
+use mathlib.Core.Bool.{true, false}
 use mathlib.Core.List.{List, [], _∷_, _++_}
 use Prim.Native.Nat.{ℕ, _≤_}
 use native.Mathlib.Omega.{arith}
-use lib.ListN.{length, take, replicate}
+use lib.ListN.{length, take}
 use Rattle.trellis.specs.Answer.{found, blocked, nodesOf}
 use Rattle.trellis.specs.Answer as trellis
 use Rattle.places.specs.Places.{firsts}
-use Rattle.places.proofs.Firsts.{length-firsts, firsts-filled, firsts-back, firsts-take}
-use Rattle.refusals.specs.Refusals.{refusalNumber, refusalCount, given, pass, ruling}
+use Rattle.places.proofs.Firsts.{firsts-back, firsts-take}
+use Rattle.refusals.specs.Refusals.{given, pass}
 use Rattle.refusals.specs.Refusals as outcome
-use Rattle.refusals.specs.declared.Refusal.{Refusal}
-use Rattle.refusals.specs.declared.Verdict.{Verdict}
-use Rattle.refusals.specs.declared.Verdict.the-variants as verdict
-use Rattle.refusals.proofs.Refusals.{uncounted}
-use Rattle.network.specs.Network.{Topology, topologyOf}
+use Rattle.network.specs.Network.{Topology}
 use Rattle.forwarding.specs.declared.Delay.{Delay}
 use Rattle.forwarding.specs.Schedule.{routeAnswer}
 use Rattle.search.specs.Reading.{reading}
 use Rattle.search.specs.declared.Answer as search
-use Rattle.search.specs.declared.Found.the-variants.{Blocked}
-use Rattle.search.specs.declared.Found.the-variants as found-variants
 use Rattle.ledger.specs.Lists.{keep}
 use Rattle.ledger.specs.Sessions.{Held, Session, View, isLive, hopsOf}
-use Rattle.ledger.specs.Routes.{badLength, unknownLink, linkTwice, ratesApart, ratesOf, routeCheck}
+use Rattle.ledger.specs.Routes.{routeCheck}
 use Rattle.ledger.specs.Sound.{intact}
 use Rattle.ledger.specs.Calls.{Call, SetUp, Quote, Release, schedule, freed, refusal, replyOf, unless, full, callCheck, served, reply, leaves, effect, otherThan, next}
 use Rattle.ledger.specs.Calls as rules
 use Rattle.ledger.proofs.Answered.{reply-intact}
-use Rattle.table.specs.declared.Place.{Place}
-use Rattle.table.specs.declared.Table.{Table}
-use Rattle.table.specs.Table.{sessionOf, liveOf}
+use Rattle.ledger.proofs.Kept.{next-intact}
+use Rattle.table.specs.Table.{sessionOf}
 use Rattle.state.specs.declared.State.{State}
 use Rattle.state.specs.declared.Reply.{Reply}
-use Rattle.state.specs.declared.Reply.the-variants.{Schedule, Refused}
 use Rattle.state.specs.declared.Answer.{Answer}
 use Rattle.state.specs.State.{viewOf, replyIn, framesOf, Answers, Searched, Leaves}
 
@@ -91,23 +83,9 @@ next-same v call e = ap (λ (x : rules.Effect). record { network = v .network; l
 pub stays : (st : State) (call : Call) → effect call (reply (viewOf st) call) ≡ leaves → Leaves st call st
 stays st call e = record { view = sym (next-same (viewOf st) call e); same = λ _. refl }
 
--- "routes fail 12 to 15": none of them is 18
-not-eighteen : (r : Refusal) (net : Topology) (route : List ℕ) → routeCheck net route ≡ outcome.refused (refusalNumber r) → refusalNumber r ≡ 18 → ⊥
-unfolding routeCheck
-not-eighteen r net route e q = go (badLength (length route)) (unknownLink net route) (linkTwice route) (ratesApart (ratesOf net route)) (e ∙ ap outcome.refused q)
-  where
-    go : (a b c d : Bool)
-        → outcome.orElse (outcome.refuseIf a 12) (outcome.orElse (outcome.refuseIf b 13) (outcome.orElse (outcome.refuseIf c 14) (outcome.refuseIf d 15))) ≡ outcome.refused 18 → ⊥
-    go true b c d w = let z : _≡_ {A = ℕ} 12 18 = cc in omega arith
-    go false true c d w = let z : _≡_ {A = ℕ} 13 18 = cc in omega arith
-    go false false true d w = let z : _≡_ {A = ℕ} 14 18 = cc in omega arith
-    go false false false true w = let z : _≡_ {A = ℕ} 15 18 = cc in omega arith
-    go false false false false w = let z : _≡_ {A = ℕ} 15 18 = cc in omega arith
-
--- a refused route's answer has no count
-pub route-uncounted : (r : Refusal) (net : Topology) (route : List ℕ) → routeCheck net route ≡ outcome.refused (refusalNumber r)
-    → refusal (refusalNumber r) (refusalCount r) ≡ refusal (refusalNumber r) 0
-route-uncounted r net route e = ap (refusal (refusalNumber r)) (uncounted r (not-eighteen r net route e))
+-- A CALL ON A STATE THAT ISN'T BROKEN LEAVES ONE THAT ISN'T BROKEN
+pub left-intact : (st : State) (call : Call) (after : State) → Leaves st call after → intact (viewOf st) ≡ true → intact (viewOf after) ≡ true
+left-intact st call after l e = subst (λ (v : View). intact v ≡ true) (sym (l .view)) (next-intact (viewOf st) call e)
 
 -- ---- a search's result as an answer
 nodes-frames : (a : trellis.Answer) → framesOf (replyOf a) ≡ nodesOf a

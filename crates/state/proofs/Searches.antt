@@ -1,7 +1,7 @@
 -- The search over the frames that the sessions of a state leave free. Assumes nothing.
 use mathlib.Core.Path.{_≡_, refl, sym, ap, subst, _∙_}
-use mathlib.Core.List.{List, [], _∷_, map}
-use Prim.Native.Nat.{ℕ, _≤_}
+use mathlib.Core.List.{List}
+use Prim.Native.Nat.{ℕ}
 use native.Mathlib.Omega.{arith}
 use lib.ListN.{length, take, length-map}
 use Rattle.trellis.specs.Answer.{nodesOf}
@@ -10,7 +10,7 @@ use Rattle.places.specs.Places.{firsts}
 use Rattle.places.proofs.Firsts.{length-firsts, firsts-back, firsts-take}
 use Rattle.refusals.specs.Refusals.{given, pass}
 use Rattle.refusals.specs.declared.Refusal.the-variants.{NoSchedule}
-use Rattle.network.specs.Network.{Topology, topologyOf}
+use Rattle.network.specs.Network.{topologyOf}
 use Rattle.network.specs.Checks.{networkCheck}
 use Rattle.network.specs.declared.Network.{Network}
 use Rattle.forwarding.specs.declared.Hop.{Hop}

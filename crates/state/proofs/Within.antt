@@ -1,12 +1,11 @@
 -- The sessions of a state that isn't broken keep within their arrays. Assumes nothing.
-use mathlib.Core.Path.{_≡_, refl, sym, ap, subst, _∙_}
-use mathlib.Core.Bool.{Bool, true, false}
-use mathlib.Core.List.{List, [], _∷_, map}
+use mathlib.Core.Path.{_≡_, ap, subst, _∙_}
+use mathlib.Core.Bool.{true}
+use mathlib.Core.List.{List, [], _∷_}
 use Prim.Native.Nat.{ℕ, zero, suc, _<_, _≤_}
 use native.Mathlib.Nat.{not-suc-le-zero, le-of-suc-le-suc}
 use native.Mathlib.Omega.{arith}
 use lib.ListN.{length, getD, List·getD-map}
-use Rattle.trellis.specs.Trellis.{Stage}
 use Rattle.trellis.specs.Walk.{Onward}
 use Rattle.places.specs.Places.{firsts}
 use Rattle.places.proofs.Firsts.{length-firsts, getD-firsts}
@@ -15,10 +14,9 @@ use Rattle.network.specs.Network.{Topology, topologyOf}
 use Rattle.network.specs.Checks.{networkCheck}
 use Rattle.network.proofs.Tests.{count-passed, frames-passed}
 use Rattle.network.proofs.Checks.{network-good}
-use Rattle.forwarding.specs.declared.Hop.{Hop}
 use Rattle.forwarding.specs.Schedule.{stages, IsSchedule}
 use Rattle.ledger.specs.Lists.{all}
-use Rattle.ledger.specs.Sessions.{Session, View, linkAt, hopOf, hopsOf}
+use Rattle.ledger.specs.Sessions.{Session, linkAt, hopsOf}
 use Rattle.ledger.specs.Sound.{goodSession, intact}
 use Rattle.ledger.proofs.Lists.{all-member, member-at}
 use Rattle.ledger.proofs.Intact.{Intact, intact-is, GoodSession, session-good}

@@ -13,7 +13,7 @@ use Rattle.forwarding.specs.Schedule.{routeAnswer}
 use Rattle.search.specs.Reading.{reading}
 use Rattle.search.specs.declared.Answer as search
 use Rattle.ledger.specs.Sessions.{Session, View, hopsOf}
-use Rattle.ledger.specs.Calls.{Call, SetUp, Release, schedule, freed, refusal, leaves, effect, next}
+use Rattle.ledger.specs.Calls.{Call, Release, schedule, freed, refusal, leaves, effect, next}
 use Rattle.ledger.specs.Calls as rules
 use Rattle.table.specs.Table.{liveOf}
 use Rattle.state.specs.declared.State.{State}

@@ -9,16 +9,18 @@ use table::Place;
 use table::Table;
 ghost use mathlib.Core.Path.{_≡_};
 ghost use mathlib.Core.Bool.{true};
-ghost use Prim.Native.Nat.{ℕ};
+ghost use Prim.Native.Nat.{ℕ, _≤_};
+ghost use lib.Dec.{leb};
 ghost use lib.ListN.{length};
-ghost use Rattle.refusals.specs.Refusals.{refusalNumber, refusalCount, given, pass};
+ghost use Rattle.refusals.specs.Refusals.{refusalNumber, refusalCount, given, pass, ruling};
 ghost use Rattle.refusals.specs.Refusals as outcome;
 ghost use Rattle.network.specs.Network.{topologyOf};
 ghost use Rattle.network.specs.Checks.{networkCheck};
 ghost use Rattle.search.specs.Reading.{reading};
+ghost use Rattle.ledger.specs.Sessions.{isLive};
 ghost use Rattle.ledger.specs.Routes.{routeCheck};
 ghost use Rattle.ledger.specs.Sound.{intact};
-ghost use Rattle.ledger.specs.Calls.{SetUp, Quote, replyOf, reply, freeCount};
+ghost use Rattle.ledger.specs.Calls.{SetUp, Quote, replyOf, callCheck, reply, freeCount};
 ghost use Rattle.ledger.specs.Calls as rules;
 ghost use Rattle.table.specs.Table.{liveOf, AllWithin};
 ghost use Rattle.state.specs.State.{viewOf, Searched, replyIn, Answers, Serves, Releases, Shows, Counts};
@@ -118,6 +120,41 @@ pub fn quote(st: State, route: &[u8]) -> Answer
     answer_of(least(st.network, st.table, route))
 }
 
+// Whether the number is live.
+fn is_live(table: Table, number: u16) -> bool
+    requires { ⌜ table .live ≤ 96 ⌝ }
+    ensures { λ r. ⌜ r ≡ isLive number (liveOf table) ⌝ }
+{
+    table::place_of(table, number) < table.live
+}
+
+// Whether check 17 refuses so many live sessions.
+fn is_full(live: usize) -> bool
+    ensures { λ r. ⌜ r ≡ leb 96 live ⌝ }
+{
+    96 <= live
+}
+
+// The checks of a set-up after 0: 12 to 17.
+fn check_set_up(network: Network, table: Table, number: u16, route: &[u8]) -> Verdict
+    requires { ⌜ (networkCheck (topologyOf network) ≡ given pass) × (table .live ≤ 96) ⌝ }
+    ensures { λ r. ⌜ ruling r ≡ callCheck (topologyOf network) (liveOf table) (SetUp number (now (route .entry))) ⌝ }
+{
+    match routes::check_route(network, route) {
+        Verdict::Refused(refusal) => return Verdict::Refused(refusal),
+        Verdict::Passed => {}
+    }
+    let live = is_live(table, number);
+    let full = is_full(table.live);
+    if live {
+        return Verdict::Refused(Refusal::NumberLive);
+    }
+    if full {
+        return Verdict::Refused(Refusal::PlacesFull);
+    }
+    Verdict::Passed
+}
+
 // Set-up: holds the frames of the least-delay schedule over the route, or refuses and leaves all as it was.
 // Form: the search's enum is taken apart by `let .. else`, and its refusal passed on before anything is held.
 pub fn set_up(st: State, number: u16, route: &[u8]) -> Served
@@ -126,32 +163,18 @@ pub fn set_up(st: State, number: u16, route: &[u8]) -> Served
 {
     let network = st.network;
     let table = st.table;
-    match routes::check_route(network, route) {
+    match check_set_up(network, table, number, route) {
         Verdict::Refused(refusal) => return Served {
             answer: refused(refusal),
             state: st,
         },
         Verdict::Passed => {}
     }
-    if table::place_of(table, number) < table.live {
-        return Served {
-            answer: refused(Refusal::NumberLive),
-            state: st,
-        };
-    }
-    if 96 <= table.live {
-        return Served {
-            answer: refused(Refusal::PlacesFull),
-            state: st,
-        };
-    }
     let found = least(network, table, route);
+    let answer = answer_of(found);
     let result = found.found;
-    let Found::Schedule(delay, count) = result else {
-        return Served {
-            answer: answer_of(found),
-            state: st,
-        };
+    let Found::Schedule(delay, _) = result else {
+        return Served { answer, state: st };
     };
     let frames = found.frames;
     let place = Place {
@@ -166,10 +189,7 @@ pub fn set_up(st: State, number: u16, route: &[u8]) -> Served
         table: table::with_place(table, place),
     };
     Served {
-        answer: Answer {
-            reply: Reply::Schedule(delay, count),
-            frames,
-        },
+        answer,
         state: after,
     }
 }
@@ -180,7 +200,7 @@ pub fn release(st: State, number: u16) -> Released
     ensures { λ r. ⌜ Releases st number r ⌝ }
 {
     let table = st.table;
-    if table.live <= table::place_of(table, number) {
+    if !is_live(table, number) {
         return Released {
             verdict: Verdict::Refused(Refusal::NumberNotLive),
             state: st,
@@ -236,6 +256,16 @@ pub fn lookup(st: State, number: u16) -> Shown
     }
 }
 
+// A count of free frames that is refused.
+pub fn not_counted(refusal: Refusal) -> Counted
+    ensures { λ r. ⌜ Counts (outcome.refused (refusalNumber refusal)) r ⌝ }
+{
+    Counted {
+        verdict: Verdict::Refused(refusal),
+        count: 0,
+    }
+}
+
 // Free frames of a link: how many of its frames are neither closed nor held.
 pub fn free_frames(st: State, link: u8) -> Counted
     requires { ⌜ intact (viewOf st) ≡ true ⌝ }
@@ -244,10 +274,7 @@ pub fn free_frames(st: State, link: u8) -> Counted
     let network = st.network;
     let at = link as usize;
     if network.count <= at {
-        return Counted {
-            verdict: Verdict::Refused(Refusal::UnknownLink),
-            count: 0,
-        };
+        return not_counted(Refusal::UnknownLink);
     }
     let held = table::held_words(st.table);
     let of = network.links[at];

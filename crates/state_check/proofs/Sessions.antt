@@ -1,8 +1,8 @@
 -- A stored session that keeps the rules, test by test. Assumes nothing.
-use mathlib.Core.Path.{_≡_, refl, sym, ap, ap₂, subst, _∙_}
-use mathlib.Core.Bool.{Bool, true, false, not, _&&_, cond}
-use mathlib.Core.List.{List, [], _∷_}
-use mathlib.Core.Option.{Option, some, none}
+use mathlib.Core.Path.{_≡_, refl, sym, ap, subst, _∙_}
+use mathlib.Core.Bool.{Bool, true, false, _&&_, cond}
+use mathlib.Core.List.{List, []}
+use mathlib.Core.Option.{some, none}
 use Prim.Native.Nat.{ℕ, _+_, _<_, _≤_}
 use native.Mathlib.Omega.{arith}
 use lib.ListN.{length, getD, take, drop, replicate}
@@ -10,7 +10,7 @@ use lib.Seq.{length-take-le}
 use lib.Dec.{eqb}
 use borrow.Author.Tests.{lt-ltb, ne-eqb}
 use Rattle.places.specs.Places.{firsts}
-use Rattle.places.proofs.Firsts.{length-firsts, firsts-back, firsts-take}
+use Rattle.places.proofs.Firsts.{length-firsts, firsts-take}
 use Rattle.refusals.specs.Refusals.{refusalNumber, Ruling, given, refused, pass, ruling}
 use Rattle.refusals.specs.declared.Refusal.{Refusal}
 use Rattle.refusals.specs.declared.Verdict.{Verdict}
@@ -23,7 +23,7 @@ use Rattle.forwarding.specs.declared.Delay.{Delay}
 use Rattle.forwarding.specs.Checked.{Ready, noHop}
 use Rattle.forwarding.specs.Schedule.{isSchedule, scheduleDelay}
 use Rattle.ledger.specs.Lists.{all}
-use Rattle.ledger.specs.Sessions.{Session, HeldWords, heldIn, hopsOf}
+use Rattle.ledger.specs.Sessions.{HeldWords, hopsOf}
 use Rattle.ledger.specs.Routes.{badLength, routeCheck}
 use Rattle.ledger.specs.Sound.{passes, goodSession}
 use Rattle.ledger.proofs.Lists.{eqb-flip}
@@ -31,7 +31,6 @@ use Rattle.routes.specs.Hops.{hopsFrom, delayIf, delayIn}
 use Rattle.routes.specs.declared.Walked.{Walked}
 use Rattle.routes.specs.declared.Walked.the-variants.{Delayed, Unfit}
 use Rattle.table.specs.declared.Place.{Place}
-use Rattle.words.specs.Word.{Words}
 use Rattle.table.specs.Table.{sessionOf, noPlace, inPlaces}
 use Rattle.table.proofs.Live.{in-next, in-end}
 use Rattle.table.proofs.Banks.{words-none}

@@ -1,12 +1,12 @@
 -- The words of held frames of the sessions in the first places. Assumes nothing.
 use mathlib.Core.Path.{_≡_, refl, sym, ap, ap₂, subst, _∙_}
-use mathlib.Core.Bool.{Bool, true, false, _||_}
+use mathlib.Core.Bool.{Bool, false, _||_}
 use mathlib.Core.List.{List, [], _∷_}
 use Prim.Native.Nat.{ℕ, zero, suc, _+_, _<_}
 use native.Mathlib.Omega.{arith}
 use lib.ListN.{getD, replicate}
 use Rattle.places.specs.Places.{firsts}
-use Rattle.words.specs.Word.{bitOf, wordOf, Words}
+use Rattle.words.specs.Word.{bitOf, Words}
 use Rattle.ledger.specs.Lists.{any, anyTwo}
 use Rattle.ledger.specs.Sessions.{Session, HeldWords, holds, heldIn}
 use Rattle.ledger.specs.Sound.{someFrame, shareFrame, frameTwice}

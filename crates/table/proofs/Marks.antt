@@ -2,20 +2,17 @@
 use mathlib.Core.Path.{_≡_, refl, sym, ap, ap₂, subst, _∙_}
 use mathlib.Core.Bool.{Bool, true, false, _&&_, _||_, or-false, or-assoc}
 use mathlib.Core.List.{List, [], _∷_, _++_}
-use Prim.Native.Nat.{ℕ, zero, suc, _+_, _<_, _≤_, _*_, _/_, _%_}
+use Prim.Native.Nat.{ℕ, _+_, _<_, _≤_}
 use native.Mathlib.Omega.{arith}
-use lib.ListN.{length, getD, drop, set, length-set, replicate}
+use lib.ListN.{length, getD, drop, set, length-set}
 use lib.Dec.{eqb}
 use Rattle.places.specs.Places.{firsts}
 use Rattle.places.proofs.Firsts.{length-firsts, next-first, no-first, firsts-snoc}
-use Rattle.words.specs.Word.{bitOf, withBit, Words}
-use Rattle.ledger.specs.Lists.{any}
-use Rattle.ledger.specs.Sessions.{Session, HeldWords, names, holds, heldIn}
-use Rattle.ledger.specs.Sound.{someFrame, shareFrame}
-use Rattle.table.specs.declared.Place.{Place}
-use Rattle.table.specs.Table.{sessionOf, noPlace, inPlaces, Within, Marked}
-use Rattle.table.proofs.Live.{in-snoc}
-use Rattle.table.proofs.Banks.{words-bit, words-same, words-none, words-put}
+use Rattle.words.specs.Word.{withBit, Words}
+use Rattle.ledger.specs.Sessions.{names}
+use Rattle.ledger.specs.Sound.{someFrame}
+use Rattle.table.specs.Table.{Within}
+use Rattle.table.proofs.Banks.{words-same, words-put}
 
 -- a route with one hop more
 names-snoc : (rs fs : List ℕ) (r f l i : ℕ) → length rs ≡ length fs → names (rs ++ (r ∷ [])) (fs ++ (f ∷ [])) l i ≡ (names rs fs l i || (eqb r l && eqb f i))

@@ -88,8 +88,8 @@ fn mark_place(words: &mut [u64; 32], place: Place)
     let frames = place.frames;
     let mut j: usize = 0;
     while j < hops {
-        let l = route[j] as usize;
-        words[l] = words::set_bit(words[l], frames[j] as u16);
+        let link = route[j] as usize;
+        words[link] = words::set_bit(words[link], frames[j] as u16);
         j += 1;
     }
 }
@@ -116,12 +116,12 @@ fn meets(words: &[u64; 32], place: Place) -> bool
     ensures { λ r. ⌜ r ≡ someFrame (λ l i. bitOf (getD (now (words .entry)) l 0) i) (firsts (place .hops) (place .route) 0) (firsts (place .hops) (place .frames) 0) ⌝ }
 {
     let hops = place.hops;
-    let route = place.route;
-    let frames = place.frames;
+    let links = place.route;
+    let held = place.frames;
     let mut j: usize = 0;
     while j < hops {
-        let l = route[j] as usize;
-        if words::has_bit(words[l], frames[j] as u16) {
+        let l = links[j] as usize;
+        if words::has_bit(words[l], held[j] as u16) {
             return true;
         }
         j += 1;
@@ -135,14 +135,14 @@ pub fn frame_twice(table: Table) -> bool
     ensures { λ r. ⌜ r ≡ frameTwice (liveOf table) ⌝ }
 {
     let live = table.live;
-    let mut words = [0u64; 32];
+    let mut marks = [0u64; 32];
     let mut i: usize = 0;
     while i < live {
         let place = table.places[i];
-        if meets(&words, place) {
+        if meets(&marks, place) {
             return true;
         }
-        mark_place(&mut words, place);
+        mark_place(&mut marks, place);
         i += 1;
     }
     false

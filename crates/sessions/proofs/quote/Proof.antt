@@ -2,17 +2,16 @@
 use borrow.Author.Needs.{needs}
 use Rattle.sessions.proofs.quote.Statement.{statement}
 use Rattle.sessions.proofs.quote.Tie as tie
-use Rattle.sessions.proofs.First.{broken-serves, is-intact, quote-serves}
-use mathlib.Core.Path.{refl}
+use Rattle.sessions.proofs.First.{is-broken, is-intact, quote-serves}
 
 broken-requires : tie.Need-broken-requires
 broken-requires c κs = search needs
 
-refused-requires : tie.Need-refused-requires
-refused-requires c κs = search needs
+not-served-requires : tie.Need-not-served-requires
+not-served-requires c κs = search needs
 
 returns : tie.Need-returns
-returns c = broken-serves (c .before .before .before .before .args .st) _ (c .before .before .broken .ensures) (c .before .if1 .taken) _ _ _ _ refl refl _ (c .refused .ensures)
+returns c = c .not-served .ensures _ _ (is-broken (c .before .before .before .before .args .st) _ (c .before .before .broken .ensures) (c .before .if1 .taken))
 
 quote-requires : tie.Need-quote-requires
 quote-requires c κs = is-intact (c .before .before .before .args .st) _ (c .before .broken .ensures) (c .if1 .left)
@@ -21,4 +20,5 @@ returns-2 : tie.Need-returns-2
 returns-2 c = quote-serves (c .before .before .before .before .args .st) _ (c .before .before .broken .ensures) _ _ _ (c .quote .ensures)
 
 pub quote-spec : {M : Type 1} → statement M
-quote-spec = tie.close (tie.spec broken-requires refused-requires returns quote-requires returns-2)
+quote-spec =
+    tie.close (tie.spec broken-requires not-served-requires returns quote-requires returns-2)

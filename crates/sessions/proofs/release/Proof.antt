@@ -2,14 +2,14 @@
 use borrow.Author.Needs.{needs}
 use Rattle.sessions.proofs.release.Statement.{statement}
 use Rattle.sessions.proofs.release.Tie as tie
-use Rattle.sessions.proofs.First.{broken-releases, is-intact}
 use mathlib.Core.Path.{refl}
+use Rattle.sessions.proofs.First.{broken-releases, is-broken, is-intact}
 
 broken-requires : tie.Need-broken-requires
 broken-requires c κs = search needs
 
 returns : tie.Need-returns
-returns c = broken-releases (c .before .before .args .st) _ (c .before .broken .ensures) (c .if1 .taken) _ _ refl refl
+returns c = broken-releases (c .before .before .args .st) (is-broken (c .before .before .args .st) _ (c .before .broken .ensures) (c .if1 .taken)) _ _ refl refl
 
 release-requires : tie.Need-release-requires
 release-requires c κs = is-intact (c .before .before .args .st) _ (c .before .broken .ensures) (c .if1 .left)

@@ -2,17 +2,16 @@
 use borrow.Author.Needs.{needs}
 use Rattle.sessions.proofs.set_up.Statement.{statement}
 use Rattle.sessions.proofs.set_up.Tie as tie
-use Rattle.sessions.proofs.First.{broken-serves, is-intact}
-use mathlib.Core.Path.{refl}
+use Rattle.sessions.proofs.First.{is-broken, is-intact}
 
 broken-requires : tie.Need-broken-requires
 broken-requires c κs = search needs
 
-refused-requires : tie.Need-refused-requires
-refused-requires c κs = search needs
+not-served-requires : tie.Need-not-served-requires
+not-served-requires c κs = search needs
 
 returns : tie.Need-returns
-returns c = broken-serves (c .before .before .before .before .args .st) _ (c .before .before .broken .ensures) (c .before .if1 .taken) _ _ _ _ refl refl _ (c .refused .ensures)
+returns c = c .not-served .ensures _ _ (is-broken (c .before .before .before .before .args .st) _ (c .before .before .broken .ensures) (c .before .if1 .taken))
 
 set-up-requires : tie.Need-set-up-requires
 set-up-requires c κs = is-intact (c .before .before .before .args .st) _ (c .before .broken .ensures) (c .if1 .left)
@@ -22,4 +21,4 @@ returns-2 c = search needs
 
 pub set-up-spec : {M : Type 1} → statement M
 set-up-spec =
-    tie.close (tie.spec broken-requires refused-requires returns set-up-requires returns-2)
+    tie.close (tie.spec broken-requires not-served-requires returns set-up-requires returns-2)

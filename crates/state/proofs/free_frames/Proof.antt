@@ -6,8 +6,11 @@ use mathlib.Core.Path.{refl}
 use Rattle.state.proofs.Within.{all-within}
 use Rattle.state.proofs.Calls.{link-refused, link-in, link-frames, link-counted}
 
+not-counted-requires : tie.Need-not-counted-requires
+not-counted-requires c κs = search needs
+
 returns : tie.Need-returns
-returns c = link-refused (c .before .before .args .st) (c .before .before .pre) _ (c .if1 .taken) _ refl
+returns c = link-refused (c .before .before .before .args .st) (c .before .before .before .pre) _ (c .before .if1 .taken) _ refl _ (c .not-counted .ensures)
 
 held-words-requires : tie.Need-held-words-requires
 held-words-requires c κs = all-within (c .before .before .args .st) (c .before .before .pre)
@@ -34,6 +37,7 @@ pub free-frames-spec : {M : Type 1} → statement M
 free-frames-spec =
     tie.close
     (tie.spec
+    not-counted-requires
     returns
     held-words-requires
     mul-of

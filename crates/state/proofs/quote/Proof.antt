@@ -4,7 +4,12 @@ use Rattle.state.proofs.quote.Statement.{statement}
 use Rattle.state.proofs.quote.Tie as tie
 use Rattle.ledger.proofs.Intact.{intact-is}
 use Rattle.state.proofs.Within.{all-within}
-use Rattle.state.proofs.SetUps.{quote-refused, route-passed, quote-answered}
+use Rattle.state.proofs.SetUps.{quote-answered}
+use mathlib.Core.Path.{sym, ap, _∙_}
+use Rattle.refusals.specs.Refusals.{ruling}
+use Rattle.ledger.specs.Calls.{Quote}
+use Rattle.state.proofs.Replies.{quote-check}
+use Rattle.state.proofs.SetUps.{answer-refused, quote-answered}
 
 check-route-requires : tie.Need-check-route-requires
 check-route-requires c κs = intact-is _ (c .before .pre) .network
@@ -16,19 +21,19 @@ refused-requires : tie.Need-refused-requires
 refused-requires c κs = search needs
 
 returns : tie.Need-returns
-returns c = quote-refused (c .before .before .before .before .before .before .args .st) (c .before .before .before .before .before .before .pre) _ _ (c .before .before .before .before .check-route .ensures) _ (c .before .before .refusal .given .1) _ (c .refused .ensures)
+returns c = answer-refused (c .before .before .before .before .before .before .args .st) (c .before .before .before .before .before .before .pre) (Quote _) _ (c .before .before .before .before .check-route .ensures ∙ sym (quote-check _ _ _)) _ (c .before .before .refusal .given .1) _ _ (c .refused .ensures)
 
 enum-told : tie.Need-enum-told
 enum-told c = search needs
 
 least-requires : tie.Need-least-requires
-least-requires c κs = (intact-is _ (c .before .before .before .before .pre) .network, route-passed (c .before .before .before .before .args .st) (c .before .before .before .before .pre) _ _ (c .before .before .check-route .ensures) (c .enum-told .given .1), all-within (c .before .before .before .before .args .st) (c .before .before .before .before .pre))
+least-requires c κs = (intact-is _ (c .before .before .before .before .pre) .network, sym (c .before .before .check-route .ensures) ∙ ap ruling (c .enum-told .given .1), all-within (c .before .before .before .before .args .st) (c .before .before .before .before .pre))
 
 answer-of-requires : tie.Need-answer-of-requires
 answer-of-requires c κs = search needs
 
 returns-2 : tie.Need-returns-2
-returns-2 c = quote-answered (c .before .before .before .before .before .before .args .st) (c .before .before .before .before .before .before .pre) _ _ (c .before .before .before .before .check-route .ensures) (c .before .before .enum-told .given .1) _ (c .before .least .ensures) _ (c .answer-of .ensures)
+returns-2 c = quote-answered (c .before .before .before .before .before .before .args .st) (c .before .before .before .before .before .before .pre) _ _ (c .before .least .ensures) _ (c .answer-of .ensures) (sym (c .before .before .before .before .check-route .ensures) ∙ ap ruling (c .before .before .enum-told .given .1))
 
 pub quote-spec : {M : Type 1} → statement M
 quote-spec =

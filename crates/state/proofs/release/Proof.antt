@@ -1,23 +1,22 @@
 -- `state::release` meets its contract. Assumes nothing.
 use Rattle.state.proofs.release.Statement.{statement}
 use Rattle.state.proofs.release.Tie as tie
-use mathlib.Core.Path.{refl}
+use mathlib.Core.Path.{refl, sym, _∙_}
+use borrow.Author.Tests.{not-true, not-false}
 use Rattle.state.proofs.Within.{few-live}
 use Rattle.state.proofs.Calls.{release-refused, release-passed}
 
-place-of-requires : tie.Need-place-of-requires
-place-of-requires c κs = few-live (c .before .args .st) (c .before .pre)
+is-live-requires : tie.Need-is-live-requires
+is-live-requires c κs = few-live (c .before .args .st) (c .before .pre)
 
 returns : tie.Need-returns
-returns c = let start = c .before .before .before .before in
-    release-refused (start .args .st) (start .pre) _ _ (c .before .before .place-of .ensures) (c .if1 .taken) _ refl refl
+returns c = release-refused (c .before .before .before .args .st) (c .before .before .before .pre) _ (sym (c .before .is-live .ensures) ∙ not-true _ (c .if1 .taken)) _ refl refl
 
 without-requires : tie.Need-without-requires
-without-requires c κs = few-live (c .before .before .before .before .before .args .st) (c .before .before .before .before .before .pre)
+without-requires c κs = few-live (c .before .before .before .before .args .st) (c .before .before .before .before .pre)
 
 returns-2 : tie.Need-returns-2
-returns-2 c = let start = c .before .before .before .before .before .before in
-    release-passed (start .args .st) (start .pre) _ _ (c .before .before .before .before .place-of .ensures) (c .before .before .if1 .left) _ (c .without .ensures)
+returns-2 c = release-passed (c .before .before .before .before .before .args .st) (c .before .before .before .before .before .pre) _ (sym (c .before .before .before .is-live .ensures) ∙ not-false _ (c .before .before .if1 .left)) _ (c .without .ensures)
 
 pub release-spec : {M : Type 1} → statement M
-release-spec = tie.close (tie.spec place-of-requires returns without-requires returns-2)
+release-spec = tie.close (tie.spec is-live-requires returns without-requires returns-2)

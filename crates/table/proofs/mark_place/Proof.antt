@@ -15,11 +15,11 @@ abbrev μ-loop : tie.MeasureT-loop
 loop-holds : tie.Need-loop-holds Inv-loop μ-loop
 loop-holds c = no-hop _ _ _ _ (c .before .before .pre .0) (c .before .before .pre .1)
 
-array-read-l : tie.Need-array-read-l Inv-loop μ-loop
-array-read-l c = omega (arith, c .before .loop .inv .arrays .few, c .loop-test .taken)
+array-read-link : tie.Need-array-read-link Inv-loop μ-loop
+array-read-link c = omega (arith, c .before .loop .inv .arrays .few, c .loop-test .taken)
 
-cast-l : tie.Need-cast-l Inv-loop μ-loop
-cast-l c = omega (arith, c .before .loop .inv .arrays .link _ (c .loop-test .taken))
+cast-link : tie.Need-cast-link Inv-loop μ-loop
+cast-link c = omega (arith, c .before .loop .inv .arrays .link _ (c .loop-test .taken))
 
 mul-set-bit : tie.Need-mul-set-bit Inv-loop μ-loop
 mul-set-bit c = omega (arith, c .before .loop .inv .arrays .link _ (c .loop-test .taken))
@@ -61,8 +61,8 @@ mark-place-spec =
     Inv-loop
     μ-loop
     loop-holds
-    array-read-l
-    cast-l
+    array-read-link
+    cast-link
     mul-set-bit
     element-copy-out-set-bit
     array-read-set-bit
