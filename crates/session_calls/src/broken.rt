@@ -116,9 +116,13 @@ pub(super) fn put(st: State, line: &[u8]) -> State {
     next
 }
 
+// Whether five numbers are all n.
+fn all_are(n: usize, a: usize, b: usize, c: usize, d: usize, e: usize) -> bool {
+    a == n && b == n && c == n && d == n && e == n
+}
+
 // A state handed to five calls, each on what the one before returned, and whether each left as many sessions live.
 fn handed(st: State) {
-    let n = live(st);
     let route = [0u8; 1];
     show::text(b":");
     let first = calls::set_up(st, 9, &route);
@@ -127,8 +131,14 @@ fn handed(st: State) {
     let fourth = calls::lookup(third, 5, false);
     let fifth = calls::free_frames(fourth, 0);
     show::text(b" live");
-    let early = live(first) == n && live(second) == n && live(third) == n;
-    show::same(early && live(fourth) == n && live(fifth) == n);
+    show::same(all_are(
+        live(st),
+        live(first),
+        live(second),
+        live(third),
+        live(fourth),
+        live(fifth),
+    ));
 }
 
 // A state built by hand by the changes after the colon. The state itself stays.
