@@ -1,15 +1,25 @@
 // Question four of document 01: its cases go through the search, starred or not, in the document's order, a line for each.
-// A line has the case as the document writes it, then `ok` with delay, count and frames, or `no` with the refusal and the count.
+// The last two, which are refused before any search, are quotes on a fresh state of the network of its links.
+// A line has the case as the document writes it, then `ok` with delay, count and frames, or `no` with the refusal, for 18 also the count.
 // The expected lines, in the file stdout, are written by hand from the document.
-// Two cases are refused before any search and wait for the route checks: D F (15) and A A (14).
 ghost use Prim.Native.Nat.{_≤_};
 use forwarding::Hop;
 use libc::STDOUT_FILENO;
+use network::Link;
+use network::Network;
 use search::Answer;
 use search::Found;
+use state::Reply;
 
 // The cycle, in ticks.
 const CYCLE: u16 = 48;
+
+// The numbers of the links in their network: A, B, C, D, E and F are 0 to 5.
+const LINK_A: u8 = 0;
+
+const LINK_D: u8 = 3;
+
+const LINK_F: u8 = 5;
 
 // The refusal where no schedule exists.
 const NO_SCHEDULE: u16 = 18;
@@ -176,7 +186,59 @@ fn unequal_rates() {
     two_hops(b"A{4,5} D{3}", F4 | F5, link_d(F3));
 }
 
+// A link without closed frames.
+fn link(frames: u16, range: u16) -> Link {
+    Link {
+        frames,
+        range,
+        closed: 0,
+    }
+}
+
+// The network of these links.
+fn network() -> Network {
+    let mut links = [link(8, 2); 32];
+    links[2] = link(16, 4);
+    links[3] = link(4, 2);
+    links[5] = link(6, 2);
+    Network {
+        ticks: CYCLE,
+        count: 6,
+        links,
+    }
+}
+
+// What a quote says, of its schedule only the delay and the count.
+fn show_reply(reply: Reply) {
+    match reply {
+        Reply::Schedule(delay, count) => {
+            text(b"ok ");
+            number(delay.0);
+            next_number(count);
+        }
+        Reply::Refused(refusal) => {
+            text(b"no ");
+            number(refusals::number(refusal) as u16);
+        }
+    }
+    text(b"\n");
+}
+
+// A case that goes no further than the checks of its route, of two links.
+fn checked_route(name: &[u8], first: u8, second: u8) {
+    let route = [first, second];
+    let begun = sessions::begin(network());
+    let served = sessions::quote(begun.state, &route);
+    let answer = served.answer;
+    let reply = answer.reply;
+    text(name);
+    text(b": ");
+    show_reply(reply);
+}
+
 fn main() {
     equal_rates();
     unequal_rates();
+    checked_route(b"D F", LINK_D, LINK_F);
+    checked_route(b"A A", LINK_A, LINK_A);
 }
