@@ -12,3 +12,4 @@ pub mod Refused
 pub mod Balance
 pub mod Whole
 pub mod Quoted
+pub mod Freeing

@@ -1,0 +1,91 @@
+-- A release frees exactly its session's frames. Assumes nothing.
+use mathlib.Core.Path.{_≡_, refl, sym, ap, _∙_}
+use mathlib.Core.Bool.{Bool, true, false, not, _&&_, _||_, cond}
+use mathlib.Core.List.{List, [], _∷_, List·Memᴰ, List·Memᴰ·head, List·Memᴰ·tail}
+use Prim.Native.Nat.{ℕ}
+use lib.Dec.{eqb}
+use borrow.Author.Tests.{eqb-true, eqb-false}
+use Rattle.refusals.specs.Refusals.{given}
+use Rattle.refusals.proofs.Refusals.{not-given}
+use Rattle.ledger.specs.Lists.{keep}
+use Rattle.ledger.specs.Sessions.{Session, View, holds, heldIn, isLive}
+use Rattle.ledger.specs.Sound.{intact}
+use Rattle.ledger.specs.Calls.{Release, Reply, freed, callCheck, served, reply, effect, otherThan, apply, next, lookIn, lookup}
+use Rattle.ledger.proofs.Intact.{Intact, intact-is}
+use Rattle.ledger.proofs.Answered.{reply-intact}
+use Rattle.ledger.proofs.Shown.{lookup-intact, looked-up, shown}
+use Rattle.ledger.proofs.Holders.{one-holder}
+
+-- ---- the sessions other than s, the only one of its number and the only one with its frame
+module _ (n l i : ℕ) (s : Session) (named : s .number ≡ n) where
+  frame-by-frame : (h x a : Bool) → (h ≡ true → x ≡ true → ⊥) → (x || (a && not h)) ≡ ((x || a) && not h)
+  frame-by-frame true true a no-both = absurd (no-both refl refl)
+  frame-by-frame true false a no-both = refl
+  frame-by-frame false true a no-both = refl
+  frame-by-frame false false a no-both = refl
+
+  own-frame : (h a : Bool) → (a && not h) ≡ ((h || a) && not h)
+  own-frame true true = refl
+  own-frame true false = refl
+  own-frame false a = refl
+
+  others-hold : (ss : List Session) → ((u : Session) → List·Memᴰ u ss → u .number ≡ n → u ≡ s)
+      → ((u : Session) → List·Memᴰ u ss → holds l i u ≡ true → holds l i s ≡ true → u ≡ s)
+      → heldIn (keep (otherThan n) ss) l i ≡ (heldIn ss l i && not (holds l i s))
+  others-hold [] one sole = refl
+  others-hold (x ∷ xs) one sole =
+      go (eqb (x .number) n) refl
+      (others-hold xs (λ u m e. one u (List·Memᴰ·tail m) e) (λ u m p q. sole u (List·Memᴰ·tail m) p q))
+    where
+      go : (b : Bool) → eqb (x .number) n ≡ b → heldIn (keep (otherThan n) xs) l i ≡ (heldIn xs l i && not (holds l i s))
+          → heldIn (cond (not b) (x ∷ keep (otherThan n) xs) (keep (otherThan n) xs)) l i ≡ ((holds l i x || heldIn xs l i) && not (holds l i s))
+      go true e ih =
+          ih ∙ own-frame (holds l i s) (heldIn xs l i)
+          ∙ ap (λ (u : Session). (holds l i u || heldIn xs l i) && not (holds l i s)) (sym (one x (List·Memᴰ·head refl) (eqb-true (x .number) n e)))
+      go false e ih =
+          ap (λ (b : Bool). holds l i x || b) ih
+          ∙ frame-by-frame (holds l i s) (holds l i x) (heldIn xs l i)
+          (λ p q. eqb-false (x .number) n e (ap (λ (u : Session). u .number) (sole x (List·Memᴰ·head refl) q p) ∙ named))
+
+-- ---- what a release leaves
+given-live : (n : ℕ) (ss : List Session) (s : Session) → lookIn n ss ≡ given s → isLive n ss ≡ true
+given-live n [] s h = absurd (not-given 19 s h)
+given-live n (u ∷ ss) s h = go (eqb (u .number) n) h (given-live n ss s)
+  where
+    go : (b : Bool) → cond b (given u) (lookIn n ss) ≡ given s → (lookIn n ss ≡ given s → isLive n ss ≡ true) → (b || isLive n ss) ≡ true
+    go true k ih = refl
+    go false k ih = ih k
+
+release-freed : (v : View) (n : ℕ) → intact v ≡ true → isLive n (v .live) ≡ true → reply v (Release n) ≡ freed
+unfolding callCheck served
+release-freed v n e live = reply-intact v (Release n) e ∙ rw live
+
+release-left : (v : View) (n : ℕ) → intact v ≡ true → isLive n (v .live) ≡ true → next v (Release n) .live ≡ keep (otherThan n) (v .live)
+unfolding next
+release-left v n e live = ap (λ (r : Reply). apply (v .live) (effect (Release n) r)) (release-freed v n e live)
+
+-- A RELEASE FREES EXACTLY ITS SESSION'S FRAMES
+pub release-frees : (v : View) (n : ℕ) (s : Session) → intact v ≡ true → lookup v n ≡ given s → (l i : ℕ)
+    → heldIn (next v (Release n) .live) l i ≡ (heldIn (v .live) l i && not (holds l i s))
+release-frees v n s e g l i = ap (λ (ss : List Session). heldIn ss l i) left ∙ others-hold n l i s (found .1) (v .live) one sole
+  where
+    ok : Intact (v .network) (v .live)
+    ok = intact-is v e
+
+    looked : lookIn n (v .live) ≡ given s
+    looked = sym (lookup-intact v n e) ∙ g
+
+    found : List·Memᴰ s (v .live) × (s .number ≡ n)
+    found = looked-up n (v .live) s looked
+
+    one : (u : Session) → List·Memᴰ u (v .live) → u .number ≡ n → u ≡ s
+    one u m q = given-same u s (sym (shown (v .live) u (ok .numbers) m) ∙ ap (λ (k : ℕ). lookIn k (v .live)) q ∙ looked)
+      where
+        given-same : (a b : Session) → given a ≡ given b → a ≡ b
+        given-same a b w = cc
+
+    sole : (u : Session) → List·Memᴰ u (v .live) → holds l i u ≡ true → holds l i s ≡ true → u ≡ s
+    sole u m p q = one-holder (v .live) u s l i (ok .frames) m (found .0) p q
+
+    left : next v (Release n) .live ≡ keep (otherThan n) (v .live)
+    left = release-left v n e (given-live n (v .live) s looked)
