@@ -1,7 +1,7 @@
 -- Demand 3 holds of every list of calls from a fresh network that passed its checks. Assumes nothing.
 use mathlib.Core.Path.{_≡_, refl, sym, ap, subst, _∙_}
 use mathlib.Core.Bool.{true, false}
-use mathlib.Core.List.{List, [], _∷_, _++_, List·Memᴰ, nil≢cons, head-eq-of-cons-eq, tail-eq-of-cons-eq}
+use mathlib.Core.List.{List, [], _∷_, _++_, map, List·Memᴰ, nil≢cons, head-eq-of-cons-eq, tail-eq-of-cons-eq}
 use Prim.Native.Nat.{ℕ, _+_, _<_}
 use native.Mathlib.Omega.{arith}
 use lib.ListN.{length, getD, length-map}
@@ -11,7 +11,7 @@ use Rattle.network.specs.Checks.{networkCheck}
 use Rattle.ledger.specs.Sessions.{Session, View, holds}
 use Rattle.ledger.specs.Sound.{shareFrame, frameTwice, intact}
 use Rattle.ledger.specs.Calls.{Call, Reply, effect, apply, reply, next, lookup}
-use Rattle.ledger.specs.Ledger.{Step, did, effectOf, ledgerFrom, ledger, acceptedSetUp, acceptedRelease, countSteps}
+use Rattle.ledger.specs.Ledger.{Step, did, callOf, effectOf, ledgerFrom, ledger, acceptedSetUp, acceptedRelease, countSteps}
 use Rattle.ledger.specs.Demand.{fresh, HoldsFrame, NamedAndKept, LiveNumbers, Right, Demand3, Runs, over, then}
 use Rattle.ledger.proofs.Lists.{anyTwo-at}
 use Rattle.ledger.proofs.Intact.{intact-is, fresh-intact}
@@ -64,6 +64,24 @@ runs-balance {v} {last} i (then {steps = steps} call rest) =
     balance-step (v .live) (effect call (reply v call)) (intact-is v i .numbers)
     (λ n e. strikes-live (v .network) (v .live) call n (ap (effect call) (sym (reply-intact v call i)) ∙ e))
     (countSteps acceptedSetUp steps) (countSteps acceptedRelease steps) (length (last .live)) (runs-balance (next-intact v call i) rest)
+
+-- EVERY LIST OF CALLS HAS ITS STEPS: demand 3 speaks of each
+pub record Stepped (v : View) (calls : List Call) : Type 0 where
+  pub steps : List Step
+  pub last : View
+  pub runs : Runs v steps last
+  pub same : map callOf steps ≡ calls
+
+pub every-list : (v : View) (calls : List Call) → Stepped v calls
+every-list v [] = record { steps = []; last = v; runs = over; same = refl }
+every-list v (call ∷ calls) =
+    let rest : Stepped (next v call) calls = every-list (next v call) calls in
+    record {
+      steps = did call (reply v call) ∷ rest .steps;
+      last = rest .last;
+      runs = then call (rest .runs);
+      same = ap (λ (l : List Call). call ∷ l) (rest .same);
+    }
 
 -- ---- the whole
 module _ (v : View) (steps : List Step) (i : intact v ≡ true) (led : v .live ≡ ledger steps) where

@@ -11,6 +11,9 @@ use Rattle.ledger.specs.Calls.{Call, Reply, Effect, enters, strikes, lea
 pub data Step : Type 0 where
   did : Call → Reply → Step
 
+abbrev pub callOf : Step → Call
+callOf (did call r) = call
+
 abbrev pub effectOf : Step → Effect
 effectOf (did call r) = effect call r
 
