@@ -16,19 +16,20 @@ use Rattle.ledger.proofs.Answered.{reply-intact}
 use Rattle.ledger.proofs.Shown.{lookup-intact, looked-up, shown}
 use Rattle.ledger.proofs.Holders.{one-holder}
 
+-- ---- a frame held by one or by others
+frame-by-frame : (h x a : Bool) → (h ≡ true → x ≡ true → ⊥) → (x || (a && not h)) ≡ ((x || a) && not h)
+frame-by-frame true true a no-both = absurd (no-both refl refl)
+frame-by-frame true false a no-both = refl
+frame-by-frame false true a no-both = refl
+frame-by-frame false false a no-both = refl
+
+own-frame : (h a : Bool) → (a && not h) ≡ ((h || a) && not h)
+own-frame true true = refl
+own-frame true false = refl
+own-frame false a = refl
+
 -- ---- the sessions other than s, the only one of its number and the only one with its frame
 module _ (n l i : ℕ) (s : Session) (named : s .number ≡ n) where
-  frame-by-frame : (h x a : Bool) → (h ≡ true → x ≡ true → ⊥) → (x || (a && not h)) ≡ ((x || a) && not h)
-  frame-by-frame true true a no-both = absurd (no-both refl refl)
-  frame-by-frame true false a no-both = refl
-  frame-by-frame false true a no-both = refl
-  frame-by-frame false false a no-both = refl
-
-  own-frame : (h a : Bool) → (a && not h) ≡ ((h || a) && not h)
-  own-frame true true = refl
-  own-frame true false = refl
-  own-frame false a = refl
-
   others-hold : (ss : List Session) → ((u : Session) → List·Memᴰ u ss → u .number ≡ n → u ≡ s)
       → ((u : Session) → List·Memᴰ u ss → holds l i u ≡ true → holds l i s ≡ true → u ≡ s)
       → heldIn (keep (otherThan n) ss) l i ≡ (heldIn ss l i && not (holds l i s))

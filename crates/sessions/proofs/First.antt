@@ -26,12 +26,12 @@ module _ (st : State) (b : Bool) (eb : b ≡ not (intact (viewOf st))) where
   pub is-intact : b ≡ false → intact (viewOf st) ≡ true
   is-intact = turned (intact (viewOf st)) eb .0
 
-  -- a quote on a state that isn't broken leaves the very same state
-  pub quote-serves : (route : List ℕ) (n : ℕ) (a : Answer) → Answers n (reply (viewOf st) (Quote route)) a → Serves st (Quote route) n (record { answer = a; state = st })
-  quote-serves route n a w = record { answer = w; after = stays st (Quote route) refl }
-
   pub is-broken : b ≡ true → intact (viewOf st) ≡ false
   is-broken = turned (intact (viewOf st)) eb .1
+
+-- a quote leaves the very same state
+pub quote-serves : (st : State) (route : List ℕ) (n : ℕ) (a : Answer) → Answers n (reply (viewOf st) (Quote route)) a → Serves st (Quote route) n (record { answer = a; state = st })
+quote-serves st route n a w = record { answer = w; after = stays st (Quote route) refl }
 
 module _ (st : State) (e : intact (viewOf st) ≡ false) where
   broken-reply : (call : Call) → reply (viewOf st) call ≡ refusal 0 0

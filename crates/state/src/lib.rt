@@ -1,4 +1,4 @@
-// The stored state, and the calls on a state that isn't broken: check 0 has passed, which is what each `requires` asks.
+// The stored state, and the calls on a state that isn't broken: check 0 has passed, which is what each call's `requires` asks.
 // The crate `sessions` offers the same calls on every state.
 use forwarding::Delay;
 use network::Network;

@@ -1,6 +1,6 @@
 -- The sessions in the first places of a table. Assumes nothing.
 use mathlib.Core.Path.{_≡_, refl, sym, ap, _∙_}
-use mathlib.Core.List.{List, [], _∷_, _++_, map}
+use mathlib.Core.List.{List, [], _∷_, _++_, map, map-append}
 use Prim.Native.Nat.{ℕ, zero, suc, _+_, _<_, _≤_}
 use native.Mathlib.Omega.{arith}
 use lib.ListN.{length, getD, drop, set, length-map}
@@ -10,10 +10,6 @@ use Rattle.places.proofs.Firsts.{length-firsts, next-first, no-first, firsts-sn
 use Rattle.ledger.specs.Sessions.{Session}
 use Rattle.table.specs.declared.Place.{Place}
 use Rattle.table.specs.Table.{sessionOf, noPlace, inPlaces}
-
-map-append : {A B : Type 0} (f : A → B) (xs ys : List A) → map f (xs ++ ys) ≡ map f xs ++ map f ys
-map-append f [] ys = refl
-map-append {B = B} f (x ∷ xs) ys = ap (λ (t : List B). f x ∷ t) (map-append f xs ys)
 
 map-drop : {A B : Type 0} (f : A → B) (n : ℕ) (xs : List A) → drop n (map f xs) ≡ map f (drop n xs)
 map-drop f zero xs = refl
@@ -35,7 +31,7 @@ module _ (n : ℕ) (places : List Place) where
 
   -- one place more
   pub in-snoc : inPlaces (n + 1) places ≡ inPlaces n places ++ (sessionOf (getD places n noPlace) ∷ [])
-  in-snoc = ap (map sessionOf) (firsts-snoc n places noPlace) ∙ map-append sessionOf (firsts n places noPlace) (getD places n noPlace ∷ [])
+  in-snoc = ap (map sessionOf) (firsts-snoc n places noPlace) ∙ rw map-append
 
   -- place i and the rest
   pub in-next : (i : ℕ) → i < n → drop i (inPlaces n places) ≡ sessionOf (getD places i noPlace) ∷ drop (i + 1) (inPlaces n places)
@@ -55,4 +51,4 @@ module _ (n : ℕ) (places : List Place) where
       (firsts-snoc n (set places n place) noPlace
       ∙ ap (λ (t : List Place). t ++ (getD (set places n place) n noPlace ∷ [])) (firsts-past n n places place noPlace (omega arith))
       ∙ ap (λ (p : Place). firsts n places noPlace ++ (p ∷ [])) (getD-set-same places n place noPlace h))
-      ∙ map-append sessionOf (firsts n places noPlace) (place ∷ [])
+      ∙ rw map-append

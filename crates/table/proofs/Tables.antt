@@ -1,7 +1,7 @@
 -- Sessions found, added and left out of a table. Assumes nothing.
 use mathlib.Core.Path.{_≡_, refl, sym, ap, ap₂, _∙_}
 use mathlib.Core.Bool.{Bool, true, false, not, cond}
-use mathlib.Core.List.{List, [], _∷_, _++_}
+use mathlib.Core.List.{List, [], _∷_, _++_, append-nil}
 use Prim.Native.Nat.{ℕ, suc, _+_, _<_, _≤_}
 use native.Mathlib.Omega.{arith}
 use lib.ListN.{length, getD, drop, set, length-set}
@@ -51,10 +51,6 @@ keep-snoc {A} p (y ∷ ys) x = go (p y) (keep-snoc p ys x)
         → cond b (y ∷ keep p (ys ++ (x ∷ []))) (keep p (ys ++ (x ∷ []))) ≡ cond b (y ∷ keep p ys) (keep p ys) ++ cond (p x) (x ∷ []) []
     go true ih = ap (λ (l : List A). y ∷ l) ih
     go false ih = ih
-
-append-nil : {A : Type 0} (xs : List A) → xs ++ [] ≡ xs
-append-nil [] = refl
-append-nil {A} (x ∷ xs) = ap (λ (l : List A). x ∷ l) (append-nil xs)
 
 module _ (number n : ℕ) (places : List Place) where
   pub record Left (i kept : ℕ) (next : List Place) : Type 0 where

@@ -17,7 +17,7 @@ quote-requires : tie.Need-quote-requires
 quote-requires c κs = is-intact (c .before .before .before .args .st) _ (c .before .broken .ensures) (c .if1 .left)
 
 returns-2 : tie.Need-returns-2
-returns-2 c = quote-serves (c .before .before .before .before .args .st) _ (c .before .before .broken .ensures) _ _ _ (c .quote .ensures)
+returns-2 c = quote-serves (c .before .before .before .before .args .st) _ _ _ (c .quote .ensures)
 
 pub quote-spec : {M : Type 1} → statement M
 quote-spec =
