@@ -1,0 +1,28 @@
+-- Numbers and words as text, in ASCII, and bytes put into a lent buffer. Assumes nothing.
+use mathlib.Core.Path.{_≡_}
+use mathlib.Core.Bool.{cond}
+use mathlib.Core.List.{List, [], _∷_, _++_}
+use Prim.Native.Nat.{ℕ, zero, suc, _+_, _/_, _%_}
+use lib.ListN.{length}
+use lib.Dec.{ltb}
+use Rattle.places.specs.Put.{putAt}
+
+-- the decimal digits of n ("Numbers are written in decimal"); f is at least n, and only says that the definition ends
+unfoldable pub digitsBy : ℕ → ℕ → List ℕ
+digitsBy zero n = (48 + n) ∷ []
+digitsBy (suc f) n = cond (ltb n 10) ((48 + n) ∷ []) (digitsBy f (n / 10) ++ ((48 + n % 10) ∷ []))
+
+unfoldable pub dec : ℕ → List ℕ
+dec n = digitsBy n n
+
+-- "One space parts the fields": a number after a space
+unfoldable pub spaced : ℕ → List ℕ
+spaced n = 32 ∷ dec n
+
+unfoldable pub spacedAll : List ℕ → List ℕ
+spacedAll [] = []
+spacedAll (n ∷ ns) = spaced n ++ spacedAll ns
+
+-- x is put into a buffer from place `at` on; `next` is the place after it
+abbrev pub Puts : ℕ → List ℕ → List ℕ → List ℕ → ℕ → Type 0
+Puts at x before after next = (next ≡ at + length x) × (after ≡ putAt at x before)

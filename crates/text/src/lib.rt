@@ -1,0 +1,175 @@
+// The text of the program frames, put into a buffer that the caller lends: its callers know the room. Each function answers the place after what
+// it put, and leaves every other byte.
+ghost use mathlib.Core.Path.{_≡_};
+ghost use mathlib.Core.List.{[], _∷_, _++_};
+ghost use Prim.Native.Nat.{_+_, _≤_};
+ghost use lib.ListN.{length};
+ghost use Rattle.ledger.specs.Calls.{schedule, freed, refusal};
+ghost use Rattle.text.specs.Digits.{dec, spaced, spacedAll, Puts};
+ghost use Rattle.text.specs.Lines.{countText, scheduleText, head, line, liveLine, networkLine};
+
+// One byte.
+fn put_byte(out: &mut [u8], at: usize, byte: u8) -> usize
+    requires { ⌜ at + 1 ≤ length (now out) ⌝ }
+    ensures { λ r. ⌜ Puts at (byte ∷ []) (now (out .entry)) (now (out .exit)) r ⌝ }
+{
+    out[at] = byte;
+    at + 1
+}
+
+// Some bytes.
+pub fn put_bytes(out: &mut [u8], at: usize, bytes: &[u8]) -> usize
+    requires { ⌜ at + length (now bytes) ≤ length (now out) ⌝ }
+    ensures { λ r. ⌜ Puts at (now (bytes .entry)) (now (out .entry)) (now (out .exit)) r ⌝ }
+{
+    let mut p = at;
+    let mut i = 0;
+    while i < bytes.len() {
+        p = put_byte(out, p, bytes[i]);
+        i += 1;
+    }
+    p
+}
+
+// The decimal digits of n.
+fn put_decimal(out: &mut [u8], at: usize, n: u32) -> usize
+    requires { ⌜ at + length (dec n) ≤ length (now out) ⌝ }
+    ensures { λ r. ⌜ Puts at (dec n) (now (out .entry)) (now (out .exit)) r ⌝ }
+{
+    if n < 10 {
+        out[at] = 48 + (n % 10) as u8;
+        return at + 1;
+    }
+    let p = put_decimal(out, at, n / 10);
+    out[p] = 48 + (n % 10) as u8;
+    p + 1
+}
+
+// A space and the digits of n.
+fn put_spaced(out: &mut [u8], at: usize, n: u32) -> usize
+    requires { ⌜ at + length (spaced n) ≤ length (now out) ⌝ }
+    ensures { λ r. ⌜ Puts at (spaced n) (now (out .entry)) (now (out .exit)) r ⌝ }
+{
+    let p = put_byte(out, at, 32);
+    put_decimal(out, p, n)
+}
+
+// Each number after a space.
+fn put_all(out: &mut [u8], at: usize, ns: &[u8]) -> usize
+    requires { ⌜ at + length (spacedAll (now ns)) ≤ length (now out) ⌝ }
+    ensures { λ r. ⌜ Puts at (spacedAll (now (ns .entry))) (now (out .entry)) (now (out .exit)) r ⌝ }
+{
+    let mut p = at;
+    let mut i = 0;
+    while i < ns.len() {
+        p = put_spaced(out, p, ns[i] as u32);
+        i += 1;
+    }
+    p
+}
+
+// A call's place and its letter.
+fn put_head(out: &mut [u8], at: usize, place: u32, letter: u8) -> usize
+    requires { ⌜ at + length (head place letter) ≤ length (now out) ⌝ }
+    ensures { λ r. ⌜ Puts at (head place letter) (now (out .entry)) (now (out .exit)) r ⌝ }
+{
+    let p = put_decimal(out, at, place);
+    let q = put_byte(out, p, 32);
+    put_byte(out, q, letter)
+}
+
+// Delay, count and frames of a schedule.
+fn put_schedule(out: &mut [u8], at: usize, delay: u16, count: u16, frames: &[u8]) -> usize
+    requires { ⌜ at + length (scheduleText delay count (now frames)) ≤ length (now out) ⌝ }
+    ensures { λ r. ⌜ Puts at (scheduleText delay count (now (frames .entry))) (now (out .entry)) (now (out .exit)) r ⌝ }
+{
+    let p = put_spaced(out, at, delay as u32);
+    let q = put_spaced(out, p, count as u32);
+    put_all(out, q, frames)
+}
+
+// The count of a refusal, which only 18 has.
+fn put_count(out: &mut [u8], at: usize, number: u8, count: u16) -> usize
+    requires { ⌜ at + length (countText number count) ≤ length (now out) ⌝ }
+    ensures { λ r. ⌜ Puts at (countText number count) (now (out .entry)) (now (out .exit)) r ⌝ }
+{
+    if number != 18 {
+        return at;
+    }
+    put_spaced(out, at, count as u32)
+}
+
+// The line of a call that was answered by a schedule.
+pub fn put_served(
+    out: &mut [u8],
+    at: usize,
+    place: u32,
+    letter: u8,
+    delay: u16,
+    count: u16,
+    frames: &[u8],
+) -> usize
+    requires { ⌜ at + length (line place letter (schedule record { frames = now frames; delay = delay } count)) ≤ length (now out) ⌝ }
+    ensures { λ r. ⌜ Puts at (line place letter (schedule record { frames = now (frames .entry); delay = delay } count)) (now (out .entry)) (now (out .exit)) r ⌝ }
+{
+    let p = put_head(out, at, place, letter);
+    let q = put_bytes(out, p, b" ok");
+    let r = put_schedule(out, q, delay, count, frames);
+    put_byte(out, r, 10)
+}
+
+// The line of a release that wasn't refused.
+pub fn put_freed(out: &mut [u8], at: usize, place: u32, letter: u8) -> usize
+    requires { ⌜ at + length (line place letter freed) ≤ length (now out) ⌝ }
+    ensures { λ r. ⌜ Puts at (line place letter freed) (now (out .entry)) (now (out .exit)) r ⌝ }
+{
+    let p = put_head(out, at, place, letter);
+    put_bytes(out, p, b" ok\n")
+}
+
+// The number of a refusal, and the count of 18.
+fn put_refusal(out: &mut [u8], at: usize, number: u8, count: u16) -> usize
+    requires { ⌜ at + length (spaced number ++ countText number count) ≤ length (now out) ⌝ }
+    ensures { λ r. ⌜ Puts at (spaced number ++ countText number count) (now (out .entry)) (now (out .exit)) r ⌝ }
+{
+    let p = put_spaced(out, at, number as u32);
+    put_count(out, p, number, count)
+}
+
+// The line of a call that was refused.
+pub fn put_refused(
+    out: &mut [u8],
+    at: usize,
+    place: u32,
+    letter: u8,
+    number: u8,
+    count: u16,
+) -> usize
+    requires { ⌜ at + length (line place letter (refusal number count)) ≤ length (now out) ⌝ }
+    ensures { λ r. ⌜ Puts at (line place letter (refusal number count)) (now (out .entry)) (now (out .exit)) r ⌝ }
+{
+    let p = put_head(out, at, place, letter);
+    let q = put_bytes(out, p, b" no");
+    let r = put_refusal(out, q, number, count);
+    put_byte(out, r, 10)
+}
+
+// The last line.
+pub fn put_live(out: &mut [u8], at: usize, live: u32) -> usize
+    requires { ⌜ at + length (liveLine live) ≤ length (now out) ⌝ }
+    ensures { λ r. ⌜ Puts at (liveLine live) (now (out .entry)) (now (out .exit)) r ⌝ }
+{
+    let p = put_bytes(out, at, b"live");
+    let q = put_spaced(out, p, live);
+    put_byte(out, q, 10)
+}
+
+// The single line of a network file that is refused.
+pub fn put_network(out: &mut [u8], at: usize, number: u8) -> usize
+    requires { ⌜ at + length (networkLine number) ≤ length (now out) ⌝ }
+    ensures { λ r. ⌜ Puts at (networkLine number) (now (out .entry)) (now (out .exit)) r ⌝ }
+{
+    let p = put_bytes(out, at, b"net no");
+    let q = put_spaced(out, p, number as u32);
+    put_byte(out, q, 10)
+}
