@@ -96,3 +96,9 @@ uncounted PlacesFull h = refl
 uncounted (NoSchedule count) h = absurd (h refl)
 uncounted NumberNotLive h = refl
 uncounted ShortBuffer h = refl
+
+-- a variant of another tag than that of 18
+pub other-count : (tag : Refusal → ℕ) → ((count : ℕ) → tag (NoSchedule count) ≡ 18) → (r : Refusal) → (tag r ≡ 18 → ⊥) → 0 ≡ refusalCount r
+unfolding numbered listed
+other-count tag h r other =
+    sym (uncounted r (λ e. other (ap tag (sym (back r) ∙ ap (λ (n : ℕ). numbered n (refusalCount r)) e) ∙ h (refusalCount r))))

@@ -1,6 +1,6 @@
 // The refusal list of document 01, and what a check says.
 ghost use mathlib.Core.Path.{_≡_};
-ghost use Rattle.refusals.specs.Refusals.{refusalNumber};
+ghost use Rattle.refusals.specs.Refusals.{refusalNumber, refusalCount};
 
 // A refusal ("Refusal list"): a variant for each number of document 01, in its order from 0 on.
 pub enum Refusal {
@@ -80,5 +80,15 @@ pub fn number(refusal: Refusal) -> u8
         Refusal::NoSchedule(_) => 18,
         Refusal::NumberNotLive => 19,
         Refusal::ShortBuffer => 20,
+    }
+}
+
+// A refusal's count, which only 18 has.
+pub fn count(refusal: Refusal) -> u16
+    ensures { λ r. ⌜ r ≡ refusalCount refusal ⌝ }
+{
+    match refusal {
+        Refusal::NoSchedule(count) => count,
+        _ => 0,
     }
 }
