@@ -1,0 +1,10 @@
+//! An independent cross-check of the reservation program `frames`.
+
+pub mod dijkstra;
+pub mod library;
+pub mod listing;
+pub mod model;
+pub mod route;
+
+#[cfg(test)]
+mod question_four;
