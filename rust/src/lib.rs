@@ -4,6 +4,7 @@ pub mod dijkstra;
 pub mod library;
 pub mod listing;
 pub mod model;
+pub mod random;
 pub mod route;
 
 #[cfg(test)]
