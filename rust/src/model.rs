@@ -331,22 +331,7 @@ fn serve(rules: &impl Rules, network: &Network, ledger: &mut Ledger, call: Call<
 
 /// Searches over the frames of a checked route that are neither closed nor held.
 fn search(rules: &impl Rules, network: &Network, ledger: &Ledger, route: &[u8]) -> Outcome {
-    let mut hops = [Hop {
-        frames: 1,
-        range: 1,
-        free: 0,
-    }; MAX_HOPS];
-    for (hop, &link) in hops.iter_mut().zip(route) {
-        let (link, held) = (
-            &network.links[usize::from(link)],
-            ledger.held[usize::from(link)],
-        );
-        *hop = Hop {
-            frames: link.frames,
-            range: link.range,
-            free: route::ones(link.frames) & !link.closed & !held,
-        };
-    }
+    let hops = hops_of(network, ledger, route);
     match rules.least(network.ticks, &hops[..route.len()]) {
         Answer::Blocked { count } => Outcome::Blocked(count),
         Answer::Found {
@@ -359,6 +344,26 @@ fn search(rules: &impl Rules, network: &Network, ledger: &Ledger, route: &[u8]) 
             frames,
         }),
     }
+}
+
+/// The hops of a checked route over the frames that are neither closed nor held; the places after them unused.
+pub fn hops_of(network: &Network, ledger: &Ledger, route: &[u8]) -> [Hop; MAX_HOPS] {
+    let unused = Hop {
+        frames: 1,
+        range: 1,
+        free: 0,
+    };
+    let mut hops = [unused; MAX_HOPS];
+    for (hop, &number) in hops.iter_mut().zip(route) {
+        let link = &network.links[usize::from(number)];
+        let held = ledger.held[usize::from(number)];
+        *hop = Hop {
+            frames: link.frames,
+            range: link.range,
+            free: route::ones(link.frames) & !link.closed & !held,
+        };
+    }
+    hops
 }
 
 impl Ledger {

@@ -66,8 +66,8 @@ pub fn input(random: &mut Random) -> Input {
         15..=64 => full_ledger(random),
         65..=2_499 => damaged_input(random),
         2_500..=2_999 => random_bytes(random),
-        3_000..=4_499 => short_list(random, 64),
-        4_500..=5_499 => nearly_full(random),
+        3_000..=5_499 => short_list(random, 64),
+        5_500..=6_499 => nearly_full(random),
         _ => short_list(random, 8),
     }
 }
@@ -144,7 +144,7 @@ fn full_ledger(random: &mut Random) -> Input {
         push_set_up(&mut calls, first.wrapping_add(step), &[link]);
     }
     for _ in 0..random.between(4, 40) {
-        let number = first.wrapping_add(random.below(100) as u16);
+        let number = first.wrapping_add(random.below(130) as u16);
         let route = some_route(random, &network);
         match random.below(4) {
             0 => push_release(&mut calls, number),
@@ -197,6 +197,8 @@ fn over_the_limit(random: &mut Random) -> Input {
         for _ in 0..random.below(100) {
             good_call(random, &network, numbers, &mut calls);
         }
+        let more = random.pick(&[0, 0, 1, 100_000]);
+        calls.extend(random.bytes(more));
     }
     Input {
         file: image(&network),
@@ -455,7 +457,10 @@ fn spoil_file(random: &mut Random, bytes: &mut Vec<u8>) {
             let more = random.between(1, 12);
             bytes.extend(random.bytes(more));
         }
-        5 => bytes.push(0),
+        5 => {
+            let more = random.pick(&[1, 1, 1, 2, 300, 3_000]);
+            bytes.resize(bytes.len() + more, 0);
+        }
         6 => {
             for _ in 0..random.between(1, 3) {
                 let at = random.below(bytes.len());

@@ -383,6 +383,25 @@ mistake! { PlacesBeforeNumber,
     }
 }
 
+mistake! { ScheduleBeforePlaces,
+    fn check_set_up(
+        &self,
+        network: &Network,
+        ledger: &Ledger,
+        number: u16,
+        route: &[u8],
+    ) -> Result<(), Refusal> {
+        self.check_route(network, route)?;
+        self.check_number(ledger, number)?;
+        let hops = model::hops_of(network, ledger, route);
+        match self.least(network.ticks, &hops[..route.len()]) {
+            // The search that follows refuses with 18.
+            Answer::Blocked { .. } => Ok(()),
+            Answer::Found { .. } => self.check_places(ledger),
+        }
+    }
+}
+
 mistake! { RouteLinkByLink,
     fn check_route(&self, network: &Network, route: &[u8]) -> Result<(), Refusal> {
         (1..=route.len().clamp(1, 9))
@@ -401,6 +420,7 @@ fn wrong_calls() -> Vec<Wrong> {
         by_rules("16 never checked", NumberUnchecked),
         by_rules("16 before 12 to 15", NumberBeforeRoute),
         by_rules("17 before 16", PlacesBeforeNumber),
+        by_rules("18 before 17", ScheduleBeforePlaces),
         by_rules("12 to 15 link by link", RouteLinkByLink),
     ]
 }
@@ -535,6 +555,68 @@ fn wrong_texts() -> Vec<Wrong> {
             let broken = text.iter().position(|&byte| byte == b'?');
             let end = broken.map_or(text.len(), |at| at + "? no 11\n".len());
             text[..end].to_vec()
+        }),
+    ]
+}
+
+// ---- Mistakes with the lent buffer ----
+
+/// A stand-in for the library's function.
+pub type Report = fn(&[u8], &[u8], &mut [u8]) -> Result<usize, u64>;
+
+/// A wrong library: its mistake with the buffer, and its function.
+pub struct WrongLibrary {
+    pub name: &'static str,
+    pub report: Report,
+}
+
+/// The right text put into the buffer, or refusal 20.
+pub fn right_report(file: &[u8], calls: &[u8], out: &mut [u8]) -> Result<usize, u64> {
+    let text = model::transcript(file, calls, dijkstra::least);
+    if out.len() < text.len() {
+        return Err(20);
+    }
+    out[..text.len()].copy_from_slice(&text);
+    Ok(text.len())
+}
+
+/// All wrong libraries.
+pub fn all_libraries() -> Vec<WrongLibrary> {
+    let library = |name, report| WrongLibrary { name, report };
+    vec![
+        library("a byte after the text changed", |file, calls, out| {
+            let length = right_report(file, calls, out)?;
+            if let Some(next) = out.get_mut(length) {
+                *next = !*next;
+            }
+            Ok(length)
+        }),
+        library("rest of the buffer cleared", |file, calls, out| {
+            let length = right_report(file, calls, out)?;
+            out[length..].fill(0);
+            Ok(length)
+        }),
+        library(
+            "short buffer filled before it is refused",
+            |file, calls, out| {
+                let text = model::transcript(file, calls, dijkstra::least);
+                let room = text.len().min(out.len());
+                out[..room].copy_from_slice(&text[..room]);
+                right_report(file, calls, out)
+            },
+        ),
+        library(
+            "exact buffer refused",
+            |file, calls, out| match right_report(file, calls, out) {
+                Ok(length) if length == out.len() => Err(20),
+                other => other,
+            },
+        ),
+        library("short buffer not refused", |file, calls, out| {
+            right_report(file, calls, out).or(Ok(out.len()))
+        }),
+        library("length without the last newline", |file, calls, out| {
+            right_report(file, calls, out).map(|length| length - 1)
         }),
     ]
 }

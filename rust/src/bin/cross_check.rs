@@ -1,8 +1,8 @@
-//! Compares the library's text with the model's on random inputs, and the model with wrong ones.
+//! Compares the library with the model on random inputs, and then shows that wrong ones would be found.
 
 use frames_check::random::{self, Input, Random};
 use frames_check::route::{Answer, Hop};
-use frames_check::wrong::{self, Wrong};
+use frames_check::wrong::{self, Report, Wrong, WrongLibrary};
 use frames_check::{dijkstra, library, listing, model};
 use std::cell::Cell;
 use std::process::exit;
@@ -30,7 +30,7 @@ fn main() {
     }
     check.print_counts();
     check.print_times(start.elapsed());
-    check.demand_wrong_models_found();
+    check.demand_wrong_ones_found();
     check.demand_refusals_seen();
     println!("cross-check: {} inputs, 0 differed", check.inputs);
 }
@@ -84,15 +84,24 @@ struct Check {
     released: usize,
     refusals: [usize; REFUSALS + 1],
     searches: Searches,
-    wrong: Vec<WrongModel>,
+    wrong_models: Vec<Tried<Wrong>>,
+    wrong_libraries: Vec<Tried<WrongLibrary>>,
     buffer: Buffer,
     times: Times,
 }
 
-/// A wrong model, and after how many inputs it differed.
-struct WrongModel {
-    model: Wrong,
+/// A wrong model or library, and after how many inputs it differed.
+struct Tried<T> {
+    wrong: T,
     differed: Option<usize>,
+}
+
+fn untried<T>(all: Vec<T>) -> Vec<Tried<T>> {
+    let untried = |wrong| Tried {
+        wrong,
+        differed: None,
+    };
+    all.into_iter().map(untried).collect()
 }
 
 /// The time of each part.
@@ -112,12 +121,16 @@ fn timed<T>(time: &mut Duration, part: impl FnOnce() -> T) -> T {
     result
 }
 
+/// An input with the text that belongs to it, and the rooms to try: enough, and now and then too little.
+struct Trial {
+    input: Input,
+    expected: Vec<u8>,
+    enough: usize,
+    too_little: Option<usize>,
+}
+
 impl Check {
     fn new() -> Self {
-        let unseen = |model| WrongModel {
-            model,
-            differed: None,
-        };
         Check {
             inputs: 0,
             calls: 0,
@@ -126,7 +139,8 @@ impl Check {
             released: 0,
             refusals: [0; REFUSALS + 1],
             searches: Searches::default(),
-            wrong: wrong::all().into_iter().map(unseen).collect(),
+            wrong_models: untried(wrong::all()),
+            wrong_libraries: untried(wrong::all_libraries()),
             buffer: Buffer::new(),
             times: Times::default(),
         }
@@ -140,11 +154,18 @@ impl Check {
                 1, 5, 0, 2, 0, 1, 1, 5, 0, 2, 0, 1, 3, 5, 0, 2, 1, 0, 3, 5, 0,
             ],
         };
-        let expected = b"1 S ok 6 16 7 0\n2 S no 16\n3 R ok\n4 Q ok 0 0 0\n5 R no 19\nlive 0\n";
+        let expected =
+            b"1 S ok 6 16 7 0\n2 S no 16\n3 R ok\n4 Q ok 0 0 0\n5 R no 19\nlive 0\n".to_vec();
         if self.model_text(&input) != expected {
             fail("the model's text of the worked example isn't the document's");
         }
-        self.buffer.expect_text(&input, expected, expected.len());
+        let trial = Trial {
+            enough: expected.len(),
+            too_little: Some(expected.len() - 1),
+            input,
+            expected,
+        };
+        self.compare(&trial);
         println!("worked example: as in the document");
     }
 
@@ -153,43 +174,70 @@ impl Check {
         model::transcript(&input.file, &input.calls, least)
     }
 
-    /// One random input: the text, a buffer that is too short now and then, the wrong models.
+    /// One random input: the library's text, then the wrong models and libraries.
     fn one_input(&mut self, random: &mut Random) {
         let mut times = std::mem::take(&mut self.times);
         let input = timed(&mut times.inputs, || random::input(random));
         let expected = timed(&mut times.model, || self.model_text(&input));
-        let room = random::enough_room(random, expected.len());
-        timed(&mut times.library, || {
-            self.buffer.expect_text(&input, &expected, room)
-        });
-        if random.chance(25) {
-            let room = random::too_little_room(random, expected.len());
-            timed(&mut times.library, || {
-                self.buffer.expect_no_room(&input, room)
-            });
-            self.refusals[20] += 1;
-        }
+        let trial = Trial {
+            enough: random::enough_room(random, expected.len()),
+            too_little: random
+                .chance(25)
+                .then(|| random::too_little_room(random, expected.len())),
+            input,
+            expected,
+        };
         self.inputs += 1;
-        // The library's text, shown equal to the model's, is what the wrong models are compared with.
-        timed(&mut times.wrong, || {
-            self.try_wrong_models(&input, &expected)
-        });
-        self.tally(expected.len());
+        timed(&mut times.library, || self.compare(&trial));
+        timed(&mut times.wrong, || self.try_wrong_ones(&trial));
         self.times = times;
     }
 
-    /// Runs the wrong models that haven't differed yet.
-    fn try_wrong_models(&mut self, input: &Input, expected: &[u8]) {
-        for wrong in self.wrong.iter_mut().filter(|w| w.differed.is_none()) {
-            if (wrong.model.text)(&input.file, &input.calls) != expected {
-                wrong.differed = Some(self.inputs);
+    /// Compares the library with the model and counts what the library answered.
+    fn compare(&mut self, trial: &Trial) {
+        if let Some(fault) = self.buffer.text_fault(library::report, trial) {
+            self.show_and_fail(trial, &fault);
+        }
+        self.tally(trial.expected.len());
+        if let Some(room) = trial.too_little {
+            if let Some(fault) = self.buffer.refusal_fault(library::report, trial, room) {
+                self.show_and_fail(trial, &fault);
+            }
+            self.refusals[20] += 1;
+        }
+    }
+
+    /// Runs the wrong models and libraries that haven't differed yet.
+    fn try_wrong_ones(&mut self, trial: &Trial) {
+        let input = &trial.input;
+        for tried in self
+            .wrong_models
+            .iter_mut()
+            .filter(|t| t.differed.is_none())
+        {
+            if (tried.wrong.text)(&input.file, &input.calls) != trial.expected {
+                tried.differed = Some(self.inputs);
+            }
+        }
+        for tried in self
+            .wrong_libraries
+            .iter_mut()
+            .filter(|t| t.differed.is_none())
+        {
+            let report = tried.wrong.report;
+            let too_little = trial.too_little;
+            let fault = self.buffer.text_fault(report, trial).or_else(|| {
+                too_little.and_then(|room| self.buffer.refusal_fault(report, trial, room))
+            });
+            if fault.is_some() {
+                tried.differed = Some(self.inputs);
             }
         }
     }
 
     /// Counts what the lines of the library's text show.
     fn tally(&mut self, length: usize) {
-        let text = std::str::from_utf8(&self.buffer.text[..length]).expect("the text is plain");
+        let text = std::str::from_utf8(&self.buffer.bytes[..length]).expect("the text is plain");
         for line in text.lines() {
             let words: Vec<&str> = line.split(' ').collect();
             match words[..] {
@@ -206,6 +254,22 @@ impl Check {
             self.calls += 1;
         }
         self.blocked = self.refusals[18];
+    }
+
+    /// Prints the input in hexadecimal and both texts, and ends the check as failed.
+    fn show_and_fail(&mut self, trial: &Trial, fault: &str) -> ! {
+        let input = &trial.input;
+        let mut room = vec![0; 1_000_000];
+        let length = library::report(&input.file, &input.calls, &mut room).unwrap_or(0);
+        let text = &room[..length.min(room.len())];
+        println!("net.bin: {}", hex(&input.file));
+        println!("calls: {}", hex(&input.calls));
+        println!(
+            "model's text:\n{}",
+            String::from_utf8_lossy(&trial.expected)
+        );
+        println!("library's text:\n{}", String::from_utf8_lossy(text));
+        fail(&format!("input {}: {fault}", self.inputs));
     }
 
     fn print_counts(&self) {
@@ -225,7 +289,7 @@ impl Check {
 
     fn print_times(&self, whole: Duration) {
         println!(
-            "seconds: inputs {:.1}, model {:.1}, library {:.1}, wrong models {:.1}, whole {:.1}",
+            "seconds: inputs {:.1}, model {:.1}, library {:.1}, wrong ones {:.1}, whole {:.1}",
             self.times.inputs.as_secs_f64(),
             self.times.model.as_secs_f64(),
             self.times.library.as_secs_f64(),
@@ -234,13 +298,12 @@ impl Check {
         );
     }
 
-    fn demand_wrong_models_found(&self) {
-        for wrong in &self.wrong {
-            let name = wrong.model.name;
-            match wrong.differed {
-                Some(inputs) => println!("wrong model {name}: differed after {inputs} inputs"),
-                None => fail(&format!("wrong model {name} never differed")),
-            }
+    fn demand_wrong_ones_found(&self) {
+        for tried in &self.wrong_models {
+            demand_found("model", tried.wrong.name, tried.differed);
+        }
+        for tried in &self.wrong_libraries {
+            demand_found("library", tried.wrong.name, tried.differed);
         }
     }
 
@@ -253,6 +316,14 @@ impl Check {
     }
 }
 
+/// The wrong one must have differed.
+fn demand_found(kind: &str, name: &str, differed: Option<usize>) {
+    match differed {
+        Some(inputs) => println!("wrong {kind} {name}: differed after {inputs} inputs"),
+        None => fail(&format!("wrong {kind} {name} never differed")),
+    }
+}
+
 /// A refusal number of the text, as a place in the table.
 fn number(word: &str) -> usize {
     match word.parse() {
@@ -261,11 +332,15 @@ fn number(word: &str) -> usize {
     }
 }
 
+fn hex(bytes: &[u8]) -> String {
+    bytes.iter().map(|byte| format!("{byte:02x} ")).collect()
+}
+
 // ---- The lent buffer ----
 
 /// The lent buffer and the bytes that it is filled with before each call.
 struct Buffer {
-    text: Vec<u8>,
+    bytes: Vec<u8>,
     pattern: Vec<u8>,
 }
 
@@ -273,63 +348,44 @@ impl Buffer {
     fn new() -> Self {
         let mut random = Random::new(SEED + 1);
         Buffer {
-            text: Vec::new(),
+            bytes: Vec::new(),
             pattern: random.bytes(1_000_000),
         }
     }
 
-    /// Calls the library with a freshly filled buffer of that length.
-    fn report(&mut self, input: &Input, room: usize) -> Result<usize, u64> {
-        self.text.clear();
-        self.text.extend_from_slice(&self.pattern[..room]);
-        library::report(&input.file, &input.calls, &mut self.text)
+    /// Fills a buffer of that length afresh and lends it.
+    fn lend(&mut self, report: Report, input: &Input, room: usize) -> Result<usize, u64> {
+        self.bytes.clear();
+        self.bytes.extend_from_slice(&self.pattern[..room]);
+        report(&input.file, &input.calls, &mut self.bytes)
     }
 
-    /// The library must put this text at the start of a buffer of that length and leave the rest as it was.
-    fn expect_text(&mut self, input: &Input, expected: &[u8], room: usize) {
-        match self.report(input, room) {
-            Err(refusal) => {
-                show(input, expected, &[]);
-                fail(&format!("refused with {refusal}, room {room}"));
-            }
-            Ok(length) => {
-                let text = &self.text[..length.min(room)];
-                if length > room || text != expected {
-                    show(input, expected, text);
-                    fail(&format!("the texts differ, answered length {length}"));
-                }
-                if self.text[length..] != self.pattern[length..room] {
-                    show(input, expected, text);
-                    fail("bytes after the text were touched");
-                }
-            }
+    /// The text must stand at the start of a buffer with room for it, and the bytes after it as they were.
+    fn text_fault(&mut self, report: Report, trial: &Trial) -> Option<String> {
+        let room = trial.enough;
+        let answer = self.lend(report, &trial.input, room);
+        let length = trial.expected.len();
+        if answer != Ok(length) {
+            return Some(format!("room {room} gave {answer:?}, not {length}"));
         }
+        if self.bytes[..length] != trial.expected {
+            return Some("the texts differ".to_string());
+        }
+        if self.bytes[length..] != self.pattern[length..room] {
+            return Some("bytes after the text were touched".to_string());
+        }
+        None
     }
 
-    /// The library must refuse a buffer of that length with 20 and leave it as it was.
-    fn expect_no_room(&mut self, input: &Input, room: usize) {
-        let text = self.text.clone();
-        let answer = self.report(input, room);
+    /// A buffer that is too short must be refused with 20 and be as it was.
+    fn refusal_fault(&mut self, report: Report, trial: &Trial, room: usize) -> Option<String> {
+        let answer = self.lend(report, &trial.input, room);
         if answer != Err(20) {
-            show(input, &text, &self.text);
-            fail(&format!("room {room} gave {answer:?}, not refusal 20"));
+            return Some(format!("room {room} gave {answer:?}, not refusal 20"));
         }
-        if self.text != self.pattern[..room] {
-            show(input, &text, &self.text);
-            fail("a buffer that is too short was touched");
+        if self.bytes != self.pattern[..room] {
+            return Some("a buffer that is too short was touched".to_string());
         }
-        self.text = text;
+        None
     }
-}
-
-/// Prints an input in hexadecimal and both texts.
-fn show(input: &Input, expected: &[u8], text: &[u8]) {
-    println!("net.bin: {}", hex(&input.file));
-    println!("calls: {}", hex(&input.calls));
-    println!("model's text:\n{}", String::from_utf8_lossy(expected));
-    println!("library's text:\n{}", String::from_utf8_lossy(text));
-}
-
-fn hex(bytes: &[u8]) -> String {
-    bytes.iter().map(|byte| format!("{byte:02x} ")).collect()
 }
