@@ -61,8 +61,8 @@ impl Random {
 /// One random input. Most are short; the long lists are rare.
 pub fn input(random: &mut Random) -> Input {
     match random.below(10_000) {
-        0..=2 => over_the_limit(random),
-        3..=14 => long_list(random),
+        0..=3 => over_the_limit(random),
+        4..=14 => long_list(random),
         15..=64 => full_ledger(random),
         65..=2_499 => damaged_input(random),
         2_500..=2_999 => random_bytes(random),
@@ -188,12 +188,12 @@ fn over_the_limit(random: &mut Random) -> Input {
     }
     let last_start = INPUT_LIMIT - random.below(7);
     pad(&mut calls, last_start);
-    match random.below(3) {
-        0 => calls.truncate(random.between(INPUT_LIMIT - 1, INPUT_LIMIT)),
-        1 => push_release(&mut calls, random.below(numbers) as u16),
+    match random.below(5) {
+        0 => {}
+        1 | 2 => push_release(&mut calls, session_number(random, numbers)),
         _ => push_set_up(&mut calls, 65_535, &[0]),
     }
-    if calls.len() >= INPUT_LIMIT {
+    if random.chance(60) {
         for _ in 0..random.below(100) {
             good_call(random, &network, numbers, &mut calls);
         }
@@ -250,8 +250,8 @@ pub fn network(random: &mut Random, most_frames: u32) -> Network {
     let ticks = cycle(random);
     let rates = rates(random, ticks, most_frames);
     let number = match random.below(10) {
-        0..=3 => random.between(1, 4),
-        4..=7 => random.between(5, 10),
+        0..=2 => random.between(1, 4),
+        3..=7 => random.between(5, 10),
         _ => random.between(11, 32),
     };
     let one_closing = random.pick(&CLOSINGS);
@@ -279,7 +279,7 @@ pub fn network(random: &mut Random, most_frames: u32) -> Network {
 fn cycle(random: &mut Random) -> u32 {
     match random.below(10) {
         0 => random.between(1, 960) as u32,
-        1 => random.pick(&[1, 2, 3, 64, 959]),
+        1 => random.pick(&[1, 2, 3, 64, 780, 959]),
         _ => random.pick(&[48, 64, 96, 192, 240, 360, 720, 840, 960]),
     }
 }
@@ -509,9 +509,10 @@ fn good_call(random: &mut Random, network: &Network, numbers: usize, calls: &mut
     }
 }
 
-/// A number of the pool; neighbours in the pool differ in both bytes.
+/// A number of the pool 0, 256, 1, 257, 2, ...: some share the low byte, some the high byte.
 fn session_number(random: &mut Random, numbers: usize) -> u16 {
-    (random.below(numbers) as u16).wrapping_mul(0x0101)
+    let place = random.below(numbers) as u16;
+    (place & 1) << 8 | place >> 1
 }
 
 /// A route, in about one of seven cases one that is likely refused.
@@ -527,7 +528,7 @@ fn some_route(random: &mut Random, network: &Network) -> Vec<u8> {
 fn good_route(random: &mut Random, network: &Network) -> Vec<u8> {
     let links = network.links.len();
     let mut route = vec![random.below(links) as u8];
-    let length = random.between(1, MAX_HOPS.min(links));
+    let length = random.between(1, MAX_HOPS).max(random.between(1, 4));
     for _ in 0..3 * length {
         let next = random.below(links) as u8;
         let last = route[route.len() - 1];

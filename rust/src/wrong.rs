@@ -327,6 +327,18 @@ mistake! { NoLimit,
     }
 }
 
+mistake! { LimitOneLower,
+    fn input_limit(&self) -> usize {
+        65_535
+    }
+}
+
+mistake! { LimitOneHigher,
+    fn input_limit(&self) -> usize {
+        65_537
+    }
+}
+
 mistake! { FreeOnEveryLink,
     fn free(&self, ledger: &mut Ledger, session: &Session) {
         for &frame in &session.frames {
@@ -414,6 +426,8 @@ fn wrong_calls() -> Vec<Wrong> {
         by_rules("17 at 95 sessions", NinetyFivePlaces),
         by_rules("17 at 97 sessions", NinetySevenPlaces),
         by_rules("bytes after the first 65,536 read", NoLimit),
+        by_rules("only 65,535 bytes read", LimitOneLower),
+        by_rules("65,537 bytes read", LimitOneHigher),
         by_rules("release frees the frame on every link", FreeOnEveryLink),
         by_rules("release frees nothing", FreeNothing),
         by_rules("quote holds its frames", QuoteHolds),
