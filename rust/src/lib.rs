@@ -1,0 +1,12 @@
+//! An independent cross-check of the reservation program `frames`.
+
+pub mod dijkstra;
+pub mod library;
+pub mod listing;
+pub mod model;
+pub mod random;
+pub mod route;
+pub mod wrong;
+
+#[cfg(test)]
+mod question_four;

@@ -1,0 +1,114 @@
+//! The cases of the document's question four, for both searches.
+
+use crate::route::{ones, Answer, Hop};
+use crate::{dijkstra, listing};
+
+const T: u32 = 48;
+const ALL: &[u32] = &[0, 1, 2, 3, 4, 5, 6, 7];
+
+/// A link of K frames and range Z with only the frames named free.
+fn link(frames: u32, range: u32, free: &[u32]) -> Hop {
+    let free = free.iter().fold(0, |word, frame| word | 1 << frame);
+    assert_eq!(free & !ones(frames), 0);
+    Hop {
+        frames,
+        range,
+        free,
+    }
+}
+
+/// Links A, B and E: K 8, Z 2.
+fn eight(free: &[u32]) -> Hop {
+    link(8, 2, free)
+}
+
+/// Link C: K 16, Z 4.
+fn sixteen(free: &[u32]) -> Hop {
+    link(16, 4, free)
+}
+
+/// Link D: K 4, Z 2.
+fn four(free: &[u32]) -> Hop {
+    link(4, 2, free)
+}
+
+/// Both searches find these frames with this delay and count.
+fn found(hops: &[Hop], frames: &[u8], delay: u32, count: u32) {
+    let expected = Answer::Found {
+        delay,
+        count,
+        frames: frames.to_vec(),
+    };
+    assert_eq!(listing::least(T, hops), expected);
+    assert_eq!(dijkstra::least(T, hops), expected);
+}
+
+/// Both searches find nothing, with this count.
+fn blocked(hops: &[Hop], count: u32) {
+    let expected = Answer::Blocked { count };
+    assert_eq!(listing::least(T, hops), expected);
+    assert_eq!(dijkstra::least(T, hops), expected);
+}
+
+#[test]
+fn one_hop() {
+    found(&[eight(ALL)], &[0], 0, 0);
+    found(&[eight(&[5, 6])], &[5], 0, 0);
+    blocked(&[eight(&[])], 0);
+}
+
+#[test]
+fn two_hops_all_free() {
+    found(&[eight(ALL), eight(ALL)], &[7, 0], 6, 16);
+}
+
+#[test]
+fn single_frames() {
+    found(&[eight(&[3]), eight(&[5])], &[3, 5], 12, 1);
+    blocked(&[eight(&[3]), eight(&[6])], 0);
+    blocked(&[eight(&[3]), eight(&[3])], 0);
+    found(&[eight(&[3]), link(8, 8, &[3])], &[3, 3], 48, 1);
+}
+
+#[test]
+fn nearest_preceding_frame() {
+    found(&[eight(&[1, 2]), eight(&[3])], &[2, 3], 6, 2);
+}
+
+#[test]
+fn nearest_frame_is_a_dead_end() {
+    found(
+        &[eight(&[0]), eight(&[1, 2]), eight(&[4])],
+        &[0, 2, 4],
+        24,
+        3,
+    );
+}
+
+#[test]
+fn smaller_last_hold_wins() {
+    found(
+        &[eight(&[0]), eight(&[1, 2]), eight(&[3])],
+        &[0, 2, 3],
+        18,
+        4,
+    );
+}
+
+#[test]
+fn slow_meets_fast() {
+    found(&[eight(&[3]), sixteen(&[7])], &[3, 7], 3, 1);
+    found(&[eight(&[3]), sixteen(&[10])], &[3, 10], 12, 1);
+    blocked(&[eight(&[3]), sixteen(&[11])], 0);
+    blocked(&[eight(&[3]), sixteen(&[6])], 0);
+}
+
+#[test]
+fn fast_meets_slow() {
+    found(&[eight(&[4, 5]), four(&[3])], &[4, 3], 12, 2);
+}
+
+#[test]
+fn blocked_on_the_way_keeps_its_count() {
+    blocked(&[eight(&[0]), eight(&[1, 2]), eight(&[7]), eight(ALL)], 2);
+}
