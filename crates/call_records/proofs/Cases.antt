@@ -2,6 +2,7 @@
 use mathlib.Core.Path.{_≡_, refl, sym, ap, _∙_}
 use mathlib.Core.Bool.{Bool, true, false, cond}
 use mathlib.Core.List.{List, [], _∷_}
+use mathlib.Core.Logic.{_⊎_, inl, inr}
 use Prim.Native.Nat.{ℕ, zero, suc, _+_, _-_, _≤_, _<_}
 use native.Mathlib.Nat.{not-suc-le-zero, le-of-suc-le-suc}
 use native.Mathlib.Omega.{arith}
@@ -12,7 +13,7 @@ use borrow.Author.Tests.{lt-ltb, le-ltb, ltb-false, eq-eqb, ne-eqb, not-true}
 use Rattle.numbers.specs.Numbers.{numberIn, IsBytes}
 use Rattle.numbers.proofs.Laws.{number-bound}
 use Rattle.places.proofs.Parts.{part-rest}
-use Rattle.call_records.specs.declared.Kind.the-variants.{SetUp, Quote, Release}
+use Rattle.call_records.specs.declared.Kind.the-variants.{SetUp, Quote, Release, Unreadable}
 use Rattle.call_records.specs.declared.Form.{Form}
 use Rattle.call_records.specs.declared.Record.{Record}
 use Rattle.call_records.specs.Records.{noForm, formOf, headOf, linksIn, numberOf, endOf, noRecord, recordAs, readRecord, routeIn, InBytes}
@@ -136,3 +137,15 @@ number-small w s b h x e = rw (e, part-rest 1 s) (narrow-number w (drop 1 s) (λ
 pub route-part : (r : Record) (s : List ℕ) → take (r .end - r .start) (drop (r .start) s) ≡ routeIn r s
 unfolding routeIn
 route-part r s = refl
+
+-- a record that can be read has a byte at least
+used-by : (f : Form) (s : List ℕ) (b : Bool) → (r : Record) → r ≡ cond b noRecord (record { kind = f .kind; number = numberOf (f .width) s; start = headOf (f .width) (f .routed); end = endOf f s }) → (r .kind ≡ Unreadable) ⊎ (1 ≤ r .end)
+unfolding endOf
+used-by f s true r e = inl (ap (λ (x : Record). x .kind) e)
+used-by f s false r e =
+    let n : r .end ≡ headOf (f .width) (f .routed) + linksIn (f .width) (f .routed) s = ap (λ (x : Record). x .end) e in
+    inr (omega (arith, n, head-least (f .width) (f .routed)))
+
+pub some-byte : (s : List ℕ) → (readRecord s .kind ≡ Unreadable) ⊎ (1 ≤ readRecord s .end)
+unfolding readRecord recordAs
+some-byte s = let f = formOf (getD s 0 0) in used-by f s (ltb (length s) (endOf f s)) (readRecord s) refl

@@ -1,0 +1,148 @@
+-- How long a text is at most. Assumes nothing.
+use mathlib.Core.Path.{_≡_, refl, sym, ap, subst, _∙_}
+use mathlib.Core.Bool.{true}
+use mathlib.Core.List.{List, [], _∷_, _++_}
+use Prim.Native.Nat.{ℕ, zero, suc, _+_, _-_, _*_, _<_, _≤_, min}
+use native.Mathlib.Nat.{mul-le-mul}
+use native.Mathlib.Omega.{arith}
+use lib.ListN.{length, getD, take, length-append, length-map, length-take}
+use lib.Seq.{take-all}
+use Rattle.trellis.specs.Walk.{Onward}
+use Rattle.places.specs.Places.{firsts}
+use Rattle.places.proofs.Firsts.{getD-firsts}
+use Rattle.refusals.specs.Refusals.{Ruling, Outcome, given, refused, pass}
+use Rattle.numbers.specs.Numbers.{IsBytes}
+use Rattle.network.specs.Network.{Topology}
+use Rattle.network.specs.Checks.{networkCheck}
+use Rattle.network_file.specs.Reading.{readNetwork}
+use Rattle.network_file.proofs.RoundTrip.{read-passes}
+use Rattle.forwarding.specs.declared.Hop.{Hop}
+use Rattle.forwarding.specs.Checked.{Ready, noHop}
+use Rattle.forwarding.specs.Schedule.{stages, IsSchedule, boundFrom, transitionBound, transitions, Given}
+use Rattle.forwarding.proofs.Bounds.{AllPassed, count-bound, delay-at-most}
+use Rattle.forwarding.proofs.ByHops.{all-passed}
+use Rattle.ledger.specs.Sessions.{Session, View, hopsOf, hopOf}
+use Rattle.ledger.specs.Routes.{routeCheck}
+use Rattle.ledger.specs.Sound.{intact}
+use Rattle.ledger.specs.Calls.{Call, SetUp, Quote, Release, Reply, schedule, freed, refusal, unless, callCheck, served, reply, next}
+use Rattle.ledger.specs.Demand.{fresh, Served, scheduled, none, ServedCall}
+use Rattle.ledger.proofs.Intact.{Intact, intact-is, fresh-intact}
+use Rattle.ledger.proofs.Answered.{reply-intact, admitted, call-served}
+use Rattle.ledger.proofs.Refused.{not-eighteen}
+use Rattle.ledger.proofs.Kept.{next-intact}
+use Rattle.routes.proofs.Hops.{route-ready}
+use Rattle.call_records.specs.Records.{readRecord, callIn}
+use Rattle.call_records.proofs.Cases.{in-bytes}
+use Rattle.call_records.proofs.Lengths.{linksOf, record-long}
+use Rattle.text.specs.Lines.{letterOf, line, liveLine, networkLine}
+use Rattle.text.proofs.Long.{served-long, freed-long, refused-long, blocked-long, live-long, network-long}
+use Rattle.report.specs.Transcript.{thenOthers, callsAfter, callsIn, counted, lineOf, viewAfter, linesOf, textOn, transcript}
+use Rattle.report.specs.Reports.{textBound}
+use Rattle.report.proofs.Numbers.{file-number, call-number}
+use Rattle.report.proofs.Running.{lines-more, lines-none}
+
+-- ---- a schedule's frames and its count
+cons-small : (k : ℕ) (is : List ℕ) → k < 100 → ((i : ℕ) → getD is i 0 < 100) → (i : ℕ) → getD (k ∷ is) i 0 < 100
+cons-small k is h g zero = h
+cons-small k is h g (suc i) = g i
+
+onward-fits : (T K k : ℕ) (hs : List Hop) (is : List ℕ) → AllPassed T hs → Onward k (stages T K hs) is → (length is ≡ length hs) × ((i : ℕ) → getD is i 0 < 100)
+onward-fits T K k [] [] p o = (refl, λ i. omega arith)
+onward-fits T K k [] (i ∷ is) p o = absurd o
+onward-fits T K k (h ∷ hs) [] p o = absurd o
+onward-fits T K k (h ∷ hs) (i ∷ is) p o =
+    let r = onward-fits T (h .frames) i hs is (p .1) (o .2) in
+    (ap suc (r .0), cons-small i is (omega (arith, o .0, p .0 .few-frames)) (r .1))
+
+schedule-fits : (T : ℕ) (hops : List Hop) (fs : List ℕ) → AllPassed T hops → IsSchedule T hops fs → (length fs ≡ length hops) × ((i : ℕ) → getD fs i 0 < 100)
+schedule-fits T [] fs p s = absurd s
+schedule-fits T (h ∷ hs) [] p s = absurd s
+schedule-fits T (h ∷ hs) (k ∷ is) p s =
+    let r = onward-fits T (h .frames) k hs is (p .1) (s .2) in
+    (ap suc (r .0), cons-small k is (omega (arith, s .0, p .0 .few-frames)) (r .1))
+
+bound-most : (T K : ℕ) (hs : List Hop) → K ≤ 64 → AllPassed T hs → boundFrom K hs ≤ 4096 * length hs
+bound-most T K [] h p = omega arith
+bound-most T K (g ∷ hs) h p =
+    omega (arith, mul-le-mul {n₁ = K} {m₁ = g .range} {n₂ = 64} {m₂ = 64} h (omega (arith, p .0 .in-cycle, p .0 .few-frames)), bound-most T (g .frames) hs (p .0 .few-frames) (p .1))
+
+count-most : (T : ℕ) (hops : List Hop) → length hops ≤ 8 → AllPassed T hops → transitions T hops < 100000
+count-most T [] l p = omega (arith, count-bound T [] p)
+count-most T (h ∷ hs) l p = omega (arith, count-bound T (h ∷ hs) p, bound-most T (h .frames) hs (p .0 .few-frames) (p .1))
+
+-- ---- the line of what is answered
+module _ (net : Topology) (ss : List Session) (ok : networkCheck net ≡ given pass) where
+  hops-long : (route : List ℕ) → length (hopsOf net ss route) ≡ length route
+  hops-long route = length-map route (hopOf net ss)
+
+  hops-passed : (route : List ℕ) → routeCheck net route ≡ given pass → AllPassed (net .ticks) (hopsOf net ss route)
+  hops-passed route e =
+      let r : Ready (net .ticks) (firsts 8 (hopsOf net ss route) noHop) (length route) = route-ready net ss route ok e in
+      let n = hops-long route in
+      subst (AllPassed (net .ticks)) (take-all (length route) (hopsOf net ss route) (omega (arith, n)))
+      (all-passed (net .ticks) (hopsOf net ss route) (length route) (omega (arith, n)) (λ j h. rw (getD-firsts 8 j (hopsOf net ss route) noHop (omega (arith, r .few-hops))) at (r .passed j h)))
+
+  route-line : (place letter : ℕ) → place < 100000 → (route : List ℕ) → routeCheck net route ≡ given pass → (r : Reply) → Served (net .ticks) (hopsOf net ss route) r
+      → length (line place letter r) ≤ 22 + 3 * length route
+  route-line place letter h route e r (scheduled held count q g) =
+      let p = hops-passed route e in
+      let ready = route-ready net ss route ok e in
+      let f = schedule-fits (net .ticks) (hopsOf net ss route) (held .frames) p (g .schedule) in
+      let d = delay-at-most (net .ticks) (hopsOf net ss route) (held .frames) (ready .cycle) (omega (arith, hops-long route, ready .few-hops)) p (g .schedule) in
+      let c = count-most (net .ticks) (hopsOf net ss route) (omega (arith, hops-long route, ready .few-hops)) p in
+      omega (arith, served-long place letter (held .delay) count (held .frames) h (omega (arith, d, g .delay-is)) (omega (arith, c, g .count-is)) (f .1), f .0, hops-long route)
+  route-line place letter h route e r (none count q is nowhere) =
+      let ready = route-ready net ss route ok e in
+      let c = count-most (net .ticks) (hopsOf net ss route) (omega (arith, hops-long route, ready .few-hops)) (hops-passed route e) in
+      omega (arith, blocked-long place letter count h (omega (arith, c, is)))
+
+  call-line : (place letter : ℕ) → place < 100000 → (call : Call) (o : Ruling) → callCheck net ss call ≡ o → length (line place letter (unless o (served net ss call))) ≤ 22 + 3 * length (linksOf call)
+  call-line place letter h call (refused k) e =
+      omega (arith, refused-long place letter k 0 h (omega (arith, call-number net ss call k e)) (not-eighteen net ss call k e))
+  call-line place letter h (SetUp n route) (given pass) e = route-line place letter h route (admitted net ss n route e .passed) _ (call-served net ss (SetUp n route) e)
+  call-line place letter h (Quote route) (given pass) e = route-line place letter h route (unfold callCheck in e) _ (call-served net ss (Quote route) e)
+  call-line place letter h (Release n) (given pass) e =
+      let q : served net ss (Release n) ≡ freed = call-served net ss (Release n) e in
+      rw q (omega (arith, freed-long place letter h))
+
+reply-line : (place letter : ℕ) → place < 100000 → (v : View) (call : Call) → intact v ≡ true → length (line place letter (reply v call)) ≤ 22 + 3 * length (linksOf call)
+reply-line place letter h v call e = rw (reply-intact v call e) (call-line (v .network) (v .live) (intact-is v e .network) place letter h call (callCheck (v .network) (v .live) call) refl)
+
+-- ---- the lines of a run
+live-most : (v : View) → intact v ≡ true → length (liveLine (length (v .live))) ≤ 8
+live-most v e = live-long (length (v .live)) (omega (arith, intact-is v e .few))
+
+lines-most : (n : ℕ) (s : List ℕ) (place : ℕ) (v : View) → intact v ≡ true → place + length s < 100000 → length (linesOf place v (callsAfter n s)) ≤ 22 + 11 * (length s - n)
+unfolding callsAfter
+lines-most n [] place v e h = rw (lines-none place v) (omega (arith, live-most v e))
+lines-most (suc n) (b ∷ s) place v e h = omega (arith, lines-most n s place v e (omega arith))
+lines-most zero (b ∷ s) place v e h = go (callIn (readRecord (b ∷ s)) (b ∷ s)) refl (λ call q. lines-most (readRecord (b ∷ s) .end - 1) s (place + 1) (next v call) (next-intact v call e) (omega arith))
+  where
+    end : ℕ
+    end = readRecord (b ∷ s) .end
+    go : (o : Outcome Call) → callIn (readRecord (b ∷ s)) (b ∷ s) ≡ o
+        → ((call : Call) → o ≡ given call → length (linesOf (place + 1) (next v call) (callsAfter (readRecord (b ∷ s) .end - 1) s)) ≤ 22 + 11 * (length s - (readRecord (b ∷ s) .end - 1)))
+        → length (linesOf place v (thenOthers o (callsAfter (readRecord (b ∷ s) .end - 1) s))) ≤ 22 + 11 * suc (length s)
+    go (given call) q rest =
+        let m = lines-more place v (given call) (callsAfter (readRecord (b ∷ s) .end - 1) s) in
+        omega (
+          arith,
+          ap length m,
+          length-append (line place (letterOf call) (reply v call)) (linesOf (place + 1) (next v call) (callsAfter (readRecord (b ∷ s) .end - 1) s)),
+          reply-line place (letterOf call) (omega arith) v call e,
+          record-long (b ∷ s) call q,
+          in-bytes (b ∷ s) .within,
+          rest call refl,
+        )
+    go (refused k) q rest =
+        let m = lines-more place v (refused k) [] in
+        ?
+
+-- AS MANY BYTES SERVE FOR EVERY TEXT
+pub text-bound : (file calls : List ℕ) → IsBytes file → length (transcript file calls) ≤ textBound (length calls)
+unfolding transcript textBound counted
+text-bound file calls bytes = go (readNetwork file) refl
+  where
+    go : (o : Outcome Topology) → readNetwork file ≡ o → length (textOn o calls) ≤ 22 + 11 * min (length calls) 65536
+    go (given net) e = ?
+    go (refused n) e = omega (arith, network-long n (omega (arith, file-number file n e)))

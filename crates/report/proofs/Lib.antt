@@ -1,0 +1,5 @@
+pub mod Records
+pub mod Running
+pub mod Answering
+pub mod Whole
+pub mod Numbers

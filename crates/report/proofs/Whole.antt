@@ -1,0 +1,108 @@
+-- The whole text, and the buffer that it is put into. Assumes nothing.
+use mathlib.Core.Path.{_≡_, refl, sym, ap, subst, _∙_}
+use mathlib.Core.Bool.{Bool, true, false}
+use mathlib.Core.List.{List, [], _∷_, _++_}
+use Prim.Native.Nat.{ℕ, _+_, _<_, _≤_, min}
+use native.Mathlib.Nat.{zero-add}
+use native.Mathlib.Omega.{arith}
+use lib.ListN.{length, take, drop, length-append}
+use lib.Seq.{take-at, take-all, length-take-le}
+use lib.Dec.{ltb}
+use borrow.Author.Tests.{lt-ltb, le-ltb, ltb-true, ltb-false}
+use Rattle.places.specs.Put.{putAt}
+use Rattle.places.proofs.Puts.{put-zero}
+use Rattle.refusals.specs.Refusals.{Outcome, given, refused, pass, ruling, rulingOf, givenOr, refusalNumber}
+use Rattle.refusals.specs.declared.Refusal.{Refusal}
+use Rattle.refusals.specs.declared.Verdict.the-variants.{Passed, Refused}
+use Rattle.refusals.proofs.Refusals.{refused-is, given-is}
+use Rattle.numbers.specs.Numbers.{IsBytes}
+use Rattle.network.specs.Network.{Topology, topologyOf}
+use Rattle.network_file.specs.declared.Loaded.{Loaded}
+use Rattle.network_file.specs.declared.Written.{Written}
+use Rattle.network_file.specs.declared.Written.the-variants as written
+use Rattle.network_file.specs.Reading.{readNetwork, Reads}
+use Rattle.network_file.specs.Writing.{lengthRead}
+use Rattle.network_file.proofs.RoundTrip.{read-passes, read-stands}
+use Rattle.ledger.specs.Sessions.{View}
+use Rattle.ledger.specs.Sound.{intact}
+use Rattle.ledger.specs.Demand.{fresh}
+use Rattle.ledger.proofs.Intact.{fresh-intact}
+use Rattle.state.specs.State.{viewOf}
+use Rattle.sessions.specs.declared.Begun.{Begun}
+use Rattle.sessions.specs.Calls.{Begins}
+use Rattle.text.specs.Digits.{Puts}
+use Rattle.text.specs.Lines.{networkLine}
+use Rattle.report.specs.Transcript.{callsIn, counted, linesOf, textOn, transcript}
+use Rattle.report.specs.Reports.{tooShort, lengthOr20, bufferWith, Reports, asNumber}
+
+-- ---- what the first bytes are
+take-least : (s : List ℕ) (m : ℕ) → take (min (length s) m) s ≡ take m s
+take-least s m = go (ltb (length s) m) refl
+  where
+    go : (b : Bool) → ltb (length s) m ≡ b → take (min (length s) m) s ≡ take m s
+    go true e =
+        let h : length s < m = ltb-true (length s) m e in
+        let q : min (length s) m ≡ length s = omega arith in
+        rw (q, take-all (length s) s (omega arith), take-all m s (omega arith))
+    go false e =
+        let h : m ≤ length s = ltb-false (length s) m e in
+        let q : min (length s) m ≡ m = omega arith in
+        rw q
+
+pub counted-part : (s : List ℕ) (n : ℕ) → n ≡ min (length s) 65536 → (take n s ≡ counted s) × (length (take n s) ≤ 65536)
+unfolding counted
+counted-part s n e = (ap (λ (k : ℕ). take k s) e ∙ take-least s 65536, omega (arith, e, length-take-le n s (omega (arith, e))))
+
+-- ---- the text on a file that is refused, and on one that is read
+module _ (file calls : List ℕ) (bytes : IsBytes file) (l : Loaded) (reads : Reads (readNetwork file) l) where
+  pub refused-text : (r : Refusal) → l .verdict ≡ Refused r → (n : ℕ) → n ≡ refusalNumber r → transcript file calls ≡ networkLine n
+  unfolding transcript
+  refused-text r e n q =
+      let d : refused (refusalNumber r) ≡ rulingOf (readNetwork file) = ap ruling (sym e) ∙ reads .verdict in
+      rw (refused-is (readNetwork file) (refusalNumber r) d, q)
+
+  none : Topology
+  none = record { ticks = 0; links = [] }
+
+  module _ (e : l .verdict ≡ Passed) where
+    said : Topology
+    said = givenOr none (readNetwork file)
+
+    says : readNetwork file ≡ given said
+    unfolding said
+    says = given-is (readNetwork file) none (ap ruling (sym e) ∙ reads .verdict)
+
+    module _ (b : Begun) (begins : Begins (l .network) b) where
+      first-view : viewOf (b .state) ≡ fresh said
+      first-view = begins .view ∙ ap fresh (read-stands file said l bytes says reads)
+
+      pub first-intact : intact (viewOf (b .state)) ≡ true
+      first-intact = subst (λ (v : View). intact v ≡ true) (sym first-view) (fresh-intact said (read-passes file said bytes says))
+
+      pub read-text : (n : ℕ) → n ≡ min (length calls) 65536 → transcript file calls ≡ linesOf 1 (viewOf (b .state)) (callsIn (take n calls))
+      unfolding transcript
+      read-text n q = rw (says, first-view, counted-part calls n q .0)
+
+-- ---- a text in the buffer
+module _ (text before : List ℕ) where
+  pub short-report : length before < length text → (r : Written) → lengthRead r ≡ refused 20 → Reports text before before r
+  unfolding lengthOr20 bufferWith tooShort
+  short-report h r e = record { answer = e ∙ rw (lt-ltb (length before) (length text) h); buffer = rw (lt-ltb (length before) (length text) h) }
+
+  pub long-report : length text ≤ length before → (after : List ℕ) (n : ℕ) → Puts 0 text before after n → Reports text before after (written.Length n)
+  unfolding lengthOr20 bufferWith tooShort
+  long-report h after n p =
+      record {
+        answer = rw (le-ltb (length before) (length text) h) (ap given (p .0 ∙ zero-add (length text)));
+        buffer = p .1 ∙ rw (le-ltb (length before) (length text) h);
+      }
+
+-- the text back from the start of the buffer that it was put into
+pub text-back : (text before after : List ℕ) (n : ℕ) → Puts 0 text before after n → (take n after ≡ text) × (n ≡ length text)
+text-back text before after n p =
+    let e : n ≡ length text = p .0 ∙ zero-add (length text) in
+    (rw (p .1, put-zero text before) (take-at text (drop (length text) before) n (sym e)), e)
+
+-- the exported answer
+pub as-answer : (text before after : List ℕ) (r : Written) → Reports text before after r → (k : ℕ) → k ≡ asNumber (lengthRead r) → (k ≡ asNumber (lengthOr20 text before)) × (after ≡ bufferWith text before)
+as-answer text before after r w k e = (e ∙ ap asNumber (w .answer), w .buffer)

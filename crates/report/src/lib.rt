@@ -1,0 +1,265 @@
+// The run of the program frames (document 01, "The program frames"), from bytes to text: net.bin and the call records in, a line for each call out.
+// A state is known not to be broken from the fresh network on, so the calls are made on it without check 0.
+use call_records::Kind;
+use call_records::Record;
+use network_file::Written;
+use refusals::Refusal;
+use refusals::Verdict;
+use state::Answer;
+use state::Reply;
+use state::State;
+ghost use mathlib.Core.Path.{_≡_};
+ghost use mathlib.Core.Bool.{true};
+ghost use Prim.Native.Nat.{_+_, _<_, _≤_, min};
+ghost use lib.ListN.{length};
+ghost use Rattle.refusals.specs.Refusals.{refusalNumber, refusalCount, given, refused};
+ghost use Rattle.ledger.specs.Sound.{intact};
+ghost use Rattle.ledger.specs.Calls.{SetUp, Quote, Release};
+ghost use Rattle.ledger.specs.Calls as rules;
+ghost use Rattle.network_file.specs.Writing.{lengthRead};
+ghost use Rattle.call_records.specs.Records.{callIn, InBytes};
+ghost use Rattle.state.specs.State.{viewOf, replyIn, releasedIn};
+ghost use Rattle.text.specs.Digits.{Puts};
+ghost use Rattle.text.specs.Lines.{line};
+ghost use Rattle.report.specs.Transcript.{callsIn, lineOf, linesOf, transcript};
+ghost use Rattle.report.specs.Reports.{textBound, lengthOr20, bufferWith, Reports, asNumber, InPlaces, placeAfter, Turns};
+
+// After a call: the state, and the place after its line.
+pub struct Turn {
+    pub state: State,
+    pub at: usize,
+}
+
+// The line of a refusal.
+fn put_refusal(out: &mut [u8], at: usize, place: u32, letter: u8, refusal: Refusal) -> usize
+    requires { ⌜ at + length (line place letter (rules.refusal (refusalNumber refusal) (refusalCount refusal))) ≤ length (now out) ⌝ }
+    ensures { λ r. ⌜ Puts at (line place letter (rules.refusal (refusalNumber refusal) (refusalCount refusal))) (now (out .entry)) (now (out .exit)) r ⌝ }
+{
+    let number = refusals::number(refusal);
+    let count = refusals::count(refusal);
+    text::put_refused(out, at, place, letter, number, count)
+}
+
+// The line of a set-up or a quote over as many links.
+fn put_answer(
+    out: &mut [u8],
+    at: usize,
+    place: u32,
+    letter: u8,
+    answer: Answer,
+    hops: usize,
+) -> usize
+    requires { ⌜ InPlaces (answer .reply) hops × (at + length (line place letter (replyIn hops (answer .reply) (answer .frames))) ≤ length (now out)) ⌝ }
+    ensures { λ r. ⌜ Puts at (line place letter (replyIn hops (answer .reply) (answer .frames))) (now (out .entry)) (now (out .exit)) r ⌝ }
+{
+    let frames = answer.frames;
+    let reply = answer.reply;
+    match reply {
+        Reply::Schedule(delay, count) => {
+            text::put_served(out, at, place, letter, delay.0, count, &frames[..hops])
+        }
+        Reply::Refused(refusal) => put_refusal(out, at, place, letter, refusal),
+    }
+}
+
+// The line of a release.
+fn put_verdict(out: &mut [u8], at: usize, place: u32, verdict: Verdict) -> usize
+    requires { ⌜ at + length (line place 82 (releasedIn verdict)) ≤ length (now out) ⌝ }
+    ensures { λ r. ⌜ Puts at (line place 82 (releasedIn verdict)) (now (out .entry)) (now (out .exit)) r ⌝ }
+{
+    match verdict {
+        Verdict::Passed => text::put_freed(out, at, place, b'R'),
+        Verdict::Refused(refusal) => put_refusal(out, at, place, b'R', refusal),
+    }
+}
+
+// A set-up and its line.
+fn set_up(st: State, number: u16, route: &[u8], place: u32, out: &mut [u8], at: usize) -> Turn
+    requires { ⌜ (intact (viewOf st) ≡ true) × (at + length (lineOf place (viewOf st) (given (SetUp number (now route)))) ≤ length (now out)) ⌝ }
+    ensures { λ r. ⌜ Turns st (given (SetUp number (now (route .entry)))) place at (now (out .entry)) (now (out .exit)) r ⌝ }
+{
+    let served = state::set_up(st, number, route);
+    let answer = served.answer;
+    let next = put_answer(out, at, place, b'S', answer, route.len());
+    let after = served.state;
+    Turn {
+        state: after,
+        at: next,
+    }
+}
+
+// A quote and its line.
+fn quote(st: State, route: &[u8], place: u32, out: &mut [u8], at: usize) -> Turn
+    requires { ⌜ (intact (viewOf st) ≡ true) × (at + length (lineOf place (viewOf st) (given (Quote (now route)))) ≤ length (now out)) ⌝ }
+    ensures { λ r. ⌜ Turns st (given (Quote (now (route .entry)))) place at (now (out .entry)) (now (out .exit)) r ⌝ }
+{
+    let answer = state::quote(st, route);
+    let next = put_answer(out, at, place, b'Q', answer, route.len());
+    Turn {
+        state: st,
+        at: next,
+    }
+}
+
+// A release and its line.
+fn release(st: State, number: u16, place: u32, out: &mut [u8], at: usize) -> Turn
+    requires { ⌜ (intact (viewOf st) ≡ true) × (at + length (lineOf place (viewOf st) (given (Release number))) ≤ length (now out)) ⌝ }
+    ensures { λ r. ⌜ Turns st (given (Release number)) place at (now (out .entry)) (now (out .exit)) r ⌝ }
+{
+    let released = state::release(st, number);
+    let verdict = released.verdict;
+    let next = put_verdict(out, at, place, verdict);
+    let after = released.state;
+    Turn {
+        state: after,
+        at: next,
+    }
+}
+
+// The line of a record that can't be read: refusal 11.
+fn unreadable(st: State, place: u32, out: &mut [u8], at: usize) -> Turn
+    requires { ⌜ (intact (viewOf st) ≡ true) × (at + length (lineOf place (viewOf st) (refused 11)) ≤ length (now out)) ⌝ }
+    ensures { λ r. ⌜ Turns st (refused 11) place at (now (out .entry)) (now (out .exit)) r ⌝ }
+{
+    let next = put_refusal(out, at, place, b'?', Refusal::UnreadableCall);
+    Turn {
+        state: st,
+        at: next,
+    }
+}
+
+// The call of a record at the start of `rest`, and its line.
+fn serve(st: State, call: Record, rest: &[u8], place: u32, out: &mut [u8], at: usize) -> Turn
+    requires { ⌜ (intact (viewOf st) ≡ true) × InBytes call (length (now rest)) × (at + length (lineOf place (viewOf st) (callIn call (now rest))) ≤ length (now out)) ⌝ }
+    ensures { λ r. ⌜ Turns st (callIn call (now (rest .entry))) place at (now (out .entry)) (now (out .exit)) r ⌝ }
+{
+    let route = call_records::route(rest, call);
+    let kind = call.kind;
+    match kind {
+        Kind::SetUp => set_up(st, call.number, route, place, out, at),
+        Kind::Quote => quote(st, route, place, out, at),
+        Kind::Release => release(st, call.number, place, out, at),
+        Kind::Unreadable => unreadable(st, place, out, at),
+    }
+}
+
+// The place after a record that starts at `from`. A record that can't be read ends the calls.
+fn place_after(kind: Kind, from: usize, used: usize, last: usize) -> usize
+    requires { ⌜ (from ≤ 65536) × (used ≤ 65536) ⌝ }
+    ensures { λ r. ⌜ r ≡ placeAfter kind from used last ⌝ }
+{
+    match kind {
+        Kind::SetUp => from + used,
+        Kind::Quote => from + used,
+        Kind::Release => from + used,
+        Kind::Unreadable => last,
+    }
+}
+
+// The calls on a state, a line for each, and the last line.
+fn run(first: State, calls: &[u8], out: &mut [u8]) -> usize
+    requires { ⌜ (intact (viewOf first) ≡ true) × (length (now calls) ≤ 65536) × (length (linesOf 1 (viewOf first) (callsIn (now calls))) ≤ length (now out)) ⌝ }
+    ensures { λ r. ⌜ Puts 0 (linesOf 1 (viewOf first) (callsIn (now (calls .entry)))) (now (out .entry)) (now (out .exit)) r ⌝ }
+{
+    let mut st = first;
+    let mut from = 0;
+    let mut at = 0;
+    let mut place: u32 = 1;
+    while from < calls.len() {
+        let call = call_records::read_record(&calls[from..]);
+        let turn = serve(st, call, &calls[from..], place, out, at);
+        st = turn.state;
+        at = turn.at;
+        let kind = call.kind;
+        from = place_after(kind, from, call.end, calls.len());
+        place += 1;
+    }
+    let live = st.table.live;
+    text::put_live(out, at, live as u32)
+}
+
+// How many of so many call bytes count: the first 65,536.
+fn counted(n: usize) -> usize
+    ensures { λ r. ⌜ r ≡ min n 65536 ⌝ }
+{
+    if n < 65536 {
+        return n;
+    }
+    65536
+}
+
+// As many bytes serve for every text on so many call bytes.
+fn text_bound(n: usize) -> usize
+    ensures { λ r. ⌜ r ≡ textBound n ⌝ }
+{
+    22 + 11 * counted(n)
+}
+
+// The text, at the start of a buffer that has room for it.
+fn write_text(file: &[u8], calls: &[u8], out: &mut [u8]) -> usize
+    requires { ⌜ length (transcript (now file) (now calls)) ≤ length (now out) ⌝ }
+    ensures { λ r. ⌜ Puts 0 (transcript (now (file .entry)) (now (calls .entry))) (now (out .entry)) (now (out .exit)) r ⌝ }
+{
+    let loaded = network_file::read_network(file);
+    let verdict = loaded.verdict;
+    match verdict {
+        Verdict::Refused(refusal) => text::put_network(out, 0, refusals::number(refusal)),
+        Verdict::Passed => {
+            let network = loaded.network;
+            let begun = sessions::begin(network);
+            let first = begun.state;
+            run(first, &calls[..counted(calls.len())], out)
+        }
+    }
+}
+
+// Room for every text.
+fn room() -> [u8; 720918]
+    ensures { λ r. ⌜ length r ≡ 720918 ⌝ }
+{
+    [0; 720918]
+}
+
+// The text by way of a buffer that serves for every text, for a caller whose own may be too short.
+fn report_by_way(file: &[u8], calls: &[u8], out: &mut [u8]) -> Written
+    ensures { λ r. ⌜ Reports (transcript (now (file .entry)) (now (calls .entry))) (now (out .entry)) (now (out .exit)) r ⌝ }
+{
+    let mut text = room();
+    let n = write_text(file, calls, &mut text);
+    if out.len() < n {
+        return Written::Refused(Refusal::ShortBuffer);
+    }
+    text::put_bytes(out, 0, &text[..n]);
+    Written::Length(n)
+}
+
+// The run of the program frames: the text at the start of a buffer, and its length, or 20, which leaves the buffer as it is. A buffer of 22 bytes and
+// 11 for each call byte serves for every text (`text-bound`), and the text is then written to it at once.
+pub fn report(file: &[u8], calls: &[u8], out: &mut [u8]) -> Written
+    ensures { λ r. ⌜ Reports (transcript (now (file .entry)) (now (calls .entry))) (now (out .entry)) (now (out .exit)) r ⌝ }
+{
+    if out.len() < text_bound(calls.len()) {
+        return report_by_way(file, calls, out);
+    }
+    Written::Length(write_text(file, calls, out))
+}
+
+// An answer as one number.
+fn as_number(written: Written) -> u64
+    requires { ⌜ asNumber (lengthRead written) < 2000000 ⌝ }
+    ensures { λ r. ⌜ r ≡ asNumber (lengthRead written) ⌝ }
+{
+    match written {
+        Written::Length(n) => n as u64,
+        Written::Refused(refusal) => 1000000 + refusals::number(refusal) as u64,
+    }
+}
+
+// The same for callers in other languages: the text's length, or 1,000,020 where the buffer is too short.
+#[no_mangle]
+pub extern "C" fn frames_report(file: &[u8], calls: &[u8], out: &mut [u8]) -> u64
+    ensures { λ r. ⌜ (r ≡ asNumber (lengthOr20 (transcript (now (file .entry)) (now (calls .entry))) (now (out .entry)))) × (now (out .exit) ≡ bufferWith (transcript (now (file .entry)) (now (calls .entry))) (now (out .entry))) ⌝ }
+{
+    let written = report(file, calls, out);
+    as_number(written)
+}
