@@ -5,7 +5,6 @@ use Prim.Native.Nat.{ℕ, _+_, _≤_}
 use native.Mathlib.Nat.{add-zero}
 use native.Mathlib.Omega.{arith}
 use lib.ListN.{length, length-append, set}
-use Rattle.places.specs.Put.{putAt}
 use Rattle.places.proofs.Puts.{put-length, put-nil, put-put, put-set}
 use Rattle.text.specs.Digits.{Puts}
 

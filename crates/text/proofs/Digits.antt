@@ -1,15 +1,10 @@
 -- Laws of `dec`, and the digits put from the first on. Assumes nothing.
 use mathlib.Core.Path.{_≡_, refl, sym, ap, _∙_}
-use mathlib.Core.Bool.{Bool, true, false}
 use mathlib.Core.List.{List, [], _∷_, _++_}
-use mathlib.Core.Logic.{_⊎_, inl, inr, ⊎-elim}
-use Prim.Native.Nat.{ℕ, zero, suc, _+_, _*_, _/_, _%_, _^_, _≤_, _<_}
-use native.Mathlib.Nat.{pow-suc}
+use Prim.Native.Nat.{ℕ, zero, suc, _+_, _/_, _%_, _≤_, _<_}
 use native.Mathlib.Omega.{arith}
-use borrow.Author.Tests.{lt-ltb, le-ltb, ltb-true, ltb-false}
+use borrow.Author.Tests.{lt-ltb, le-ltb}
 use lib.ListN.{length, length-append, set, length-set}
-use lib.Dec.{ltb}
-use Rattle.places.specs.Put.{putAt}
 use Rattle.places.proofs.Puts.{put-set, put-put, put-length}
 use Rattle.text.specs.Digits.{digitsBy, dec, Puts}
 
@@ -32,7 +27,7 @@ dec-more zero h = let z : _≡_ {A = ℕ} 0 1 = omega arith in cc
 dec-more (suc m) h = rw (le-ltb (suc m) 10, digits-any m (suc m / 10) (suc m / 10) (omega arith) (omega arith))
 
 -- one digit more
-long-more : (n : ℕ) → 10 ≤ n → length (dec n) ≡ length (dec (n / 10)) + 1
+pub long-more : (n : ℕ) → 10 ≤ n → length (dec n) ≡ length (dec (n / 10)) + 1
 long-more n h = ap length (dec-more n h) ∙ length-append (dec (n / 10)) ((48 + n % 10) ∷ [])
 
 -- ---- a single digit
@@ -67,18 +62,3 @@ module _ (o : List ℕ) (at n : ℕ) (h : 10 ≤ n) (room : at + length (dec n) 
 
     pub same-more : length (set q p (48 + n % 10)) ≡ length o
     same-more = length-set q p (48 + n % 10) ∙ same-less
-
--- ---- how many digits
-by-ten : (n : ℕ) → (n < 10) ⊎ (10 ≤ n)
-by-ten n = cases (ltb n 10) refl
-  where
-    cases : (b : Bool) → ltb n 10 ≡ b → (n < 10) ⊎ (10 ≤ n)
-    cases true e = inl (ltb-true n 10 e)
-    cases false e = inr (ltb-false n 10 e)
-
-pub dec-long : (k n : ℕ) → n < 10 ^ suc k → length (dec n) ≤ suc k
-dec-long zero n h = omega (arith, ap length (dec-small n (omega arith)))
-dec-long (suc k) n h =
-    let q : n < 10 ^ suc k * 10 = rw (← pow-suc 10 (suc k)) h in
-    ⊎-elim (λ (l : n < 10). omega (arith, ap length (dec-small n l)))
-    (λ (l : 10 ≤ n). omega (arith, long-more n l, dec-long k (n / 10) (omega arith))) (by-ten n)
