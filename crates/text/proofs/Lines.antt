@@ -1,0 +1,56 @@
+-- Each text as the pieces that are put for it. Assumes nothing.
+use mathlib.Core.Path.{_≡_, refl}
+use mathlib.Core.List.{List, [], _∷_, _++_, append-nil}
+use Prim.Native.Nat.{ℕ}
+use borrow.Author.Tests.{eq-eqb, ne-eqb}
+use Rattle.ledger.specs.Sessions.{Held}
+use Rattle.ledger.specs.Calls.{schedule, freed, refusal}
+use Rattle.text.specs.Digits.{dec, spaced, spacedAll}
+use Rattle.text.specs.Lines.{countText, scheduleText, head, line, liveLine, networkLine}
+use Rattle.text.proofs.Chains.{joined}
+
+pub spaced-is : (n : ℕ) → spaced n ≡ joined ((32 ∷ []) ∷ dec n ∷ [])
+unfolding spaced joined
+spaced-is n = rw (append-nil (dec n))
+
+pub head-is : (place letter : ℕ) → head place letter ≡ joined (dec place ∷ (32 ∷ []) ∷ (letter ∷ []) ∷ [])
+unfolding head joined
+head-is place letter = refl
+
+pub schedule-is : (delay count : ℕ) (frames : List ℕ) → scheduleText delay count frames ≡ joined (spaced delay ∷ spaced count ∷ spacedAll frames ∷ [])
+unfolding scheduleText joined
+schedule-is delay count frames = rw (append-nil (spacedAll frames))
+
+pub refusal-is : (number count : ℕ) → spaced number ++ countText number count ≡ joined (spaced number ∷ countText number count ∷ [])
+unfolding joined
+refusal-is number count = rw (append-nil (countText number count))
+
+-- the count of a refusal: none but with 18
+pub count-none : (number count : ℕ) → (number ≡ 18 → ⊥) → countText number count ≡ []
+unfolding countText
+count-none number count h = rw (ne-eqb number 18 h)
+
+pub count-some : (number count : ℕ) → number ≡ 18 → countText number count ≡ spaced count
+unfolding countText
+count-some number count h = rw (eq-eqb number 18 h)
+
+-- ---- the lines
+pub served-is : (place letter : ℕ) (held : Held) (count : ℕ) → line place letter (schedule held count) ≡ joined (head place letter ∷ (32 ∷ 111 ∷ 107 ∷ []) ∷ scheduleText (held .delay) count (held .frames) ∷ (10 ∷ []) ∷ [])
+unfolding line joined
+served-is place letter held count = refl
+
+pub freed-is : (place letter : ℕ) → line place letter freed ≡ joined (head place letter ∷ (32 ∷ 111 ∷ 107 ∷ 10 ∷ []) ∷ [])
+unfolding line joined
+freed-is place letter = refl
+
+pub refused-is : (place letter number count : ℕ) → line place letter (refusal number count) ≡ joined (head place letter ∷ (32 ∷ 110 ∷ 111 ∷ []) ∷ (spaced number ++ countText number count) ∷ (10 ∷ []) ∷ [])
+unfolding line joined
+refused-is place letter number count = refl
+
+pub live-is : (n : ℕ) → liveLine n ≡ joined ((108 ∷ 105 ∷ 118 ∷ 101 ∷ []) ∷ spaced n ∷ (10 ∷ []) ∷ [])
+unfolding liveLine joined
+live-is n = refl
+
+pub network-is : (n : ℕ) → networkLine n ≡ joined ((110 ∷ 101 ∷ 116 ∷ 32 ∷ 110 ∷ 111 ∷ []) ∷ spaced n ∷ (10 ∷ []) ∷ [])
+unfolding networkLine joined
+network-is n = refl

@@ -1,0 +1,109 @@
+-- How long each text is at most. Assumes nothing.
+use mathlib.Core.Path.{_≡_, refl, ap, _∙_}
+use mathlib.Core.Bool.{Bool, true, false}
+use mathlib.Core.Logic.{_⊎_, inl, inr, ⊎-elim}
+use mathlib.Core.List.{List, [], _∷_, _++_}
+use Prim.Native.Nat.{ℕ, zero, suc, _+_, _*_, _/_, _^_, _≤_, _<_}
+use native.Mathlib.Nat.{pow-suc}
+use native.Mathlib.Omega.{arith}
+use borrow.Author.Tests.{ltb-true, ltb-false}
+use lib.ListN.{length, getD, length-append}
+use lib.Dec.{ltb}
+use Rattle.ledger.specs.Calls.{schedule, freed, refusal}
+use Rattle.text.specs.Digits.{dec, spaced, spacedAll}
+use Rattle.text.specs.Lines.{countText, scheduleText, head, line, liveLine, networkLine}
+use Rattle.text.proofs.Digits.{dec-small, long-more}
+use Rattle.text.proofs.Chains.{joined}
+use Rattle.text.proofs.Lines.{head-is, schedule-is, count-none, count-some, served-is, freed-is, refused-is, live-is, network-is}
+
+by-ten : (n : ℕ) → (n < 10) ⊎ (10 ≤ n)
+by-ten n = cases (ltb n 10) refl
+  where
+    cases : (b : Bool) → ltb n 10 ≡ b → (n < 10) ⊎ (10 ≤ n)
+    cases true e = inl (ltb-true n 10 e)
+    cases false e = inr (ltb-false n 10 e)
+
+-- a number below 10 ^ (k + 1) has at most k + 1 digits
+pub dec-long : (k n : ℕ) → n < 10 ^ suc k → length (dec n) ≤ suc k
+dec-long zero n h = omega (arith, ap length (dec-small n (omega arith)))
+dec-long (suc k) n h =
+    let q : n < 10 ^ suc k * 10 = rw (← pow-suc 10 (suc k)) h in
+    ⊎-elim (λ (l : n < 10). omega (arith, ap length (dec-small n l)))
+    (λ (l : 10 ≤ n). omega (arith, long-more n l, dec-long k (n / 10) (omega arith))) (by-ten n)
+
+pub spaced-long : (k n : ℕ) → n < 10 ^ suc k → length (spaced n) ≤ suc (suc k)
+unfolding spaced
+spaced-long k n h = omega (arith, dec-long k n h)
+
+pub frames-long : (ns : List ℕ) → ((i : ℕ) → getD ns i 0 < 100) → length (spacedAll ns) ≤ 3 * length ns
+unfolding spacedAll
+frames-long [] h = omega arith
+frames-long (n ∷ ns) h =
+    let a : n < 100 = h 0 in
+    let l : length (spaced n) ≤ 3 = spaced-long 1 n a in
+    let m : length (spacedAll ns) ≤ 3 * length ns = frames-long ns (λ (i : ℕ). h (suc i)) in
+    omega (arith, length-append (spaced n) (spacedAll ns))
+
+-- ---- a text is as long as its pieces together
+abbrev total : List (List ℕ) → ℕ
+total [] = 0
+total (x ∷ xs) = length x + total xs
+
+joined-long : (xs : List (List ℕ)) → length (joined xs) ≡ total xs
+unfolding joined
+joined-long [] = refl
+joined-long (x ∷ xs) = length-append x (joined xs) ∙ rw (joined-long xs)
+
+long-of : (whole : List ℕ) (xs : List (List ℕ)) → whole ≡ joined xs → length whole ≡ total xs
+long-of whole xs e = ap length e ∙ joined-long xs
+
+head-long : (place letter : ℕ) → place < 100000 → length (head place letter) ≤ 7
+head-long place letter h =
+    let l : length (dec place) ≤ 5 = dec-long 4 place h in
+    omega (arith, long-of (head place letter) (dec place ∷ (32 ∷ []) ∷ (letter ∷ []) ∷ []) (head-is place letter))
+
+schedule-long : (delay count : ℕ) (frames : List ℕ) → delay < 10000 → count < 100000 → ((i : ℕ) → getD frames i 0 < 100) → length (scheduleText delay count frames) ≤ 11 + 3 * length frames
+schedule-long delay count frames d c f =
+    let m : length (spaced delay) ≤ 5 = spaced-long 3 delay d in
+    let n : length (spaced count) ≤ 6 = spaced-long 4 count c in
+    omega (arith, long-of (scheduleText delay count frames) (spaced delay ∷ spaced count ∷ spacedAll frames ∷ []) (schedule-is delay count frames), frames-long frames f)
+
+-- ---- the lines
+pub served-long : (place letter delay count : ℕ) (frames : List ℕ) → place < 100000 → delay < 10000 → count < 100000 → ((i : ℕ) → getD frames i 0 < 100) → length (line place letter (schedule record { frames = frames; delay = delay } count)) ≤ 22 + 3 * length frames
+served-long place letter delay count frames p d c f = omega (
+  arith,
+  long-of (line place letter (schedule record { frames = frames; delay = delay } count)) (head place letter ∷ (32 ∷ 111 ∷ 107 ∷ []) ∷ scheduleText delay count frames ∷ (10 ∷ []) ∷ []) (served-is place letter record { frames = frames; delay = delay } count),
+  head-long place letter p,
+  schedule-long delay count frames d c f,
+)
+
+pub freed-long : (place letter : ℕ) → place < 100000 → length (line place letter freed) ≤ 11
+freed-long place letter p = omega (arith, long-of (line place letter freed) (head place letter ∷ (32 ∷ 111 ∷ 107 ∷ 10 ∷ []) ∷ []) (freed-is place letter), head-long place letter p)
+
+refusal-long : (place letter number count : ℕ) → place < 100000 → number < 100 → length (line place letter (refusal number count)) ≤ 14 + length (countText number count)
+refusal-long place letter number count p n =
+    let l : length (spaced number) ≤ 3 = spaced-long 1 number n in
+    omega (
+      arith,
+      long-of (line place letter (refusal number count)) (head place letter ∷ (32 ∷ 110 ∷ 111 ∷ []) ∷ (spaced number ++ countText number count) ∷ (10 ∷ []) ∷ []) (refused-is place letter number count),
+      length-append (spaced number) (countText number count),
+      head-long place letter p,
+    )
+
+pub refused-long : (place letter number count : ℕ) → place < 100000 → number < 100 → (number ≡ 18 → ⊥) → length (line place letter (refusal number count)) ≤ 14
+refused-long place letter number count p n h = omega (arith, refusal-long place letter number count p n, ap length (count-none number count h))
+
+pub blocked-long : (place letter count : ℕ) → place < 100000 → count < 100000 → length (line place letter (refusal 18 count)) ≤ 20
+blocked-long place letter count p c =
+    let l : length (spaced count) ≤ 6 = spaced-long 4 count c in
+    omega (arith, refusal-long place letter 18 count p (omega arith), ap length (count-some 18 count refl))
+
+pub live-long : (n : ℕ) → n < 100 → length (liveLine n) ≤ 8
+live-long n h =
+    let l : length (spaced n) ≤ 3 = spaced-long 1 n h in
+    omega (arith, long-of (liveLine n) ((108 ∷ 105 ∷ 118 ∷ 101 ∷ []) ∷ spaced n ∷ (10 ∷ []) ∷ []) (live-is n))
+
+pub network-long : (n : ℕ) → n < 100 → length (networkLine n) ≤ 10
+network-long n h =
+    let l : length (spaced n) ≤ 3 = spaced-long 1 n h in
+    omega (arith, long-of (networkLine n) ((110 ∷ 101 ∷ 116 ∷ 32 ∷ 110 ∷ 111 ∷ []) ∷ spaced n ∷ (10 ∷ []) ∷ []) (network-is n))
