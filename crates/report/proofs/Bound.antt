@@ -31,7 +31,9 @@ use Rattle.ledger.proofs.Answered.{reply-intact, admitted, call-served}
 use Rattle.ledger.proofs.Refused.{not-eighteen}
 use Rattle.ledger.proofs.Kept.{next-intact}
 use Rattle.routes.proofs.Hops.{route-ready}
-use Rattle.call_records.specs.Records.{readRecord, callIn}
+use Rattle.call_records.specs.declared.Kind.{Kind}
+use Rattle.call_records.specs.declared.Kind.the-variants as kinds
+use Rattle.call_records.specs.Records.{readRecord, routeIn, callAs, callIn}
 use Rattle.call_records.proofs.Cases.{in-bytes}
 use Rattle.call_records.proofs.Lengths.{linksOf, record-long}
 use Rattle.text.specs.Lines.{letterOf, line, liveLine, networkLine}
@@ -112,14 +114,26 @@ reply-line place letter h v call e = rw (reply-intact v call e) (call-line (v .n
 live-most : (v : View) → intact v ≡ true → length (liveLine (length (v .live))) ≤ 8
 live-most v e = live-long (length (v .live)) (omega (arith, intact-is v e .few))
 
-lines-most : (n : ℕ) (s : List ℕ) (place : ℕ) (v : View) → intact v ≡ true → place + length s < 100000 → length (linesOf place v (callsAfter n s)) ≤ 22 + 11 * (length s - n)
+-- a record is refused with 11 only
+only-eleven : (kind : Kind) (n : ℕ) (route : List ℕ) (k : ℕ) → callAs kind n route ≡ refused k → k ≡ 11
+only-eleven kinds.SetUp n route k e = cc
+only-eleven kinds.Quote n route k e = cc
+only-eleven kinds.Release n route k e = cc
+only-eleven kinds.Unreadable n route k e = cc
+
+none-after : (n : ℕ) → callsAfter n [] ≡ []
 unfolding callsAfter
-lines-most n [] place v e h = rw (lines-none place v) (omega (arith, live-most v e))
-lines-most (suc n) (b ∷ s) place v e h = omega (arith, lines-most n s place v e (omega arith))
-lines-most zero (b ∷ s) place v e h = go (callIn (readRecord (b ∷ s)) (b ∷ s)) refl (λ call q. lines-most (readRecord (b ∷ s) .end - 1) s (place + 1) (next v call) (next-intact v call e) (omega arith))
+none-after zero = refl
+none-after (suc n) = refl
+
+lines-most : (s : List ℕ) (n place : ℕ) (v : View) → intact v ≡ true → place + length s < 100000 → length (linesOf place v (callsAfter n s)) ≤ 22 + 11 * (length s - n)
+unfolding callsAfter
+lines-most [] n place v e h = rw (none-after n, lines-none place v) (omega (arith, live-most v e))
+lines-most (b ∷ s) (suc n) place v e h = omega (arith, lines-most s n place v e (omega arith))
+lines-most (b ∷ s) zero place v e h =
+    let m = go (callIn (readRecord (b ∷ s)) (b ∷ s)) refl (λ call q. lines-most s (readRecord (b ∷ s) .end - 1) (place + 1) (next v call) (next-intact v call e) (omega arith)) in
+    omega (arith, m)
   where
-    end : ℕ
-    end = readRecord (b ∷ s) .end
     go : (o : Outcome Call) → callIn (readRecord (b ∷ s)) (b ∷ s) ≡ o
         → ((call : Call) → o ≡ given call → length (linesOf (place + 1) (next v call) (callsAfter (readRecord (b ∷ s) .end - 1) s)) ≤ 22 + 11 * (length s - (readRecord (b ∷ s) .end - 1)))
         → length (linesOf place v (thenOthers o (callsAfter (readRecord (b ∷ s) .end - 1) s))) ≤ 22 + 11 * suc (length s)
@@ -135,8 +149,15 @@ lines-most zero (b ∷ s) place v e h = go (callIn (readRecord (b ∷ s)) (b ∷
           rest call refl,
         )
     go (refused k) q rest =
-        let m = lines-more place v (refused k) [] in
-        ?
+        let is : k ≡ 11 = only-eleven (readRecord (b ∷ s) .kind) (readRecord (b ∷ s) .number) (routeIn (readRecord (b ∷ s)) (b ∷ s)) k q in
+        omega (
+          arith,
+          ap length (lines-more place v (refused k) []),
+          length-append (line place 63 (refusal k 0)) (linesOf (place + 1) v []),
+          ap length (lines-none (place + 1) v),
+          live-most v e,
+          refused-long place 63 k 0 (omega arith) (omega (arith, is)) (λ z. omega (arith, is, z)),
+        )
 
 -- AS MANY BYTES SERVE FOR EVERY TEXT
 pub text-bound : (file calls : List ℕ) → IsBytes file → length (transcript file calls) ≤ textBound (length calls)
@@ -144,5 +165,7 @@ unfolding transcript textBound counted
 text-bound file calls bytes = go (readNetwork file) refl
   where
     go : (o : Outcome Topology) → readNetwork file ≡ o → length (textOn o calls) ≤ 22 + 11 * min (length calls) 65536
-    go (given net) e = ?
+    go (given net) e =
+        let n : length (take 65536 calls) ≡ min 65536 (length calls) = length-take 65536 calls in
+        omega (arith, lines-most (take 65536 calls) 0 1 (fresh net) (fresh-intact net (read-passes file net bytes e)) (omega (arith, n)), n)
     go (refused n) e = omega (arith, network-long n (omega (arith, file-number file n e)))

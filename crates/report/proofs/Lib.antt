@@ -3,3 +3,4 @@ pub mod Running
 pub mod Answering
 pub mod Whole
 pub mod Numbers
+pub mod Bound

@@ -1,0 +1,46 @@
+use borrow.Author.Needs.{needs}
+use Rattle.report.proofs.as_number.Statement.{statement}
+use Rattle.report.proofs.as_number.Tie as tie
+use Rattle.report.proofs.as_number.Reads as reads
+use Rattle.report.proofs.as_number.Lts as lts
+use Rattle.refusals.proofs.number.Reads as number-reads
+
+-- src/lib.rt:253:25
+enum-known-written : tie.Need-enum-known-written
+enum-known-written c = search needs
+
+-- src/lib.rt:254:26
+enum-known-written-2 : tie.Need-enum-known-written-2
+enum-known-written-2 c = search needs
+
+-- src/lib.rt:254:48
+number-requires : tie.Need-number-requires
+number-requires c κs = search needs
+
+-- src/lib.rt:254:48
+cast-result : tie.Need-cast-result
+cast-result c = search needs
+
+-- src/lib.rt:254:38
+add-result : tie.Need-add-result
+add-result c = search needs
+
+-- src/lib.rt:248:1
+returns : tie.Need-returns
+returns c = search needs
+
+-- src/lib.rt:248:1
+returns-2 : tie.Need-returns-2
+returns-2 c = ?
+
+pub as-number-spec : {M : Type 1} → statement M
+as-number-spec =
+    tie.close
+    (tie.spec
+    enum-known-written
+    enum-known-written-2
+    number-requires
+    cast-result
+    add-result
+    returns
+    returns-2)

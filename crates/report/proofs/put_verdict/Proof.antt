@@ -1,0 +1,52 @@
+use borrow.Author.Needs.{needs}
+use Rattle.report.proofs.put_verdict.Statement.{statement}
+use Rattle.report.proofs.put_verdict.Tie as tie
+use Rattle.report.proofs.put_verdict.Reads as reads
+use Rattle.report.proofs.put_verdict.Lts as lts
+use Rattle.report.proofs.put_refusal.Reads as put-refusal-reads
+use Rattle.text.proofs.put_freed.Reads as put-freed-reads
+
+-- src/lib.rt:71:44
+enum-told : tie.Need-enum-told
+enum-told c = search needs
+
+-- src/lib.rt:71:28
+put-freed-requires : tie.Need-put-freed-requires
+put-freed-requires c κs = ?
+
+-- src/lib.rt:72:26
+enum-known-verdict : tie.Need-enum-known-verdict
+enum-known-verdict c = search needs
+
+-- src/lib.rt:72:38
+put-refusal-requires : tie.Need-put-refusal-requires
+put-refusal-requires c κs = ?
+
+-- src/lib.rt:66:1
+same-length : tie.Need-same-length
+same-length c = search needs
+
+-- src/lib.rt:66:1
+returns : tie.Need-returns
+returns c = ?
+
+-- src/lib.rt:66:1
+same-length-2 : tie.Need-same-length-2
+same-length-2 c = search needs
+
+-- src/lib.rt:66:1
+returns-2 : tie.Need-returns-2
+returns-2 c = ?
+
+pub put-verdict-spec : {M : Type 1} → statement M
+put-verdict-spec =
+    tie.close
+    (tie.spec
+    enum-told
+    put-freed-requires
+    enum-known-verdict
+    put-refusal-requires
+    same-length
+    returns
+    same-length-2
+    returns-2)
