@@ -92,7 +92,7 @@ put-decimal-same-length-2 : (t : ℕ) → put-decimal-lts.Need-same-length-2 (
   put-decimal-below t,
   put-decimal.Post,
 ) (put-decimal-at t) put-decimal.Post
-put-decimal-same-length-2 t c = same-more (c .before .before .before .before .before .before .args .out .now) (c .before .before .before .before .before .before .args .at) (c .before .before .before .before .before .before .args .n) (c .before .before .before .before .if1 .left) (c .before .before .before .before .before .before .pre .1) _ _ (c .before .before .put-decimal .ensures)
+put-decimal-same-length-2 t c = same-more (c .before .before .before .before .before .before .args .out .now) (c .before .before .before .before .before .before .args .at) (c .before .before .before .before .before .before .args .n) (c .before .before .before .before .if1 .left) (c .before .before .before .before .before .before .pre .1) _ _ (c .before .before .put-decimal .ensures) _
 
 put-decimal-returns-2 : (t : ℕ) → put-decimal-lts.Need-returns-2 (
   put-decimal-below t,
