@@ -60,5 +60,5 @@ module _ (o : List ℕ) (at n : ℕ) (h : 10 ≤ n) (room : at + length (dec n) 
           put-set p (48 + n % 10) q room-last ∙ rw (e .0, e .1, dec-more n h) (put-put at (dec (n / 10)) ((48 + n % 10) ∷ []) o l),
         )
 
-    pub same-more : length (set q p (48 + n % 10)) ≡ length o
-    same-more = length-set q p (48 + n % 10) ∙ same-less
+    pub same-more : (v : ℕ) → length (set q p v) ≡ length o
+    same-more v = length-set q p v ∙ same-less

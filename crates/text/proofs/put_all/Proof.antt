@@ -1,12 +1,11 @@
 -- `text::put_all` meets its contract. The invariant: the numbers before `i` stand in the buffer, each after a space. Assumes nothing.
-use Rattle.text.proofs.put_all.Statement.{statement}
-use Rattle.text.proofs.put_all.Tie as tie
-use native.Mathlib.Omega.{arith}
 use Prim.Native.Nat.{_-_}
+use native.Mathlib.Omega.{arith}
 use lib.ListN.{length}
 use Rattle.places.proofs.Pieces.{Placed, none-placed, piece-room, one-placed, all-placed}
 use Rattle.text.proofs.Pieces.{spacedFrom, spaced-pieces}
-use Rattle.text.proofs.Pieces.{spacedFrom, spaced-pieces}
+use Rattle.text.proofs.put_all.Statement.{statement}
+use Rattle.text.proofs.put_all.Tie as tie
 
 abbrev Inv-loop : tie.InvT-loop
 Inv-loop out₀ at ns p₀ i₀ out p i = Placed (length ns) (spacedFrom ns) at out₀ out p i
@@ -14,39 +13,30 @@ Inv-loop out₀ at ns p₀ i₀ out p i = Placed (length ns) (spacedFrom ns) at 
 abbrev μ-loop : tie.MeasureT-loop
 μ-loop out₀ at ns p₀ i₀ out p i = length ns - i
 
--- src/lib.rt:64:5
 loop-holds : tie.Need-loop-holds Inv-loop μ-loop
 loop-holds c = none-placed _ _ _ (spaced-pieces _) _ _ (c .before .before .pre)
 
--- src/lib.rt:65:32
 shared-slice-read-put-spaced : tie.Need-shared-slice-read-put-spaced Inv-loop μ-loop
 shared-slice-read-put-spaced c = omega arith
 
--- src/lib.rt:65:32
 cast-put-spaced : tie.Need-cast-put-spaced Inv-loop μ-loop
 cast-put-spaced c = omega (arith, c .shared-slice-known2 .given (c .before .before .before .loop .i))
 
--- src/lib.rt:65:9
 put-spaced-requires : tie.Need-put-spaced-requires Inv-loop μ-loop
 put-spaced-requires c κs = piece-room _ _ _ (spaced-pieces (c .before .before .before .before .before .before .args .ns .now)) (c .before .before .before .before .before .before .args .at) (c .before .before .before .before .before .before .args .out .now) (c .before .before .before .before .before .before .pre) (c .before .before .before .loop .out) (c .before .before .before .loop .p) (c .before .before .before .loop .i) (c .before .before .before .loop .inv) (c .before .before .loop-test .taken)
 
--- src/lib.rt:66:9
 add-i : tie.Need-add-i Inv-loop μ-loop
 add-i c = omega arith
 
--- src/lib.rt:64:5
 loop-less : tie.Need-loop-less Inv-loop μ-loop
 loop-less c = omega arith
 
--- src/lib.rt:64:5
 loop-again : tie.Need-loop-again Inv-loop μ-loop
 loop-again c = one-placed _ _ _ (spaced-pieces (c .before .before .before .before .before .before .before .before .before .args .ns .now)) (c .before .before .before .before .before .before .before .before .before .args .at) (c .before .before .before .before .before .before .before .before .before .args .out .now) (c .before .before .before .before .before .before .before .before .before .pre) (c .before .before .before .before .before .before .loop .out) (c .before .before .before .before .before .before .loop .p) (c .before .before .before .before .before .before .loop .i) (c .before .before .before .before .before .before .loop .inv) (c .before .before .before .before .before .loop-test .taken) _ _ (c .before .before .put-spaced .ensures)
 
--- src/lib.rt:58:1
 same-length : tie.Need-same-length Inv-loop μ-loop
 same-length c = c .before .loop .inv .grown .long
 
--- src/lib.rt:58:1
 returns : tie.Need-returns Inv-loop μ-loop
 returns c = all-placed _ _ _ (spaced-pieces _) _ _ (c .before .before .before .before .pre) _ _ _ (c .before .loop .inv) (c .loop-test .left)
 

@@ -1,26 +1,19 @@
 -- `text::put_count` meets its contract. Assumes nothing.
 use borrow.Author.Needs.{needs}
+use Rattle.text.proofs.Chains.{puts-none}
+use Rattle.text.proofs.Lines.{count-none, count-some}
 use Rattle.text.proofs.put_count.Statement.{statement}
 use Rattle.text.proofs.put_count.Tie as tie
-use Prim.Native.Nat.{_-_}
-use Rattle.text.proofs.Chains.{puts-none}
-use Rattle.text.proofs.Lines.{count-none, count-some}
-use Rattle.text.proofs.Chains.{puts-none}
-use Rattle.text.proofs.Lines.{count-none, count-some}
 
--- src/lib.rt:97:9
 returns : tie.Need-returns
 returns c = rw (count-none (c .before .before .args .number) (c .before .before .args .count) (c .if1 .taken)) (puts-none _ _)
 
--- src/lib.rt:99:5
 put-spaced-requires : tie.Need-put-spaced-requires
 put-spaced-requires c κs = rw (count-some (c .before .before .before .args .number) (c .before .before .before .args .count) (c .before .if1 .left)) at (c .before .before .before .pre)
 
--- src/lib.rt:92:1
 same-length : tie.Need-same-length
 same-length c = search needs
 
--- src/lib.rt:92:1
 returns-2 : tie.Need-returns-2
 returns-2 c = rw (count-some (c .before .before .before .before .before .before .args .number) (c .before .before .before .before .before .before .args .count) (c .before .before .before .before .if1 .left)) (c .before .before .put-spaced .ensures)
 

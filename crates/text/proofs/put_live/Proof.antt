@@ -1,34 +1,35 @@
 -- `text::put_live` meets its contract. Assumes nothing.
 use borrow.Author.Needs.{needs}
-use Rattle.text.proofs.put_live.Statement.{statement}
-use Rattle.text.proofs.put_live.Tie as tie
-use Prim.Native.Nat.{_-_}
 use Rattle.text.proofs.Chains.{none-yet, piece-fits, piece-put, all-put}
 use Rattle.text.proofs.Lines.{live-is}
+use Rattle.text.proofs.put_live.Statement.{statement}
+use Rattle.text.proofs.put_live.Tie as tie
 
--- src/lib.rt:162:32
 slice-aggregate-put-bytes : tie.Need-slice-aggregate-put-bytes
 slice-aggregate-put-bytes c = search needs
 
--- src/lib.rt:162:9
 put-bytes-requires : tie.Need-put-bytes-requires
-put-bytes-requires c κs = piece-fits (none-yet (c .before .before .before .args .out .now) (live-is (c .before .before .before .args .live)) (c .before .before .before .pre))
+put-bytes-requires c κs =
+    let s = c .before .before .before in
+    piece-fits (none-yet (s .args .out .now) (live-is (s .args .live)) (s .pre))
 
--- src/lib.rt:163:9
 put-spaced-requires : tie.Need-put-spaced-requires
-put-spaced-requires c κs = piece-fits (piece-put (none-yet (c .before .before .before .before .before .before .before .args .out .now) (live-is (c .before .before .before .before .before .before .before .args .live)) (c .before .before .before .before .before .before .before .pre)) (c .before .before .before .put-bytes .ensures))
+put-spaced-requires c κs =
+    let s = c .before .before .before .before .before .before .before in
+    piece-fits (piece-put (none-yet (s .args .out .now) (live-is (s .args .live)) (s .pre)) (c .before .before .before .put-bytes .ensures))
 
--- src/lib.rt:164:5
 put-byte-requires : tie.Need-put-byte-requires
-put-byte-requires c κs = piece-fits (piece-put (piece-put (none-yet (c .before .before .before .before .before .before .before .before .before .before .before .args .out .now) (live-is (c .before .before .before .before .before .before .before .before .before .before .before .args .live)) (c .before .before .before .before .before .before .before .before .before .before .before .pre)) (c .before .before .before .before .before .before .before .put-bytes .ensures)) (c .before .before .before .put-spaced .ensures))
+put-byte-requires c κs =
+    let s = c .before .before .before .before .before .before .before .before .before .before .before in
+    piece-fits (piece-put (piece-put (none-yet (s .args .out .now) (live-is (s .args .live)) (s .pre)) (c .before .before .before .before .before .before .before .put-bytes .ensures)) (c .before .before .before .put-spaced .ensures))
 
--- src/lib.rt:158:1
 same-length : tie.Need-same-length
 same-length c = search needs
 
--- src/lib.rt:158:1
 returns : tie.Need-returns
-returns c = all-put (piece-put (piece-put (piece-put (none-yet (c .before .before .before .before .before .before .before .before .before .before .before .before .before .before .args .out .now) (live-is (c .before .before .before .before .before .before .before .before .before .before .before .before .before .before .args .live)) (c .before .before .before .before .before .before .before .before .before .before .before .before .before .before .pre)) (c .before .before .before .before .before .before .before .before .before .before .put-bytes .ensures)) (c .before .before .before .before .before .before .put-spaced .ensures)) (c .before .before .put-byte .ensures))
+returns c =
+    let s = c .before .before .before .before .before .before .before .before .before .before .before .before .before .before in
+    all-put (piece-put (piece-put (piece-put (none-yet (s .args .out .now) (live-is (s .args .live)) (s .pre)) (c .before .before .before .before .before .before .before .before .before .before .put-bytes .ensures)) (c .before .before .before .before .before .before .put-spaced .ensures)) (c .before .before .put-byte .ensures))
 
 pub put-live-spec : {M : Type 1} → statement M
 put-live-spec =
