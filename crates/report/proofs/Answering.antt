@@ -4,8 +4,9 @@ use mathlib.Core.Bool.{true}
 use mathlib.Core.List.{List, []}
 use Prim.Native.Nat.{ℕ, _+_, _≤_}
 use lib.ListN.{length, take}
-use Rattle.refusals.specs.Refusals.{Ruling, Outcome, given, refused, pass, refusalNumber}
-use Rattle.refusals.specs.declared.Verdict.{Verdict}
+use Rattle.refusals.specs.Refusals.{Ruling, given, refused, pass, refusalNumber, refusalCount}
+use Rattle.refusals.specs.declared.Refusal.{Refusal}
+use Rattle.forwarding.specs.declared.Delay.{Delay}
 use Rattle.network.specs.Network.{Topology}
 use Rattle.ledger.specs.Sessions.{Held, Session, View}
 use Rattle.ledger.specs.Routes.{routeCheck}
@@ -111,3 +112,21 @@ module _ (call : Record) (s : List ℕ) where
 
   pub says-nothing : call .kind ≡ kinds.Unreadable → callIn call s ≡ refused 11
   says-nothing k = rw k
+
+-- ---- the line of an answer, by what it is
+module _ (hops place letter at : ℕ) (frames : List ℕ) (r : Reply) where
+  pub schedule-room : (d : Delay) (c n : ℕ) → r ≡ replies.Schedule d c → InPlaces r hops × (at + length (line place letter (replyIn hops r frames)) ≤ n)
+      → (hops ≤ 8) × (at + length (line place letter (schedule record { frames = take hops frames; delay = d .0 } c)) ≤ n)
+  schedule-room d c n e h = rw e at h
+
+  pub schedule-put : (d : Delay) (c : ℕ) → r ≡ replies.Schedule d c → (before after : List ℕ) (k : ℕ) → Puts at (line place letter (schedule record { frames = take hops frames; delay = d .0 } c)) before after k
+      → Puts at (line place letter (replyIn hops r frames)) before after k
+  schedule-put d c e before after k p = rw e p
+
+  pub refusal-room : (x : Refusal) (n : ℕ) → r ≡ replies.Refused x → InPlaces r hops × (at + length (line place letter (replyIn hops r frames)) ≤ n)
+      → at + length (line place letter (rules.refusal (refusalNumber x) (refusalCount x))) ≤ n
+  refusal-room x n e h = rw e at (h .1)
+
+  pub refusal-put : (x : Refusal) → r ≡ replies.Refused x → (before after : List ℕ) (k : ℕ) → Puts at (line place letter (rules.refusal (refusalNumber x) (refusalCount x))) before after k
+      → Puts at (line place letter (replyIn hops r frames)) before after k
+  refusal-put x e before after k p = rw e p

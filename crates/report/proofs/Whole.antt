@@ -2,7 +2,7 @@
 use mathlib.Core.Path.{_≡_, refl, sym, ap, subst, _∙_}
 use mathlib.Core.Bool.{Bool, true, false}
 use mathlib.Core.List.{List, [], _∷_, _++_}
-use Prim.Native.Nat.{ℕ, _+_, _<_, _≤_, min}
+use Prim.Native.Nat.{ℕ, _+_, _*_, _<_, _≤_, min}
 use native.Mathlib.Nat.{zero-add}
 use native.Mathlib.Omega.{arith}
 use lib.ListN.{length, take, drop, length-append}
@@ -33,7 +33,7 @@ use Rattle.sessions.specs.Calls.{Begins}
 use Rattle.text.specs.Digits.{Puts}
 use Rattle.text.specs.Lines.{networkLine}
 use Rattle.report.specs.Transcript.{callsIn, counted, linesOf, textOn, transcript}
-use Rattle.report.specs.Reports.{tooShort, lengthOr20, bufferWith, Reports, asNumber}
+use Rattle.report.specs.Reports.{textBound, tooShort, lengthOr20, bufferWith, Reports, asNumber}
 
 -- ---- what the first bytes are
 take-least : (s : List ℕ) (m : ℕ) → take (min (length s) m) s ≡ take m s
@@ -52,6 +52,10 @@ take-least s m = go (ltb (length s) m) refl
 pub counted-part : (s : List ℕ) (n : ℕ) → n ≡ min (length s) 65536 → (take n s ≡ counted s) × (length (take n s) ≤ 65536)
 unfolding counted
 counted-part s n e = (ap (λ (k : ℕ). take k s) e ∙ take-least s 65536, omega (arith, e, length-take-le n s (omega (arith, e))))
+
+pub bound-is : (n k : ℕ) → k ≡ min n 65536 → 22 + 11 * k ≡ textBound n
+unfolding textBound
+bound-is n k e = rw e
 
 -- ---- the text on a file that is refused, and on one that is read
 module _ (file calls : List ℕ) (bytes : IsBytes file) (l : Loaded) (reads : Reads (readNetwork file) l) where

@@ -1,9 +1,9 @@
+-- `report::as_number` meets its contract. Assumes nothing.
 use borrow.Author.Needs.{needs}
 use Rattle.report.proofs.as_number.Statement.{statement}
 use Rattle.report.proofs.as_number.Tie as tie
-use Rattle.report.proofs.as_number.Reads as reads
-use Rattle.report.proofs.as_number.Lts as lts
-use Rattle.refusals.proofs.number.Reads as number-reads
+use Prim.Native.Nat.{_-_}
+use Prim.Native.Nat.{_-_}
 
 -- src/lib.rt:253:25
 enum-known-written : tie.Need-enum-known-written
@@ -31,7 +31,7 @@ returns c = search needs
 
 -- src/lib.rt:248:1
 returns-2 : tie.Need-returns-2
-returns-2 c = ?
+returns-2 c = rw (c .before .before .written2 .given .1, c .number .ensures)
 
 pub as-number-spec : {M : Type 1} → statement M
 as-number-spec =

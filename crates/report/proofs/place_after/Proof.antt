@@ -1,8 +1,9 @@
+-- `report::place_after` meets its contract. Assumes nothing.
 use borrow.Author.Needs.{needs}
 use Rattle.report.proofs.place_after.Statement.{statement}
 use Rattle.report.proofs.place_after.Tie as tie
-use Rattle.report.proofs.place_after.Reads as reads
-use Rattle.report.proofs.place_after.Lts as lts
+use Prim.Native.Nat.{_-_}
+use Prim.Native.Nat.{_-_}
 
 -- src/lib.rt:152:24
 enum-told : tie.Need-enum-told
@@ -34,15 +35,15 @@ enum-told-4 c = search needs
 
 -- src/lib.rt:147:1
 returns : tie.Need-returns
-returns c = ?
+returns c = rw (c .enum-told .given .1)
 
 -- src/lib.rt:147:1
 returns-2 : tie.Need-returns-2
-returns-2 c = ?
+returns-2 c = rw (c .enum-told2 .given .1)
 
 -- src/lib.rt:147:1
 returns-3 : tie.Need-returns-3
-returns-3 c = ?
+returns-3 c = rw (c .enum-told3 .given .1)
 
 -- src/lib.rt:147:1
 returns-4 : tie.Need-returns-4

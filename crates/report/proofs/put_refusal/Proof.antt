@@ -1,11 +1,9 @@
+-- `report::put_refusal` meets its contract. Assumes nothing.
 use borrow.Author.Needs.{needs}
 use Rattle.report.proofs.put_refusal.Statement.{statement}
 use Rattle.report.proofs.put_refusal.Tie as tie
-use Rattle.report.proofs.put_refusal.Reads as reads
-use Rattle.report.proofs.put_refusal.Lts as lts
-use Rattle.refusals.proofs.count.Reads as count-reads
-use Rattle.refusals.proofs.number.Reads as number-reads
-use Rattle.text.proofs.put_refused.Reads as put-refused-reads
+use Prim.Native.Nat.{_-_}
+use Prim.Native.Nat.{_-_}
 
 -- src/lib.rt:38:9
 number-requires : tie.Need-number-requires
@@ -17,7 +15,7 @@ count-requires c κs = search needs
 
 -- src/lib.rt:40:5
 put-refused-requires : tie.Need-put-refused-requires
-put-refused-requires c κs = ?
+put-refused-requires c κs = rw (c .before .before .number .ensures, c .before .count .ensures) (c .before .before .before .before .pre)
 
 -- src/lib.rt:34:1
 same-length : tie.Need-same-length
@@ -25,7 +23,7 @@ same-length c = search needs
 
 -- src/lib.rt:34:1
 returns : tie.Need-returns
-returns c = ?
+returns c = rw (c .before .before .before .before .before .number .ensures, c .before .before .before .before .count .ensures) at (c .before .before .put-refused .ensures)
 
 pub put-refusal-spec : {M : Type 1} → statement M
 put-refusal-spec =

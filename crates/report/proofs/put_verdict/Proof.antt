@@ -1,10 +1,9 @@
+-- `report::put_verdict` meets its contract. Assumes nothing.
 use borrow.Author.Needs.{needs}
 use Rattle.report.proofs.put_verdict.Statement.{statement}
 use Rattle.report.proofs.put_verdict.Tie as tie
-use Rattle.report.proofs.put_verdict.Reads as reads
-use Rattle.report.proofs.put_verdict.Lts as lts
-use Rattle.report.proofs.put_refusal.Reads as put-refusal-reads
-use Rattle.text.proofs.put_freed.Reads as put-freed-reads
+use Prim.Native.Nat.{_-_}
+use Prim.Native.Nat.{_-_}
 
 -- src/lib.rt:71:44
 enum-told : tie.Need-enum-told
@@ -12,7 +11,7 @@ enum-told c = search needs
 
 -- src/lib.rt:71:28
 put-freed-requires : tie.Need-put-freed-requires
-put-freed-requires c κs = ?
+put-freed-requires c κs = rw (c .before .enum-told .given .1) at (c .before .before .before .before .pre)
 
 -- src/lib.rt:72:26
 enum-known-verdict : tie.Need-enum-known-verdict
@@ -20,7 +19,7 @@ enum-known-verdict c = search needs
 
 -- src/lib.rt:72:38
 put-refusal-requires : tie.Need-put-refusal-requires
-put-refusal-requires c κs = ?
+put-refusal-requires c κs = rw (c .before .before .verdict .given .1) at (c .before .before .before .before .before .pre)
 
 -- src/lib.rt:66:1
 same-length : tie.Need-same-length
@@ -28,7 +27,7 @@ same-length c = search needs
 
 -- src/lib.rt:66:1
 returns : tie.Need-returns
-returns c = ?
+returns c = rw (c .before .before .before .before .enum-told .given .1) (c .before .before .put-freed .ensures)
 
 -- src/lib.rt:66:1
 same-length-2 : tie.Need-same-length-2
@@ -36,7 +35,7 @@ same-length-2 c = search needs
 
 -- src/lib.rt:66:1
 returns-2 : tie.Need-returns-2
-returns-2 c = ?
+returns-2 c = rw (c .before .before .before .before .before .verdict .given .1) (c .before .before .put-refusal .ensures)
 
 pub put-verdict-spec : {M : Type 1} → statement M
 put-verdict-spec =

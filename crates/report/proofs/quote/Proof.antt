@@ -1,10 +1,11 @@
+-- `report::quote` meets its contract. Assumes nothing.
 use borrow.Author.Needs.{needs}
 use Rattle.report.proofs.quote.Statement.{statement}
 use Rattle.report.proofs.quote.Tie as tie
-use Rattle.report.proofs.quote.Reads as reads
-use Rattle.report.proofs.quote.Lts as lts
-use Rattle.report.proofs.put_answer.Reads as put-answer-reads
-use Rattle.state.proofs.quote.Reads as quote-reads
+use Prim.Native.Nat.{_-_}
+use Rattle.report.proofs.Answering.{quote-room, quote-turn}
+use Prim.Native.Nat.{_-_}
+use Rattle.report.proofs.Answering.{quote-room, quote-turn}
 
 -- src/lib.rt:96:9
 quote-requires : tie.Need-quote-requires
@@ -12,7 +13,7 @@ quote-requires c κs = search needs
 
 -- src/lib.rt:97:9
 put-answer-requires : tie.Need-put-answer-requires
-put-answer-requires c κs = ?
+put-answer-requires c κs = quote-room (c .before .before .before .before .args .st) (c .before .before .before .before .pre .0) (c .before .before .before .before .args .route .now) _ (c .before .quote .ensures) _ _ _ (c .before .before .before .before .pre .1)
 
 -- src/lib.rt:92:1
 same-length : tie.Need-same-length
@@ -20,7 +21,7 @@ same-length c = search needs
 
 -- src/lib.rt:92:1
 returns : tie.Need-returns
-returns c = ?
+returns c = quote-turn (c .before .before .before .before .before .before .before .args .st) (c .before .before .before .before .before .before .before .pre .0) (c .before .before .before .before .before .before .before .args .route .now) _ (c .before .before .before .before .quote .ensures) _ _ _ _ _ (c .before .before .put-answer .ensures)
 
 pub quote-spec : {M : Type 1} → statement M
 quote-spec = tie.close (tie.spec quote-requires put-answer-requires same-length returns)

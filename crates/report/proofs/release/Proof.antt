@@ -1,10 +1,11 @@
+-- `report::release` meets its contract. Assumes nothing.
 use borrow.Author.Needs.{needs}
 use Rattle.report.proofs.release.Statement.{statement}
 use Rattle.report.proofs.release.Tie as tie
-use Rattle.report.proofs.release.Reads as reads
-use Rattle.report.proofs.release.Lts as lts
-use Rattle.report.proofs.put_verdict.Reads as put-verdict-reads
-use Rattle.state.proofs.release.Reads as release-reads
+use Prim.Native.Nat.{_-_}
+use Rattle.report.proofs.Answering.{release-room, release-turn}
+use Prim.Native.Nat.{_-_}
+use Rattle.report.proofs.Answering.{release-room, release-turn}
 
 -- src/lib.rt:109:9
 release-requires : tie.Need-release-requires
@@ -12,7 +13,7 @@ release-requires c κs = search needs
 
 -- src/lib.rt:111:9
 put-verdict-requires : tie.Need-put-verdict-requires
-put-verdict-requires c κs = ?
+put-verdict-requires c κs = release-room (c .before .before .before .args .st) (c .before .before .before .pre .0) (c .before .before .before .args .number) _ (c .before .release .ensures) _ _ _ (c .before .before .before .pre .1)
 
 -- src/lib.rt:105:1
 same-length : tie.Need-same-length
@@ -20,7 +21,7 @@ same-length c = search needs
 
 -- src/lib.rt:105:1
 returns : tie.Need-returns
-returns c = ?
+returns c = release-turn (c .before .before .before .before .before .before .before .args .st) (c .before .before .before .before .before .before .before .pre .0) (c .before .before .before .before .before .before .before .args .number) _ (c .before .before .before .before .before .release .ensures) _ _ _ _ _ (c .before .before .before .put-verdict .ensures)
 
 pub release-spec : {M : Type 1} → statement M
 release-spec = tie.close (tie.spec release-requires put-verdict-requires same-length returns)

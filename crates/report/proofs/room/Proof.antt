@@ -1,11 +1,13 @@
+-- `report::room` meets its contract. Assumes nothing.
 use Rattle.report.proofs.room.Statement.{statement}
 use Rattle.report.proofs.room.Tie as tie
-use Rattle.report.proofs.room.Reads as reads
-use Rattle.report.proofs.room.Lts as lts
+use Prim.Native.Nat.{ℕ, _-_}
+use lib.ListN.{length-replicate}
+use Prim.Native.Nat.{ℕ, _-_}
 
 -- src/lib.rt:217:1
 returns : tie.Need-returns
-returns c = ?
+returns c = length-replicate {0} {A = ℕ} 720918 0
 
 pub room-spec : {M : Type 1} → statement M
 room-spec = tie.close (tie.spec returns)

@@ -1,13 +1,11 @@
+-- `report::serve` meets its contract. Assumes nothing.
 use borrow.Author.Needs.{needs}
 use Rattle.report.proofs.serve.Statement.{statement}
 use Rattle.report.proofs.serve.Tie as tie
-use Rattle.report.proofs.serve.Reads as reads
-use Rattle.report.proofs.serve.Lts as lts
-use Rattle.call_records.proofs.route.Reads as route-reads
-use Rattle.report.proofs.quote.Reads as quote-reads
-use Rattle.report.proofs.release.Reads as release-reads
-use Rattle.report.proofs.set_up.Reads as set-up-reads
-use Rattle.report.proofs.unreadable.Reads as unreadable-reads
+use Prim.Native.Nat.{_-_}
+use Rattle.report.proofs.Answering.{says-set-up, says-quote, says-release, says-nothing}
+use Prim.Native.Nat.{_-_}
+use Rattle.report.proofs.Answering.{says-set-up, says-quote, says-release, says-nothing}
 
 -- src/lib.rt:136:9
 route-requires : tie.Need-route-requires
@@ -19,7 +17,7 @@ enum-told c = search needs
 
 -- src/lib.rt:139:24
 set-up-requires : tie.Need-set-up-requires
-set-up-requires c κs = ?
+set-up-requires c κs = (c .before .before .before .before .before .before .pre .0, rw (says-set-up (c .before .before .before .before .before .before .args .call) (c .before .before .before .before .before .before .args .rest .now) (c .before .enum-told .given .1) _ (c .before .before .before .route .ensures)) at (c .before .before .before .before .before .before .pre .2))
 
 -- src/lib.rt:140:48
 enum-told-2 : tie.Need-enum-told-2
@@ -27,7 +25,7 @@ enum-told-2 c = search needs
 
 -- src/lib.rt:140:24
 quote-requires : tie.Need-quote-requires
-quote-requires c κs = ?
+quote-requires c κs = (c .before .before .before .before .before .before .pre .0, rw (says-quote (c .before .before .before .before .before .before .args .call) (c .before .before .before .before .before .before .args .rest .now) (c .before .enum-told2 .given .1) _ (c .before .before .before .route .ensures)) at (c .before .before .before .before .before .before .pre .2))
 
 -- src/lib.rt:141:58
 enum-told-3 : tie.Need-enum-told-3
@@ -35,7 +33,7 @@ enum-told-3 c = search needs
 
 -- src/lib.rt:141:26
 release-requires : tie.Need-release-requires
-release-requires c κs = ?
+release-requires c κs = (c .before .before .before .before .before .before .pre .0, rw (says-release (c .before .before .before .before .before .before .args .call) (c .before .before .before .before .before .before .args .rest .now) (c .before .enum-told3 .given .1)) at (c .before .before .before .before .before .before .pre .2))
 
 -- src/lib.rt:142:51
 enum-told-4 : tie.Need-enum-told-4
@@ -43,7 +41,7 @@ enum-told-4 c = search needs
 
 -- src/lib.rt:142:29
 unreadable-requires : tie.Need-unreadable-requires
-unreadable-requires c κs = ?
+unreadable-requires c κs = (c .before .before .before .before .before .before .pre .0, rw (says-nothing (c .before .before .before .before .before .before .args .call) (c .before .before .before .before .before .before .args .rest .now) (c .before .enum-told4 .given .1)) at (c .before .before .before .before .before .before .pre .2))
 
 -- src/lib.rt:132:1
 same-length : tie.Need-same-length
@@ -51,7 +49,7 @@ same-length c = search needs
 
 -- src/lib.rt:132:1
 returns : tie.Need-returns
-returns c = ?
+returns c = rw (says-set-up (c .before .before .before .before .before .before .before .before .before .args .call) (c .before .before .before .before .before .before .before .before .before .args .rest .now) (c .before .before .before .before .enum-told .given .1) _ (c .before .before .before .before .before .before .route .ensures)) (c .before .before .set-up .ensures)
 
 -- src/lib.rt:132:1
 same-length-2 : tie.Need-same-length-2
@@ -59,7 +57,7 @@ same-length-2 c = search needs
 
 -- src/lib.rt:132:1
 returns-2 : tie.Need-returns-2
-returns-2 c = ?
+returns-2 c = rw (says-quote (c .before .before .before .before .before .before .before .before .before .args .call) (c .before .before .before .before .before .before .before .before .before .args .rest .now) (c .before .before .before .before .enum-told2 .given .1) _ (c .before .before .before .before .before .before .route .ensures)) (c .before .before .quote .ensures)
 
 -- src/lib.rt:132:1
 same-length-3 : tie.Need-same-length-3
@@ -67,7 +65,7 @@ same-length-3 c = search needs
 
 -- src/lib.rt:132:1
 returns-3 : tie.Need-returns-3
-returns-3 c = ?
+returns-3 c = rw (says-release (c .before .before .before .before .before .before .before .before .before .args .call) (c .before .before .before .before .before .before .before .before .before .args .rest .now) (c .before .before .before .before .enum-told3 .given .1)) (c .before .before .release .ensures)
 
 -- src/lib.rt:132:1
 same-length-4 : tie.Need-same-length-4
@@ -75,7 +73,7 @@ same-length-4 c = search needs
 
 -- src/lib.rt:132:1
 returns-4 : tie.Need-returns-4
-returns-4 c = ?
+returns-4 c = rw (says-nothing (c .before .before .before .before .before .before .before .before .before .args .call) (c .before .before .before .before .before .before .before .before .before .args .rest .now) (c .before .before .before .before .enum-told4 .given .1)) (c .before .before .unreadable .ensures)
 
 pub serve-spec : {M : Type 1} → statement M
 serve-spec =

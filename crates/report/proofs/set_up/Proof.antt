@@ -1,10 +1,11 @@
+-- `report::set_up` meets its contract. Assumes nothing.
 use borrow.Author.Needs.{needs}
 use Rattle.report.proofs.set_up.Statement.{statement}
 use Rattle.report.proofs.set_up.Tie as tie
-use Rattle.report.proofs.set_up.Reads as reads
-use Rattle.report.proofs.set_up.Lts as lts
-use Rattle.report.proofs.put_answer.Reads as put-answer-reads
-use Rattle.state.proofs.set_up.Reads as set-up-reads
+use Prim.Native.Nat.{_-_}
+use Rattle.report.proofs.Answering.{set-up-room, set-up-turn}
+use Prim.Native.Nat.{_-_}
+use Rattle.report.proofs.Answering.{set-up-room, set-up-turn}
 
 -- src/lib.rt:81:9
 set-up-requires : tie.Need-set-up-requires
@@ -12,7 +13,7 @@ set-up-requires c κs = search needs
 
 -- src/lib.rt:83:9
 put-answer-requires : tie.Need-put-answer-requires
-put-answer-requires c κs = ?
+put-answer-requires c κs = set-up-room (c .before .before .before .before .before .args .st) (c .before .before .before .before .before .pre .0) (c .before .before .before .before .before .args .number) (c .before .before .before .before .before .args .route .now) _ (c .before .before .set-up .ensures) _ _ _ (c .before .before .before .before .before .pre .1)
 
 -- src/lib.rt:77:1
 same-length : tie.Need-same-length
@@ -20,7 +21,7 @@ same-length c = search needs
 
 -- src/lib.rt:77:1
 returns : tie.Need-returns
-returns c = ?
+returns c = set-up-turn (c .before .before .before .before .before .before .before .before .before .args .st) (c .before .before .before .before .before .before .before .before .before .pre .0) (c .before .before .before .before .before .before .before .before .before .args .number) (c .before .before .before .before .before .before .before .before .before .args .route .now) _ (c .before .before .before .before .before .before .set-up .ensures) _ _ _ _ _ (c .before .before .before .put-answer .ensures)
 
 pub set-up-spec : {M : Type 1} → statement M
 set-up-spec = tie.close (tie.spec set-up-requires put-answer-requires same-length returns)

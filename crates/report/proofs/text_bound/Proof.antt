@@ -1,9 +1,10 @@
+-- `report::text_bound` meets its contract. Assumes nothing.
 use borrow.Author.Needs.{needs}
 use Rattle.report.proofs.text_bound.Statement.{statement}
 use Rattle.report.proofs.text_bound.Tie as tie
-use Rattle.report.proofs.text_bound.Reads as reads
-use Rattle.report.proofs.text_bound.Lts as lts
-use Rattle.report.proofs.counted.Reads as counted-reads
+use Prim.Native.Nat.{_-_}
+use Prim.Native.Nat.{_-_}
+use Rattle.report.proofs.Whole.{bound-is}
 
 -- src/lib.rt:195:15
 counted-requires : tie.Need-counted-requires
@@ -19,7 +20,7 @@ add-result c = search needs
 
 -- src/lib.rt:192:1
 returns : tie.Need-returns
-returns c = ?
+returns c = bound-is _ _ (c .counted .ensures)
 
 pub text-bound-spec : {M : Type 1} → statement M
 text-bound-spec = tie.close (tie.spec counted-requires mul-result add-result returns)
