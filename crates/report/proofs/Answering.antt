@@ -35,7 +35,6 @@ use Rattle.report.specs.Reports.{InPlaces, Turns}
 
 -- ---- an answer that is a schedule has a route that passed, and so at most eight links
 
-
 passed-route : (net : Topology) (ss : List Session) (call : Call) (held : Held) (count : ℕ) → unless (callCheck net ss call) (served net ss call) ≡ schedule held count
     → routeCheck net (linksOf call) ≡ given pass
 passed-route net ss (SetUp n route) held count e = go (callCheck net ss (SetUp n route)) refl e

@@ -10,7 +10,7 @@ use lib.Seq.{take-at, take-all, length-take-le}
 use lib.Dec.{ltb}
 use borrow.Author.Tests.{lt-ltb, le-ltb, ltb-true, ltb-false}
 use Rattle.places.specs.Put.{putAt}
-use Rattle.places.proofs.Puts.{put-zero}
+use Rattle.places.proofs.Puts.{put-zero, put-length}
 use Rattle.refusals.specs.Refusals.{Outcome, given, refused, pass, ruling, rulingOf, givenOr, refusalNumber}
 use Rattle.refusals.specs.declared.Refusal.{Refusal}
 use Rattle.refusals.specs.declared.Verdict.the-variants.{Passed, Refused}
@@ -49,6 +49,9 @@ take-least s m = go (ltb (length s) m) refl
         let q : min (length s) m ≡ m = omega arith in
         rw q
 
+pub counted-long : (s : List ℕ) (n : ℕ) → n ≡ min (length s) 65536 → n ≡ length (take n s)
+counted-long s n e = sym (length-take-le n s (omega (arith, e)))
+
 pub counted-part : (s : List ℕ) (n : ℕ) → n ≡ min (length s) 65536 → (take n s ≡ counted s) × (length (take n s) ≤ 65536)
 unfolding counted
 counted-part s n e = (ap (λ (k : ℕ). take k s) e ∙ take-least s 65536, omega (arith, e, length-take-le n s (omega (arith, e))))
@@ -57,13 +60,24 @@ pub bound-is : (n k : ℕ) → k ≡ min n 65536 → 22 + 11 * k ≡ textBound n
 unfolding textBound
 bound-is n k e = rw e
 
+-- the longest text that there is
+pub bound-most : (n : ℕ) → textBound n ≤ 720918
+unfolding textBound
+bound-most n = omega arith
+
 -- ---- the text on a file that is refused, and on one that is read
 module _ (file calls : List ℕ) (bytes : IsBytes file) (l : Loaded) (reads : Reads (readNetwork file) l) where
-  pub refused-text : (r : Refusal) → l .verdict ≡ Refused r → (n : ℕ) → n ≡ refusalNumber r → transcript file calls ≡ networkLine n
+  refused-text : (r : Refusal) → l .verdict ≡ Refused r → (n : ℕ) → n ≡ refusalNumber r → transcript file calls ≡ networkLine n
   unfolding transcript
   refused-text r e n q =
       let d : refused (refusalNumber r) ≡ rulingOf (readNetwork file) = ap ruling (sym e) ∙ reads .verdict in
       rw (refused-is (readNetwork file) (refusalNumber r) d, q)
+
+  pub refused-room : (r : Refusal) → l .verdict ≡ Refused r → (n : ℕ) → n ≡ refusalNumber r → (m : ℕ) → length (transcript file calls) ≤ m → 0 + length (networkLine n) ≤ m
+  refused-room r e n q m h = omega (arith, ap length (refused-text r e n q), h)
+
+  pub refused-put : (r : Refusal) → l .verdict ≡ Refused r → (n : ℕ) → n ≡ refusalNumber r → (before after : List ℕ) (k : ℕ) → Puts 0 (networkLine n) before after k → Puts 0 (transcript file calls) before after k
+  refused-put r e n q before after k p = rw (refused-text r e n q) p
 
   none : Topology
   none = record { ticks = 0; links = [] }
@@ -80,12 +94,20 @@ module _ (file calls : List ℕ) (bytes : IsBytes file) (l : Loaded) (reads : Re
       first-view : viewOf (b .state) ≡ fresh said
       first-view = begins .view ∙ ap fresh (read-stands file said l bytes says reads)
 
-      pub first-intact : intact (viewOf (b .state)) ≡ true
+      first-intact : intact (viewOf (b .state)) ≡ true
       first-intact = subst (λ (v : View). intact v ≡ true) (sym first-view) (fresh-intact said (read-passes file said bytes says))
 
-      pub read-text : (n : ℕ) → n ≡ min (length calls) 65536 → transcript file calls ≡ linesOf 1 (viewOf (b .state)) (callsIn (take n calls))
+      read-text : (n : ℕ) → n ≡ min (length calls) 65536 → transcript file calls ≡ linesOf 1 (viewOf (b .state)) (callsIn (take n calls))
       unfolding transcript
       read-text n q = rw (says, first-view, counted-part calls n q .0)
+
+      pub read-room : (n : ℕ) → n ≡ min (length calls) 65536 → (m : ℕ) → length (transcript file calls) ≤ m
+          → (intact (viewOf (b .state)) ≡ true) × (length (take n calls) ≤ 65536) × (length (linesOf 1 (viewOf (b .state)) (callsIn (take n calls))) ≤ m)
+      read-room n q m h = (first-intact, counted-part calls n q .1, rw (read-text n q) at h)
+
+      pub read-put : (n : ℕ) → n ≡ min (length calls) 65536 → (before after : List ℕ) (k : ℕ) → Puts 0 (linesOf 1 (viewOf (b .state)) (callsIn (take n calls))) before after k
+          → Puts 0 (transcript file calls) before after k
+      read-put n q before after k p = rw (read-text n q) p
 
 -- ---- a text in the buffer
 module _ (text before : List ℕ) where
@@ -93,19 +115,30 @@ module _ (text before : List ℕ) where
   unfolding lengthOr20 bufferWith tooShort
   short-report h r e = record { answer = e ∙ rw (lt-ltb (length before) (length text) h); buffer = rw (lt-ltb (length before) (length text) h) }
 
-  pub long-report : length text ≤ length before → (after : List ℕ) (n : ℕ) → Puts 0 text before after n → Reports text before after (written.Length n)
+  pub long-report : length text ≤ length before → (after : List ℕ) (n : ℕ) → n ≡ length text → after ≡ putAt 0 text before → Reports text before after (written.Length n)
   unfolding lengthOr20 bufferWith tooShort
-  long-report h after n p =
+  long-report h after n e q =
       record {
-        answer = rw (le-ltb (length before) (length text) h) (ap given (p .0 ∙ zero-add (length text)));
-        buffer = p .1 ∙ rw (le-ltb (length before) (length text) h);
+        answer = rw (le-ltb (length before) (length text) h) (ap given e);
+        buffer = q ∙ rw (le-ltb (length before) (length text) h);
       }
 
 -- the text back from the start of the buffer that it was put into
-pub text-back : (text before after : List ℕ) (n : ℕ) → Puts 0 text before after n → (take n after ≡ text) × (n ≡ length text)
-text-back text before after n p =
-    let e : n ≡ length text = p .0 ∙ zero-add (length text) in
-    (rw (p .1, put-zero text before) (take-at text (drop (length text) before) n (sym e)), e)
+module _ (text before after : List ℕ) (n : ℕ) (p : Puts 0 text before after n) where
+  pub back-long : n ≡ length text
+  back-long = p .0 ∙ zero-add (length text)
+
+  back-is : take n after ≡ text
+  back-is = rw (p .1, put-zero text before) (take-at text (drop (length text) before) n (sym back-long))
+
+  pub back-within : length text ≤ length before → n ≤ length after
+  back-within h = omega (arith, back-long, ap length (p .1), put-length 0 text before (omega (arith, h)))
+
+  pub back-fits : (m : ℕ) → n ≤ m → 0 + length (take n after) ≤ m
+  back-fits m h = omega (arith, ap length back-is, back-long, h)
+
+  pub back-put : (out out′ : List ℕ) → out′ ≡ putAt 0 (take n after) out → out′ ≡ putAt 0 text out
+  back-put out out′ e = e ∙ ap (λ (x : List ℕ). putAt 0 x out) back-is
 
 -- the exported answer
 pub as-answer : (text before after : List ℕ) (r : Written) → Reports text before after r → (k : ℕ) → k ≡ asNumber (lengthRead r) → (k ≡ asNumber (lengthOr20 text before)) × (after ≡ bufferWith text before)

@@ -10,7 +10,7 @@ use state::Reply;
 use state::State;
 ghost use mathlib.Core.Path.{_≡_};
 ghost use mathlib.Core.Bool.{true};
-ghost use Prim.Native.Nat.{_+_, _<_, _≤_, min};
+ghost use Prim.Native.Nat.{_+_, _≤_, min};
 ghost use lib.ListN.{length};
 ghost use Rattle.refusals.specs.Refusals.{refusalNumber, refusalCount, given, refused};
 ghost use Rattle.ledger.specs.Sound.{intact};
@@ -246,7 +246,6 @@ pub fn report(file: &[u8], calls: &[u8], out: &mut [u8]) -> Written
 
 // An answer as one number.
 fn as_number(written: Written) -> u64
-    requires { ⌜ asNumber (lengthRead written) < 2000000 ⌝ }
     ensures { λ r. ⌜ r ≡ asNumber (lengthRead written) ⌝ }
 {
     match written {

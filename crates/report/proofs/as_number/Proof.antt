@@ -4,6 +4,8 @@ use Rattle.report.proofs.as_number.Statement.{statement}
 use Rattle.report.proofs.as_number.Tie as tie
 use Prim.Native.Nat.{_-_}
 use Prim.Native.Nat.{_-_}
+use Prim.Native.Nat.{_-_}
+use Prim.Native.Nat.{_-_}
 
 -- src/lib.rt:253:25
 enum-known-written : tie.Need-enum-known-written

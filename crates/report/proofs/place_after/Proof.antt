@@ -4,6 +4,8 @@ use Rattle.report.proofs.place_after.Statement.{statement}
 use Rattle.report.proofs.place_after.Tie as tie
 use Prim.Native.Nat.{_-_}
 use Prim.Native.Nat.{_-_}
+use Prim.Native.Nat.{_-_}
+use Prim.Native.Nat.{_-_}
 
 -- src/lib.rt:152:24
 enum-told : tie.Need-enum-told

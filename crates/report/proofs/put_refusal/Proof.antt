@@ -4,6 +4,8 @@ use Rattle.report.proofs.put_refusal.Statement.{statement}
 use Rattle.report.proofs.put_refusal.Tie as tie
 use Prim.Native.Nat.{_-_}
 use Prim.Native.Nat.{_-_}
+use Prim.Native.Nat.{_-_}
+use Prim.Native.Nat.{_-_}
 
 -- src/lib.rt:38:9
 number-requires : tie.Need-number-requires

@@ -4,6 +4,8 @@ use Rattle.report.proofs.put_verdict.Statement.{statement}
 use Rattle.report.proofs.put_verdict.Tie as tie
 use Prim.Native.Nat.{_-_}
 use Prim.Native.Nat.{_-_}
+use Prim.Native.Nat.{_-_}
+use Prim.Native.Nat.{_-_}
 
 -- src/lib.rt:71:44
 enum-told : tie.Need-enum-told

@@ -6,6 +6,10 @@ use Prim.Native.Nat.{_-_}
 use Rattle.report.proofs.Answering.{quote-room, quote-turn}
 use Prim.Native.Nat.{_-_}
 use Rattle.report.proofs.Answering.{quote-room, quote-turn}
+use Prim.Native.Nat.{_-_}
+use Rattle.report.proofs.Answering.{quote-room, quote-turn}
+use Prim.Native.Nat.{_-_}
+use Rattle.report.proofs.Answering.{quote-room, quote-turn}
 
 -- src/lib.rt:96:9
 quote-requires : tie.Need-quote-requires

@@ -6,6 +6,10 @@ use Prim.Native.Nat.{_-_}
 use Rattle.report.proofs.Answering.{release-room, release-turn}
 use Prim.Native.Nat.{_-_}
 use Rattle.report.proofs.Answering.{release-room, release-turn}
+use Prim.Native.Nat.{_-_}
+use Rattle.report.proofs.Answering.{release-room, release-turn}
+use Prim.Native.Nat.{_-_}
+use Rattle.report.proofs.Answering.{release-room, release-turn}
 
 -- src/lib.rt:109:9
 release-requires : tie.Need-release-requires

@@ -1,11 +1,13 @@
+-- `report::report` meets its contract. Assumes nothing.
 use borrow.Author.Needs.{needs}
 use Rattle.report.proofs.report.Statement.{statement}
 use Rattle.report.proofs.report.Tie as tie
-use Rattle.report.proofs.report.Reads as reads
-use Rattle.report.proofs.report.Lts as lts
-use Rattle.report.proofs.report_by_way.Reads as report-by-way-reads
-use Rattle.report.proofs.text_bound.Reads as text-bound-reads
-use Rattle.report.proofs.write_text.Reads as write-text-reads
+use native.Mathlib.Omega.{arith}
+use Prim.Native.Nat.{_-_}
+use Rattle.report.proofs.Whole.{long-report}
+use Rattle.report.proofs.Bound.{text-bound}
+use Prim.Native.Nat.{_-_}
+use Rattle.report.proofs.Whole.{long-report, back-long}
 
 -- src/lib.rt:241:20
 text-bound-requires : tie.Need-text-bound-requires
@@ -25,7 +27,7 @@ returns c = search needs
 
 -- src/lib.rt:244:21
 write-text-requires : tie.Need-write-text-requires
-write-text-requires c κs = ?
+write-text-requires c κs = omega (arith, text-bound (c .before .before .before .before .before .before .args .file .now) (c .before .before .before .before .before .before .args .calls .now) (λ i. c .before .before .before .before .before .shared-slice-known .given i .fits), c .before .before .text-bound .ensures, c .before .if1 .left)
 
 -- src/lib.rt:238:1
 same-length-2 : tie.Need-same-length-2
@@ -33,7 +35,7 @@ same-length-2 c = search needs
 
 -- src/lib.rt:238:1
 returns-2 : tie.Need-returns-2
-returns-2 c = ?
+returns-2 c = long-report _ _ (omega (arith, text-bound (c .before .before .before .before .before .before .before .before .before .args .file .now) (c .before .before .before .before .before .before .before .before .before .args .calls .now) (λ i. c .before .before .before .before .before .before .before .before .shared-slice-known .given i .fits), c .before .before .before .before .before .text-bound .ensures, c .before .before .before .before .if1 .left)) _ _ (back-long _ _ _ _ (c .before .before .write-text .ensures)) (c .before .before .write-text .ensures .1)
 
 pub report-spec : {M : Type 1} → statement M
 report-spec =

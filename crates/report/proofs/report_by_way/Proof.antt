@@ -1,11 +1,18 @@
+-- `report::report_by_way` meets its contract. Assumes nothing.
 use borrow.Author.Needs.{needs}
 use Rattle.report.proofs.report_by_way.Statement.{statement}
 use Rattle.report.proofs.report_by_way.Tie as tie
-use Rattle.report.proofs.report_by_way.Reads as reads
-use Rattle.report.proofs.report_by_way.Lts as lts
-use Rattle.report.proofs.room.Reads as room-reads
-use Rattle.report.proofs.write_text.Reads as write-text-reads
-use Rattle.text.proofs.put_bytes.Reads as put-bytes-reads
+use mathlib.Core.Path.{refl}
+use native.Mathlib.Omega.{arith}
+use Prim.Native.Nat.{_-_}
+use lib.ListN.{length}
+use Rattle.report.proofs.Whole.{bound-most, short-report}
+use Rattle.report.proofs.Bound.{text-bound}
+use mathlib.Core.Path.{refl, sym}
+use Prim.Native.Nat.{_-_}
+use lib.ListN.{length}
+use Rattle.report.proofs.Whole.{bound-most, short-report, long-report, back-long, back-within, back-fits, back-put}
+use lib.Seq.{length-take-le}
 
 -- src/lib.rt:227:20
 room-requires : tie.Need-room-requires
@@ -17,23 +24,23 @@ slice-aggregate-write-text c = search needs
 
 -- src/lib.rt:228:9
 write-text-requires : tie.Need-write-text-requires
-write-text-requires c κs = ?
+write-text-requires c κs = omega (arith, text-bound (c .before .before .before .before .before .args .file .now) (c .before .before .before .before .before .args .calls .now) (λ i. c .before .before .before .before .shared-slice-known .given i .fits), bound-most (length (c .before .before .before .before .before .args .calls .now)), c .before .room .ensures)
 
 -- src/lib.rt:230:9
 returns : tie.Need-returns
-returns c = ?
+returns c = short-report _ _ (omega (arith, c .if1 .taken, back-long _ _ _ _ (c .before .before .write-text .ensures))) _ refl
 
 -- src/lib.rt:232:29
 array-share-prefix-text : tie.Need-array-share-prefix-text
-array-share-prefix-text c = ?
+array-share-prefix-text c = back-within _ _ _ _ (c .before .before .before .write-text .ensures) (omega (arith, text-bound (c .before .before .before .before .before .before .before .before .before .args .file .now) (c .before .before .before .before .before .before .before .before .before .args .calls .now) (λ i. c .before .before .before .before .before .before .before .before .shared-slice-known .given i .fits), bound-most (length (c .before .before .before .before .before .before .before .before .before .args .calls .now)), c .before .before .before .before .before .room .ensures))
 
 -- src/lib.rt:232:29
 slice-aggregate-put-bytes : tie.Need-slice-aggregate-put-bytes
-slice-aggregate-put-bytes c = ?
+slice-aggregate-put-bytes c = sym (length-take-le (c .before .before .before .before .write-text .result) (c .before .before .before .before .write-text .last .1 .1 .0) (back-within _ _ _ _ (c .before .before .before .before .write-text .ensures) (omega (arith, text-bound (c .before .before .before .before .before .before .before .before .before .before .args .file .now) (c .before .before .before .before .before .before .before .before .before .before .args .calls .now) (λ i. c .before .before .before .before .before .before .before .before .before .shared-slice-known .given i .fits), bound-most (length (c .before .before .before .before .before .before .before .before .before .before .args .calls .now)), c .before .before .before .before .before .before .room .ensures))))
 
 -- src/lib.rt:232:5
 put-bytes-requires : tie.Need-put-bytes-requires
-put-bytes-requires c κs = ?
+put-bytes-requires c κs = back-fits _ _ _ _ (c .before .before .before .before .write-text .ensures) _ (c .before .before .if1 .left)
 
 -- src/lib.rt:224:1
 same-length : tie.Need-same-length
@@ -41,7 +48,7 @@ same-length c = search needs
 
 -- src/lib.rt:224:1
 returns-2 : tie.Need-returns-2
-returns-2 c = ?
+returns-2 c = long-report _ _ (omega (arith, back-long _ _ _ _ (c .before .before .before .before .before .before .before .write-text .ensures), c .before .before .before .before .before .if1 .left)) _ _ (back-long _ _ _ _ (c .before .before .before .before .before .before .before .write-text .ensures)) (back-put _ _ _ _ (c .before .before .before .before .before .before .before .write-text .ensures) _ _ (c .before .before .put-bytes .ensures .1))
 
 pub report-by-way-spec : {M : Type 1} → statement M
 report-by-way-spec =

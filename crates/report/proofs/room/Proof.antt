@@ -4,6 +4,8 @@ use Rattle.report.proofs.room.Tie as tie
 use Prim.Native.Nat.{ℕ, _-_}
 use lib.ListN.{length-replicate}
 use Prim.Native.Nat.{ℕ, _-_}
+use Prim.Native.Nat.{ℕ, _-_}
+use Prim.Native.Nat.{ℕ, _-_}
 
 -- src/lib.rt:217:1
 returns : tie.Need-returns

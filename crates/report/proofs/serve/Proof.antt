@@ -6,6 +6,10 @@ use Prim.Native.Nat.{_-_}
 use Rattle.report.proofs.Answering.{says-set-up, says-quote, says-release, says-nothing}
 use Prim.Native.Nat.{_-_}
 use Rattle.report.proofs.Answering.{says-set-up, says-quote, says-release, says-nothing}
+use Prim.Native.Nat.{_-_}
+use Rattle.report.proofs.Answering.{says-set-up, says-quote, says-release, says-nothing}
+use Prim.Native.Nat.{_-_}
+use Rattle.report.proofs.Answering.{says-set-up, says-quote, says-release, says-nothing}
 
 -- src/lib.rt:136:9
 route-requires : tie.Need-route-requires

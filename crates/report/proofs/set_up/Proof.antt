@@ -6,6 +6,10 @@ use Prim.Native.Nat.{_-_}
 use Rattle.report.proofs.Answering.{set-up-room, set-up-turn}
 use Prim.Native.Nat.{_-_}
 use Rattle.report.proofs.Answering.{set-up-room, set-up-turn}
+use Prim.Native.Nat.{_-_}
+use Rattle.report.proofs.Answering.{set-up-room, set-up-turn}
+use Prim.Native.Nat.{_-_}
+use Rattle.report.proofs.Answering.{set-up-room, set-up-turn}
 
 -- src/lib.rt:81:9
 set-up-requires : tie.Need-set-up-requires

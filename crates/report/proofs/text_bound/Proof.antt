@@ -5,6 +5,8 @@ use Rattle.report.proofs.text_bound.Tie as tie
 use Prim.Native.Nat.{_-_}
 use Prim.Native.Nat.{_-_}
 use Rattle.report.proofs.Whole.{bound-is}
+use Prim.Native.Nat.{_-_}
+use Prim.Native.Nat.{_-_}
 
 -- src/lib.rt:195:15
 counted-requires : tie.Need-counted-requires

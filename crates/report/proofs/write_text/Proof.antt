@@ -1,14 +1,11 @@
+-- `report::write_text` meets its contract. Assumes nothing.
 use borrow.Author.Needs.{needs}
 use Rattle.report.proofs.write_text.Statement.{statement}
 use Rattle.report.proofs.write_text.Tie as tie
-use Rattle.report.proofs.write_text.Reads as reads
-use Rattle.report.proofs.write_text.Lts as lts
-use Rattle.network_file.proofs.read_network.Reads as read-network-reads
-use Rattle.refusals.proofs.number.Reads as number-reads
-use Rattle.report.proofs.counted.Reads as counted-reads
-use Rattle.report.proofs.run.Reads as run-reads
-use Rattle.sessions.proofs.begin.Reads as begin-reads
-use Rattle.text.proofs.put_network.Reads as put-network-reads
+use Prim.Native.Nat.{_-_}
+use Rattle.report.proofs.Whole.{counted-long, refused-room, refused-put, read-room, read-put}
+use Prim.Native.Nat.{_-_}
+use Rattle.report.proofs.Whole.{counted-long, refused-room, refused-put, read-room, read-put}
 
 -- src/lib.rt:203:9
 read-network-requires : tie.Need-read-network-requires
@@ -24,7 +21,7 @@ number-requires c κs = search needs
 
 -- src/lib.rt:206:38
 put-network-requires : tie.Need-put-network-requires
-put-network-requires c κs = ?
+put-network-requires c κs = refused-room (c .before .before .before .before .before .before .before .before .before .args .file .now) (c .before .before .before .before .before .before .before .before .before .args .calls .now) (λ i. c .before .before .before .before .before .before .before .before .shared-slice-known .given i .fits) _ (c .before .before .before .before .before .read-network .ensures) _ (c .before .before .before .verdict .given .1) _ (c .number .ensures) _ (c .before .before .before .before .before .before .before .before .before .pre)
 
 -- src/lib.rt:208:17
 enum-told : tie.Need-enum-told
@@ -40,11 +37,11 @@ counted-requires c κs = search needs
 
 -- src/lib.rt:211:24
 slice-aggregate-run : tie.Need-slice-aggregate-run
-slice-aggregate-run c = ?
+slice-aggregate-run c = counted-long (c .before .before .before .before .before .before .before .before .before .before .before .args .calls .now) _ (c .before .counted .ensures)
 
 -- src/lib.rt:211:13
 run-requires : tie.Need-run-requires
-run-requires c κs = ?
+run-requires c κs = read-room (c .before .before .before .before .before .before .before .before .before .before .before .before .args .file .now) (c .before .before .before .before .before .before .before .before .before .before .before .before .args .calls .now) (λ i. c .before .before .before .before .before .before .before .before .before .before .before .shared-slice-known .given i .fits) _ (c .before .before .before .before .before .before .before .before .read-network .ensures) (c .before .before .before .before .before .before .enum-told .given .1) _ (c .before .before .before .before .begin .ensures) _ (c .before .before .counted .ensures) _ (c .before .before .before .before .before .before .before .before .before .before .before .before .pre)
 
 -- src/lib.rt:199:1
 same-length : tie.Need-same-length
@@ -52,7 +49,7 @@ same-length c = search needs
 
 -- src/lib.rt:199:1
 returns : tie.Need-returns
-returns c = ?
+returns c = refused-put (c .before .before .before .before .before .before .before .before .before .before .before .before .args .file .now) (c .before .before .before .before .before .before .before .before .before .before .before .before .args .calls .now) (λ i. c .before .before .before .before .before .before .before .before .before .before .before .shared-slice-known .given i .fits) _ (c .before .before .before .before .before .before .before .before .read-network .ensures) _ (c .before .before .before .before .before .before .verdict .given .1) _ (c .before .before .before .number .ensures) _ _ _ (c .before .before .put-network .ensures)
 
 -- src/lib.rt:199:1
 same-length-2 : tie.Need-same-length-2
@@ -60,7 +57,7 @@ same-length-2 c = search needs
 
 -- src/lib.rt:199:1
 returns-2 : tie.Need-returns-2
-returns-2 c = ?
+returns-2 c = read-put (c .before .before .before .before .before .before .before .before .before .before .before .before .before .before .before .args .file .now) (c .before .before .before .before .before .before .before .before .before .before .before .before .before .before .before .args .calls .now) (λ i. c .before .before .before .before .before .before .before .before .before .before .before .before .before .before .shared-slice-known .given i .fits) _ (c .before .before .before .before .before .before .before .before .before .before .before .read-network .ensures) (c .before .before .before .before .before .before .before .before .before .enum-told .given .1) _ (c .before .before .before .before .before .before .before .begin .ensures) _ (c .before .before .before .before .before .counted .ensures) _ _ _ (c .before .before .run .ensures)
 
 pub write-text-spec : {M : Type 1} → statement M
 write-text-spec =
