@@ -24,7 +24,11 @@ pub fn least(ticks: u32, hops: &[Hop]) -> Answer {
 
     for j in 1..hops.len() {
         let from = hops[j - 1].frames;
-        let &Hop { frames, range, free } = &hops[j];
+        let &Hop {
+            frames,
+            range,
+            free,
+        } = &hops[j];
         let time = ticks / frames;
         let mut delays = [NEVER; FRAMES];
         let mut holds = [0u32; FRAMES];
@@ -72,5 +76,9 @@ pub fn least(ticks: u32, hops: &[Hop]) -> Answer {
         frames[j] = frame as u8;
         frame = preds[j][frame] as usize;
     }
-    Answer::Found { delay, count, frames }
+    Answer::Found {
+        delay,
+        count,
+        frames,
+    }
 }

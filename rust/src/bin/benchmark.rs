@@ -9,7 +9,7 @@ use frames_check::{dijkstra, library, model, survivors};
 /// The bytes of call records that the program reads.
 const CALLS: usize = 65_536;
 
-/// The quotes over 8 hops that Dijkstra's search is timed on.
+/// The quotes over 8 hops of a short list.
 const FEW: usize = 100;
 
 /// The lent buffer.
@@ -120,7 +120,10 @@ impl Work {
     /// The best time of Dijkstra's search, which answers the same bytes as the library. That comparison is the warm-up.
     fn time_of_dijkstra(&self, out: &mut [u8], limit: Duration) -> f64 {
         let length = self.library(out);
-        assert!(out[..length] == self.dijkstra()[..], "the library and Dijkstra's search differ");
+        assert!(
+            out[..length] == self.dijkstra()[..],
+            "the library and Dijkstra's search differ"
+        );
         let mut best = f64::INFINITY;
         repeat(limit, || {
             keep_best(&mut best, || {
@@ -136,7 +139,10 @@ impl Work {
 fn times<const N: usize>(works: &[Work; N], out: &mut [u8], limit: Duration) -> [[f64; 2]; N] {
     for work in works {
         let length = work.library(out);
-        assert!(out[..length] == work.survivors()[..], "the library and the survivor search differ");
+        assert!(
+            out[..length] == work.survivors()[..],
+            "the library and the survivor search differ"
+        );
     }
     let mut best = [[f64::INFINITY; 2]; N];
     repeat(limit, || {
@@ -152,10 +158,10 @@ fn times<const N: usize>(works: &[Work; N], out: &mut [u8], limit: Duration) -> 
     best
 }
 
-/// Goes round 3 to 25 times; past the third, no round begins once the time is up.
+/// Goes round 3 to 60 times; past the third, no round begins once the time is up.
 fn repeat(limit: Duration, mut round: impl FnMut()) {
     let begun = Instant::now();
-    for number in 0..25 {
+    for number in 0..60 {
         if number >= 3 && begun.elapsed() > limit {
             break;
         }
@@ -181,7 +187,12 @@ fn heading() {
 fn line(name: &str, [library, survivors]: [f64; 2], dijkstra: Option<f64>) {
     print!("{name:<44} {:>9.2} {:>9.2}", library * 1e6, survivors * 1e6);
     match dijkstra {
-        Some(dijkstra) => println!(" {:>9.2} {:>9.2} {:>9.2}", dijkstra * 1e6, library / survivors, library / dijkstra),
+        Some(dijkstra) => println!(
+            " {:>9.2} {:>9.2} {:>9.2}",
+            dijkstra * 1e6,
+            library / survivors,
+            library / dijkstra
+        ),
         None => println!(" {:>9} {:>9.2} {:>9}", "-", library / survivors, "-"),
     }
 }
@@ -195,20 +206,40 @@ fn list_of_quotes(route: &[u8], number: usize) -> Vec<u8> {
     calls
 }
 
-/// (a) Quotes over 8 hops of 64 frames, as many as the calls' bytes hold; for Dijkstra's search, which takes longer, fewer.
+/// (a) Quotes over 8 hops of 64 frames: the better of a list of as many as the calls' bytes hold and of a short list, which goes round more
+/// often; for Dijkstra's search, which takes longer, the short list alone.
 fn quotes(out: &mut [u8], random: &mut Random) {
     let route = [0, 1, 2, 3, 4, 5, 6, 7];
     let number = CALLS / (2 + route.len());
     for half in [false, true] {
         for range in [4, 16, 64] {
-            let links: Vec<Link> = (0..8).map(|_| Link { frames: 64, range, closed: if half { random.half() } else { 0 } }).collect();
+            let links: Vec<Link> = (0..8)
+                .map(|_| Link {
+                    frames: 64,
+                    range,
+                    closed: if half { random.half() } else { 0 },
+                })
+                .collect();
             let file = network(&links);
-            let few = Work { file: file.clone(), calls: list_of_quotes(&route, FEW) };
-            let all = Work { file, calls: list_of_quotes(&route, number) };
-            let [list] = times(&[all], out, Duration::from_secs(1));
-            let dijkstra = few.time_of_dijkstra(out, Duration::from_millis(500)) / FEW as f64;
+            let few = [Work {
+                file: file.clone(),
+                calls: list_of_quotes(&route, FEW),
+            }];
+            let all = [Work {
+                file,
+                calls: list_of_quotes(&route, number),
+            }];
+            let [short] = times(&few, out, Duration::from_secs(1));
+            let [long] = times(&all, out, Duration::from_millis(200));
+            let dijkstra = few[0].time_of_dijkstra(out, Duration::from_millis(500)) / FEW as f64;
+            let each =
+                [0, 1].map(|side| (short[side] / FEW as f64).min(long[side] / number as f64));
             let frames = if half { "half free" } else { "all free" };
-            line(&format!("quote, 8 hops of 64 frames, Z {range}, {frames}"), list.map(|t| t / number as f64), Some(dijkstra));
+            line(
+                &format!("quote, 8 hops of 64 frames, Z {range}, {frames}"),
+                each,
+                Some(dijkstra),
+            );
         }
     }
 }
@@ -217,7 +248,13 @@ fn quotes(out: &mut [u8], random: &mut Random) {
 /// The time of the list that only makes those sessions live is taken off.
 fn pairs(out: &mut [u8]) {
     let route = [0, 1];
-    let links: Vec<Link> = (0..32).map(|_| Link { frames: 64, range: 4, closed: 0 }).collect();
+    let links: Vec<Link> = (0..32)
+        .map(|_| Link {
+            frames: 64,
+            range: 4,
+            closed: 0,
+        })
+        .collect();
     let file = network(&links);
     for live in [10u16, 50, 90] {
         let mut prefix = Vec::new();
@@ -234,13 +271,25 @@ fn pairs(out: &mut [u8]) {
             quote(&mut with_quotes, &route);
             number += 1;
         }
-        let works = [prefix, with_pairs, with_quotes].map(|calls| Work { file: file.clone(), calls });
+        let works = [prefix, with_pairs, with_quotes].map(|calls| Work {
+            file: file.clone(),
+            calls,
+        });
         let [prefix, with_pairs, with_quotes] = times(&works, out, Duration::from_secs(2));
         let each = |list: [f64; 2]| [0, 1].map(|side| (list[side] - prefix[side]) / number as f64);
         let (pair, one) = (each(with_pairs), each(with_quotes));
-        line(&format!("set-up and release, 2 hops, {live} live"), pair, None);
+        line(
+            &format!("set-up and release, 2 hops, {live} live"),
+            pair,
+            None,
+        );
         line(&format!("quote, 2 hops, {live} live"), one, None);
-        println!("{:<44} {:>9.2} {:>9.2}", format!("  ratio of the pair to the quote, {live} live"), pair[0] / one[0], pair[1] / one[1]);
+        println!(
+            "{:<44} {:>9.2} {:>9.2}",
+            format!("  ratio of the pair to the quote, {live} live"),
+            pair[0] / one[0],
+            pair[1] / one[1]
+        );
     }
 }
 
@@ -272,16 +321,32 @@ fn runs(out: &mut [u8], random: &mut Random) {
         .map(|_| {
             let frames = 8 << random.below(4);
             let range = 1 + random.below(frames) as u8;
-            let closed = random.word() & random.word() & random.word() & (u64::MAX >> (64 - frames));
-            Link { frames: frames as u8, range, closed }
+            let closed =
+                random.word() & random.word() & random.word() & (u64::MAX >> (64 - frames));
+            Link {
+                frames: frames as u8,
+                range,
+                closed,
+            }
         })
         .collect();
     let (calls, number) = mixed(random);
-    let work = Work { file: network(&links), calls };
+    let work = Work {
+        file: network(&links),
+        calls,
+    };
     let dijkstra = work.time_of_dijkstra(out, Duration::from_secs(1));
     let [run] = times(&[work], out, Duration::from_secs(1));
-    line(&format!("run of {CALLS} bytes, {number} mixed calls"), run, Some(dijkstra));
-    line("  per call", run.map(|t| t / number as f64), Some(dijkstra / number as f64));
+    line(
+        &format!("run of {CALLS} bytes, {number} mixed calls"),
+        run,
+        Some(dijkstra),
+    );
+    line(
+        "  per call",
+        run.map(|t| t / number as f64),
+        Some(dijkstra / number as f64),
+    );
 }
 
 fn main() {
@@ -289,7 +354,7 @@ fn main() {
     let mut random = Random(0x2545_f491_4f6c_dd1d);
     println!("Best of several repetitions after a warm-up, the sides in turn, in one process; all are release builds.");
     println!("The lent buffer of 1 MiB is allocated once and is not cleared between runs.");
-    println!("Quotes over 8 hops: {FEW} a list for Dijkstra's search, else as many as {CALLS} bytes hold.");
+    println!("Quotes over 8 hops: the better of lists of {FEW} and of as many as {CALLS} bytes hold; Dijkstra's search on {FEW}.");
     heading();
     quotes(&mut out, &mut random);
     pairs(&mut out);
