@@ -1,0 +1,362 @@
+//! Times the static library beside plain Rust, in one process, and prints one table with the ratios.
+//! A list is timed only once the outputs of the sides that it is timed on are the same bytes.
+
+use std::hint::black_box;
+use std::time::{Duration, Instant};
+
+use frames_check::{dijkstra, library, model, survivors};
+
+/// The bytes of call records that the program reads.
+const CALLS: usize = 65_536;
+
+/// The quotes over 8 hops of a short list.
+const FEW: usize = 100;
+
+/// The lent buffer.
+const BUFFER: usize = 1 << 20;
+
+/// The cycle of every network here, in ticks: 64 divides it.
+const TICKS: u16 = 960;
+
+/// A link of a network: frames per cycle (K), forwarding range (Z) and closed frames.
+struct Link {
+    frames: u8,
+    range: u8,
+    closed: u64,
+}
+
+/// The bytes of net.bin. A field equal to its absent value is not written.
+fn network(links: &[Link]) -> Vec<u8> {
+    let mut file = TICKS.to_le_bytes().to_vec();
+    file.push(links.len() as u8);
+    for link in links {
+        let mut map = 0;
+        let mut fields = Vec::new();
+        if link.frames != 16 {
+            map |= 1;
+            fields.push(link.frames);
+        }
+        if link.range != 4 {
+            map |= 2;
+            fields.push(link.range);
+        }
+        if link.closed != 0 {
+            map |= 4;
+            fields.extend(link.closed.to_le_bytes());
+        }
+        file.push(map);
+        file.extend(fields);
+    }
+    file
+}
+
+fn set_up(calls: &mut Vec<u8>, number: u16, route: &[u8]) {
+    calls.push(1);
+    calls.extend(number.to_le_bytes());
+    calls.push(route.len() as u8);
+    calls.extend(route);
+}
+
+fn quote(calls: &mut Vec<u8>, route: &[u8]) {
+    calls.push(2);
+    calls.push(route.len() as u8);
+    calls.extend(route);
+}
+
+fn release(calls: &mut Vec<u8>, number: u16) {
+    calls.push(3);
+    calls.extend(number.to_le_bytes());
+}
+
+/// Pseudo-random numbers (xorshift), the same in every run.
+struct Random(u64);
+
+impl Random {
+    fn word(&mut self) -> u64 {
+        self.0 ^= self.0 << 13;
+        self.0 ^= self.0 >> 7;
+        self.0 ^= self.0 << 17;
+        self.0
+    }
+
+    fn below(&mut self, bound: u64) -> u64 {
+        (self.word() >> 20) % bound
+    }
+
+    /// A word with 32 of its 64 bits.
+    fn half(&mut self) -> u64 {
+        let mut word = 0u64;
+        while word.count_ones() < 32 {
+            word |= 1 << self.below(64);
+        }
+        word
+    }
+
+    /// A route of so many links out of 32; a link may appear twice.
+    fn route(&mut self, length: usize) -> Vec<u8> {
+        (0..length).map(|_| self.below(32) as u8).collect()
+    }
+}
+
+/// A network file, and a list of calls on it.
+struct Work {
+    file: Vec<u8>,
+    calls: Vec<u8>,
+}
+
+impl Work {
+    fn library(&self, out: &mut [u8]) -> usize {
+        library::report(&self.file, &self.calls, out).expect("the buffer is long enough")
+    }
+
+    fn survivors(&self) -> Vec<u8> {
+        model::transcript(&self.file, &self.calls, survivors::least)
+    }
+
+    fn dijkstra(&self) -> Vec<u8> {
+        model::transcript(&self.file, &self.calls, dijkstra::least)
+    }
+
+    /// The best time of Dijkstra's search, which answers the same bytes as the library. That comparison is the warm-up.
+    fn time_of_dijkstra(&self, out: &mut [u8], limit: Duration) -> f64 {
+        let length = self.library(out);
+        assert!(
+            out[..length] == self.dijkstra()[..],
+            "the library and Dijkstra's search differ"
+        );
+        let mut best = f64::INFINITY;
+        repeat(limit, || {
+            keep_best(&mut best, || {
+                black_box(self.dijkstra());
+            })
+        });
+        best
+    }
+}
+
+/// The best times of the library and of the survivor search on each of some lists, in turn. On each list they answer the same bytes; that
+/// comparison is the warm-up.
+fn times<const N: usize>(works: &[Work; N], out: &mut [u8], limit: Duration) -> [[f64; 2]; N] {
+    for work in works {
+        let length = work.library(out);
+        assert!(
+            out[..length] == work.survivors()[..],
+            "the library and the survivor search differ"
+        );
+    }
+    let mut best = [[f64::INFINITY; 2]; N];
+    repeat(limit, || {
+        for (work, best) in works.iter().zip(&mut best) {
+            keep_best(&mut best[0], || {
+                black_box(work.library(out));
+            });
+            keep_best(&mut best[1], || {
+                black_box(work.survivors());
+            });
+        }
+    });
+    best
+}
+
+/// Goes round 3 to 60 times; past the third, no round begins once the time is up.
+fn repeat(limit: Duration, mut round: impl FnMut()) {
+    let begun = Instant::now();
+    for number in 0..60 {
+        if number >= 3 && begun.elapsed() > limit {
+            break;
+        }
+        round();
+    }
+}
+
+/// Runs once, and keeps the time in seconds where it is the best so far.
+fn keep_best(best: &mut f64, run: impl FnOnce()) {
+    let begun = Instant::now();
+    run();
+    *best = best.min(begun.elapsed().as_secs_f64());
+}
+
+fn heading() {
+    println!(
+        "{:<44} {:>9} {:>9} {:>9} {:>9} {:>9}",
+        "microseconds", "library", "survivors", "Dijkstra", "lib/surv", "lib/Dijk"
+    );
+}
+
+/// A line of the table, from seconds.
+fn line(name: &str, [library, survivors]: [f64; 2], dijkstra: Option<f64>) {
+    print!("{name:<44} {:>9.2} {:>9.2}", library * 1e6, survivors * 1e6);
+    match dijkstra {
+        Some(dijkstra) => println!(
+            " {:>9.2} {:>9.2} {:>9.2}",
+            dijkstra * 1e6,
+            library / survivors,
+            library / dijkstra
+        ),
+        None => println!(" {:>9} {:>9.2} {:>9}", "-", library / survivors, "-"),
+    }
+}
+
+/// So many quotes over a route.
+fn list_of_quotes(route: &[u8], number: usize) -> Vec<u8> {
+    let mut calls = Vec::new();
+    for _ in 0..number {
+        quote(&mut calls, route);
+    }
+    calls
+}
+
+/// (a) Quotes over 8 hops of 64 frames: the better of a list of as many as the calls' bytes hold and of a short list, which goes round more
+/// often; for Dijkstra's search, which takes longer, the short list alone.
+fn quotes(out: &mut [u8], random: &mut Random) {
+    let route = [0, 1, 2, 3, 4, 5, 6, 7];
+    let number = CALLS / (2 + route.len());
+    for half in [false, true] {
+        for range in [4, 16, 64] {
+            let links: Vec<Link> = (0..8)
+                .map(|_| Link {
+                    frames: 64,
+                    range,
+                    closed: if half { random.half() } else { 0 },
+                })
+                .collect();
+            let file = network(&links);
+            let few = [Work {
+                file: file.clone(),
+                calls: list_of_quotes(&route, FEW),
+            }];
+            let all = [Work {
+                file,
+                calls: list_of_quotes(&route, number),
+            }];
+            let [short] = times(&few, out, Duration::from_secs(1));
+            let [long] = times(&all, out, Duration::from_millis(200));
+            let dijkstra = few[0].time_of_dijkstra(out, Duration::from_millis(500)) / FEW as f64;
+            let each =
+                [0, 1].map(|side| (short[side] / FEW as f64).min(long[side] / number as f64));
+            let frames = if half { "half free" } else { "all free" };
+            line(
+                &format!("quote, 8 hops of 64 frames, Z {range}, {frames}"),
+                each,
+                Some(dijkstra),
+            );
+        }
+    }
+}
+
+/// (b) Pairs of a set-up and a release over 2 hops while sessions on other links are live, beside as many quotes over the same route.
+/// The time of the list that only makes those sessions live is taken off.
+fn pairs(out: &mut [u8]) {
+    let route = [0, 1];
+    let links: Vec<Link> = (0..32)
+        .map(|_| Link {
+            frames: 64,
+            range: 4,
+            closed: 0,
+        })
+        .collect();
+    let file = network(&links);
+    for live in [10u16, 50, 90] {
+        let mut prefix = Vec::new();
+        for number in 0..live {
+            let link = 2 + 2 * (number % 15) as u8;
+            set_up(&mut prefix, number, &[link, link + 1]);
+        }
+        let mut with_pairs = prefix.clone();
+        let mut with_quotes = prefix.clone();
+        let mut number = 0;
+        while with_pairs.len() + 9 <= CALLS {
+            set_up(&mut with_pairs, live, &route);
+            release(&mut with_pairs, live);
+            quote(&mut with_quotes, &route);
+            number += 1;
+        }
+        let works = [prefix, with_pairs, with_quotes].map(|calls| Work {
+            file: file.clone(),
+            calls,
+        });
+        let [prefix, with_pairs, with_quotes] = times(&works, out, Duration::from_secs(2));
+        let each = |list: [f64; 2]| [0, 1].map(|side| (list[side] - prefix[side]) / number as f64);
+        let (pair, one) = (each(with_pairs), each(with_quotes));
+        line(
+            &format!("set-up and release, 2 hops, {live} live"),
+            pair,
+            None,
+        );
+        line(&format!("quote, 2 hops, {live} live"), one, None);
+        println!(
+            "{:<44} {:>9.2} {:>9.2}",
+            format!("  ratio of the pair to the quote, {live} live"),
+            pair[0] / one[0],
+            pair[1] / one[1]
+        );
+    }
+}
+
+/// A list of mixed calls that fills the calls' bytes, and how many calls it has.
+fn mixed(random: &mut Random) -> (Vec<u8>, usize) {
+    let mut calls = Vec::new();
+    let mut number = 0;
+    while calls.len() < CALLS {
+        let left = CALLS - calls.len();
+        let length = 1 + random.below(8) as usize;
+        let session = random.below(150) as u16;
+        let route = random.route(length);
+        match random.below(5) {
+            _ if left <= 10 => quote(&mut calls, &random.route(left - 2)),
+            _ if left <= 20 => release(&mut calls, session),
+            0 | 1 => set_up(&mut calls, session, &route),
+            2 => quote(&mut calls, &route),
+            _ => release(&mut calls, session),
+        }
+        number += 1;
+    }
+    assert!(calls.len() == CALLS);
+    (calls, number)
+}
+
+/// (c) Whole runs of mixed calls on 32 links of 8 to 64 frames, some of them closed.
+fn runs(out: &mut [u8], random: &mut Random) {
+    let links: Vec<Link> = (0..32)
+        .map(|_| {
+            let frames = 8 << random.below(4);
+            let range = 1 + random.below(frames) as u8;
+            let closed =
+                random.word() & random.word() & random.word() & (u64::MAX >> (64 - frames));
+            Link {
+                frames: frames as u8,
+                range,
+                closed,
+            }
+        })
+        .collect();
+    let (calls, number) = mixed(random);
+    let work = Work {
+        file: network(&links),
+        calls,
+    };
+    let dijkstra = work.time_of_dijkstra(out, Duration::from_secs(1));
+    let [run] = times(&[work], out, Duration::from_secs(1));
+    line(
+        &format!("run of {CALLS} bytes, {number} mixed calls"),
+        run,
+        Some(dijkstra),
+    );
+    line(
+        "  per call",
+        run.map(|t| t / number as f64),
+        Some(dijkstra / number as f64),
+    );
+}
+
+fn main() {
+    let mut out = vec![0u8; BUFFER];
+    let mut random = Random(0x2545_f491_4f6c_dd1d);
+    println!("Best of several repetitions after a warm-up, the sides in turn, in one process; all are release builds.");
+    println!("The lent buffer of 1 MiB is allocated once and is not cleared between runs.");
+    println!("Quotes over 8 hops: the better of lists of {FEW} and of as many as {CALLS} bytes hold; Dijkstra's search on {FEW}.");
+    heading();
+    quotes(&mut out, &mut random);
+    pairs(&mut out);
+    runs(&mut out, &mut random);
+}
