@@ -7,6 +7,7 @@ use native.Mathlib.Nat.{mul-le-mul}
 use native.Mathlib.Omega.{arith}
 use lib.ListN.{length, getD, take, length-append, length-map, length-take}
 use lib.Seq.{take-all}
+use borrow.Author.Tests.{le-ltb}
 use Rattle.trellis.specs.Walk.{Onward}
 use Rattle.places.specs.Places.{firsts}
 use Rattle.places.proofs.Firsts.{getD-firsts}
@@ -39,7 +40,7 @@ use Rattle.call_records.proofs.Lengths.{linksOf, record-long}
 use Rattle.text.specs.Lines.{letterOf, line, liveLine, networkLine}
 use Rattle.text.proofs.Long.{served-long, freed-long, refused-long, blocked-long, live-long, network-long}
 use Rattle.report.specs.Transcript.{thenOthers, callsAfter, callsIn, counted, lineOf, viewAfter, linesOf, textOn, transcript}
-use Rattle.report.specs.Reports.{textBound}
+use Rattle.report.specs.Reports.{textBound, tooShort, lengthOr20}
 use Rattle.report.proofs.Numbers.{file-number, call-number}
 use Rattle.report.proofs.Running.{lines-more, lines-none}
 
@@ -169,3 +170,10 @@ text-bound file calls bytes = go (readNetwork file) refl
         let n : length (take 65536 calls) ≡ min 65536 (length calls) = length-take 65536 calls in
         omega (arith, lines-most (take 65536 calls) 0 1 (fresh net) (fresh-intact net (read-passes file net bytes e)) (omega (arith, n)), n)
     go (refused n) e = omega (arith, network-long n (omega (arith, file-number file n e)))
+
+-- A BUFFER OF THE BOUND IS NEVER TOO SHORT
+pub room-serves : (file calls buffer : List ℕ) → IsBytes file → textBound (length calls) ≤ length buffer
+    → lengthOr20 (transcript file calls) buffer ≡ given (length (transcript file calls))
+unfolding lengthOr20 tooShort
+room-serves file calls buffer bytes h =
+    rw (le-ltb (length buffer) (length (transcript file calls)) (omega (arith, text-bound file calls bytes, h)))

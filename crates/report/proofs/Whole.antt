@@ -1,6 +1,6 @@
 -- The whole text, and the buffer that it is put into. Assumes nothing.
 use mathlib.Core.Path.{_≡_, refl, sym, ap, subst, _∙_}
-use mathlib.Core.Bool.{Bool, true, false}
+use mathlib.Core.Bool.{Bool, true, false, cond}
 use mathlib.Core.List.{List, [], _∷_, _++_}
 use Prim.Native.Nat.{ℕ, _+_, _*_, _<_, _≤_, min}
 use native.Mathlib.Nat.{zero-add}
@@ -11,7 +11,7 @@ use lib.Dec.{ltb}
 use borrow.Author.Tests.{lt-ltb, le-ltb, ltb-true, ltb-false}
 use Rattle.places.specs.Put.{putAt}
 use Rattle.places.proofs.Puts.{put-zero, put-length}
-use Rattle.refusals.specs.Refusals.{Outcome, given, refused, pass, ruling, rulingOf, givenOr, refusalNumber}
+use Rattle.refusals.specs.Refusals.{given, refused, refuseIf, orElse, ruling, rulingOf, givenOr, refusalNumber}
 use Rattle.refusals.specs.declared.Refusal.{Refusal}
 use Rattle.refusals.specs.declared.Verdict.the-variants.{Passed, Refused}
 use Rattle.refusals.proofs.Refusals.{refused-is, given-is}
@@ -122,6 +122,18 @@ module _ (text before : List ℕ) where
         answer = rw (le-ltb (length before) (length text) h) (ap given e);
         buffer = q ∙ rw (le-ltb (length before) (length text) h);
       }
+
+-- a length that was answered lies within the buffer
+pub length-within : (text before after : List ℕ) (r : Written) → Reports text before after r → (n : ℕ) → r ≡ written.Length n → n ≤ length after
+unfolding lengthOr20 bufferWith
+length-within text before after r w n e = go (tooShort text before) refl (ap lengthRead (sym e) ∙ w .answer) (w .buffer)
+  where
+    go : (b : Bool) → tooShort text before ≡ b → given n ≡ orElse (refuseIf b 20) (given (length text)) → after ≡ cond b before (putAt 0 text before) → n ≤ length after
+    go true q x y = let z : _≡_ {A = ℕ} 0 1 = cc in omega arith
+    go false q x y =
+        let k : n ≡ length text = cc in
+        let h : length text ≤ length before = unfold tooShort in ltb-false (length before) (length text) q in
+        omega (arith, k, h, ap length y, put-length 0 text before (omega (arith, h)))
 
 -- the text back from the start of the buffer that it was put into
 module _ (text before after : List ℕ) (n : ℕ) (p : Puts 0 text before after n) where

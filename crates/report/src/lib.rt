@@ -213,8 +213,8 @@ fn write_text(file: &[u8], calls: &[u8], out: &mut [u8]) -> usize
     }
 }
 
-// Room for every text.
-fn room() -> [u8; 720918]
+// Room for every text (`text-bound`).
+pub fn room() -> [u8; 720918]
     ensures { λ r. ⌜ length r ≡ 720918 ⌝ }
 {
     [0; 720918]
