@@ -5,3 +5,4 @@ pub mod Inverse
 pub mod RoundTrip
 pub mod Longest
 pub mod Worked
+pub mod FirstBytes

@@ -1,3 +1,4 @@
 pub mod Laws
 mod Loops
 pub mod Trip
+pub mod Front

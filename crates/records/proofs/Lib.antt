@@ -7,3 +7,4 @@ pub mod Maps
 pub mod WriteRead
 pub mod ReadWrite
 pub mod OneRecord
+pub mod Front
