@@ -6,6 +6,7 @@ pub mod listing;
 pub mod model;
 pub mod random;
 pub mod route;
+pub mod survivors;
 pub mod wrong;
 
 #[cfg(test)]
