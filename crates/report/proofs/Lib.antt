@@ -4,3 +4,4 @@ pub mod Answering
 pub mod Whole
 pub mod Numbers
 pub mod Bound
+pub mod Demands
