@@ -10,7 +10,22 @@ const FRAMES: usize = 64;
 const NEVER: u32 = u32::MAX;
 
 /// The schedule of least delay over hops 0 to n - 1, n from 1 to 8, for a cycle of so many ticks, with the count of transitions considered.
+/// The frame that a hold leads to is taken by the remainder, as the rule is written.
 pub fn least(ticks: u32, hops: &[Hop]) -> Answer {
+    search(ticks, hops, |sum, frames| sum % frames)
+}
+
+/// The same, where a sum past the cycle's end is taken back by a comparison and a subtraction.
+pub fn least_by_comparison(ticks: u32, hops: &[Hop]) -> Answer {
+    search(
+        ticks,
+        hops,
+        |sum, frames| if sum < frames { sum } else { sum - frames },
+    )
+}
+
+#[inline(always)]
+fn search(ticks: u32, hops: &[Hop], wrapped: impl Fn(u32, u32) -> u32) -> Answer {
     let mut preds = [[0u8; FRAMES]; HOPS];
     let mut count = 0;
 
@@ -40,7 +55,7 @@ pub fn least(ticks: u32, hops: &[Hop]) -> Answer {
             let reference = k * frames / from;
             let mut considered = 0;
             for hold in 1..range + 1 {
-                let i = ((reference + hold) % frames) as usize;
+                let i = wrapped(reference + hold, frames) as usize;
                 if free >> i & 1 == 1 {
                     considered += 1;
                     let delay = reached + hold * time;

@@ -4,6 +4,7 @@
 use std::hint::black_box;
 use std::time::{Duration, Instant};
 
+use frames_check::route::{Answer, Hop};
 use frames_check::{dijkstra, library, model, survivors};
 
 /// The bytes of call records that the program reads.
@@ -98,10 +99,15 @@ impl Random {
     }
 }
 
-/// A network file, and a list of calls on it.
+/// A search in plain Rust.
+type Search = fn(u32, &[Hop]) -> Answer;
+
+/// A network file, a list of calls on it, and the survivor search in plain Rust that the library is timed beside.
+#[derive(Clone)]
 struct Work {
     file: Vec<u8>,
     calls: Vec<u8>,
+    rival: Search,
 }
 
 impl Work {
@@ -110,7 +116,7 @@ impl Work {
     }
 
     fn survivors(&self) -> Vec<u8> {
-        model::transcript(&self.file, &self.calls, survivors::least)
+        model::transcript(&self.file, &self.calls, self.rival)
     }
 
     fn dijkstra(&self) -> Vec<u8> {
@@ -206,6 +212,19 @@ fn list_of_quotes(route: &[u8], number: usize) -> Vec<u8> {
     calls
 }
 
+/// The time of a quote, on the library's side and on a rival's.
+fn per_quote(few: &Work, all: &Work, number: usize, rival: Search, out: &mut [u8]) -> [f64; 2] {
+    let beside = |work: &Work| {
+        [Work {
+            rival,
+            ..work.clone()
+        }]
+    };
+    let [short] = times(&beside(few), out, Duration::from_secs(1));
+    let [long] = times(&beside(all), out, Duration::from_millis(200));
+    [0, 1].map(|side| (short[side] / FEW as f64).min(long[side] / number as f64))
+}
+
 /// (a) Quotes over 8 hops of 64 frames: the better of a list of as many as the calls' bytes hold and of a short list, which goes round more
 /// often; for Dijkstra's search, which takes longer, the short list alone.
 fn quotes(out: &mut [u8], random: &mut Random) {
@@ -221,24 +240,27 @@ fn quotes(out: &mut [u8], random: &mut Random) {
                 })
                 .collect();
             let file = network(&links);
-            let few = [Work {
+            let few = Work {
                 file: file.clone(),
                 calls: list_of_quotes(&route, FEW),
-            }];
-            let all = [Work {
+                rival: survivors::least,
+            };
+            let all = Work {
                 file,
                 calls: list_of_quotes(&route, number),
-            }];
-            let [short] = times(&few, out, Duration::from_secs(1));
-            let [long] = times(&all, out, Duration::from_millis(200));
-            let dijkstra = few[0].time_of_dijkstra(out, Duration::from_millis(500)) / FEW as f64;
-            let each =
-                [0, 1].map(|side| (short[side] / FEW as f64).min(long[side] / number as f64));
+                rival: survivors::least,
+            };
+            let dijkstra = few.time_of_dijkstra(out, Duration::from_millis(500)) / FEW as f64;
             let frames = if half { "half free" } else { "all free" };
             line(
                 &format!("quote, 8 hops of 64 frames, Z {range}, {frames}"),
-                each,
+                per_quote(&few, &all, number, survivors::least, out),
                 Some(dijkstra),
+            );
+            line(
+                "  beside the survivor search by comparison",
+                per_quote(&few, &all, number, survivors::least_by_comparison, out),
+                None,
             );
         }
     }
@@ -274,6 +296,7 @@ fn pairs(out: &mut [u8]) {
         let works = [prefix, with_pairs, with_quotes].map(|calls| Work {
             file: file.clone(),
             calls,
+            rival: survivors::least,
         });
         let [prefix, with_pairs, with_quotes] = times(&works, out, Duration::from_secs(2));
         let each = |list: [f64; 2]| [0, 1].map(|side| (list[side] - prefix[side]) / number as f64);
@@ -334,6 +357,7 @@ fn runs(out: &mut [u8], random: &mut Random) {
     let work = Work {
         file: network(&links),
         calls,
+        rival: survivors::least,
     };
     let dijkstra = work.time_of_dijkstra(out, Duration::from_secs(1));
     let [run] = times(&[work], out, Duration::from_secs(1));
