@@ -1,5 +1,5 @@
 -- The line of each kind of call, and the state after it. Assumes nothing.
-use mathlib.Core.Path.{_≡_, refl, sym, ap, subst, _∙_}
+use mathlib.Core.Path.{_≡_, refl, sym, ap, _∙_}
 use mathlib.Core.Bool.{true}
 use mathlib.Core.List.{List, []}
 use Prim.Native.Nat.{ℕ, _+_, _≤_}
@@ -92,11 +92,6 @@ module _ (st : State) (ok : intact (viewOf st) ≡ true) (number : ℕ) (r : Rel
       → Turns st (given (Release number)) place at before after (record { state = r .state; at = k })
   release-turn place at before after k p =
       record { put = rw (s .answer) at p; view = s .after .view; unbroken = left-intact st (Release number) (r .state) (s .after) ok }
-
--- ---- the line of a record that can't be read
-pub unreadable-turn : (st : State) → intact (viewOf st) ≡ true → (place at : ℕ) (before after : List ℕ) (k : ℕ) → Puts at (line place 63 (rules.refusal 11 0)) before after k
-    → Turns st (refused 11) place at before after (record { state = st; at = k })
-unreadable-turn st ok place at before after k p = record { put = p; view = refl; unbroken = ok }
 
 -- ---- the call that a record says, by its kind
 module _ (call : Record) (s : List ℕ) where

@@ -1,7 +1,7 @@
 -- How long a text is at most. Assumes nothing.
-use mathlib.Core.Path.{_≡_, refl, sym, ap, subst, _∙_}
+use mathlib.Core.Path.{_≡_, refl, ap, subst}
 use mathlib.Core.Bool.{true}
-use mathlib.Core.List.{List, [], _∷_, _++_}
+use mathlib.Core.List.{List, [], _∷_}
 use Prim.Native.Nat.{ℕ, zero, suc, _+_, _-_, _*_, _<_, _≤_, min}
 use native.Mathlib.Nat.{mul-le-mul}
 use native.Mathlib.Omega.{arith}
@@ -19,15 +19,15 @@ use Rattle.network_file.specs.Reading.{readNetwork}
 use Rattle.network_file.proofs.RoundTrip.{read-passes}
 use Rattle.forwarding.specs.declared.Hop.{Hop}
 use Rattle.forwarding.specs.Checked.{Ready, noHop}
-use Rattle.forwarding.specs.Schedule.{stages, IsSchedule, boundFrom, transitionBound, transitions, Given}
+use Rattle.forwarding.specs.Schedule.{stages, IsSchedule, boundFrom, transitions}
 use Rattle.forwarding.proofs.Bounds.{AllPassed, count-bound, delay-at-most}
 use Rattle.forwarding.proofs.ByHops.{all-passed}
 use Rattle.ledger.specs.Sessions.{Session, View, hopsOf, hopOf}
 use Rattle.ledger.specs.Routes.{routeCheck}
 use Rattle.ledger.specs.Sound.{intact}
 use Rattle.ledger.specs.Calls.{Call, SetUp, Quote, Release, Reply, schedule, freed, refusal, unless, callCheck, served, reply, next}
-use Rattle.ledger.specs.Demand.{fresh, Served, scheduled, none, ServedCall}
-use Rattle.ledger.proofs.Intact.{Intact, intact-is, fresh-intact}
+use Rattle.ledger.specs.Demand.{fresh, Served, scheduled, none}
+use Rattle.ledger.proofs.Intact.{intact-is, fresh-intact}
 use Rattle.ledger.proofs.Answered.{reply-intact, admitted, call-served}
 use Rattle.ledger.proofs.Refused.{not-eighteen}
 use Rattle.ledger.proofs.Kept.{next-intact}
@@ -37,9 +37,9 @@ use Rattle.call_records.specs.declared.Kind.the-variants as kinds
 use Rattle.call_records.specs.Records.{readRecord, routeIn, callAs, callIn}
 use Rattle.call_records.proofs.Cases.{in-bytes}
 use Rattle.call_records.proofs.Lengths.{linksOf, record-long}
-use Rattle.text.specs.Lines.{letterOf, line, liveLine, networkLine}
+use Rattle.text.specs.Lines.{letterOf, line, liveLine}
 use Rattle.text.proofs.Long.{served-long, freed-long, refused-long, blocked-long, live-long, network-long}
-use Rattle.report.specs.Transcript.{thenOthers, callsAfter, callsIn, counted, lineOf, viewAfter, linesOf, textOn, transcript}
+use Rattle.report.specs.Transcript.{thenOthers, callsAfter, counted, linesOf, textOn, transcript}
 use Rattle.report.specs.Reports.{textBound, tooShort, lengthOr20}
 use Rattle.report.proofs.Numbers.{file-number, call-number}
 use Rattle.report.proofs.Running.{lines-more, lines-none}

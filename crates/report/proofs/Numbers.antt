@@ -1,7 +1,7 @@
 -- The numbers of refusals that a line can show. Assumes nothing.
-use mathlib.Core.Path.{_≡_, ap, sym}
+use mathlib.Core.Path.{_≡_}
 use mathlib.Core.Bool.{Bool, true, false, not}
-use mathlib.Core.List.{List, [], _∷_}
+use mathlib.Core.List.{List, _∷_}
 use Prim.Native.Nat.{ℕ, zero, suc, _+_, _≤_}
 use native.Mathlib.Omega.{arith}
 use lib.ListN.{length, getD, drop}
@@ -12,9 +12,9 @@ use Rattle.network.specs.Network.{Topology}
 use Rattle.network.specs.declared.Link.{Link}
 use Rattle.network.specs.Checks.{badFrames, badRange, badClosed, badCount, badCycle, linkCheck}
 use Rattle.records.specs.declared.Field.{Field}
-use Rattle.records.specs.Reading.{needed, valuesIn, strayBits, restated, Said, readMapped, readRecord}
+use Rattle.records.specs.Reading.{needed, valuesIn, strayBits, restated, readMapped, readRecord}
 use Rattle.network_file.specs.Fields.{linkLayout, linkOf}
-use Rattle.network_file.specs.Reading.{Linked, readLink, readLinks, within, readNetwork}
+use Rattle.network_file.specs.Reading.{readLink, readLinks, readNetwork}
 use Rattle.ledger.specs.Sessions.{Session, isLive}
 use Rattle.ledger.specs.Routes.{badLength, unknownLink, linkTwice, ratesApart, ratesOf, routeCheck}
 use Rattle.ledger.specs.Calls.{Call, SetUp, Quote, Release, full, callCheck}

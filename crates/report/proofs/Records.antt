@@ -6,7 +6,7 @@ use Prim.Native.Nat.{ℕ, zero, suc, _+_, _-_, _<_, _≤_}
 use native.Mathlib.Omega.{arith}
 use lib.ListN.{length, getD, drop, drop-of-length-le, length-drop}
 use lib.Seq.{drop-cons, drop-drop}
-use Rattle.refusals.specs.Refusals.{Outcome, given, refused}
+use Rattle.refusals.specs.Refusals.{Outcome, refused}
 use Rattle.ledger.specs.Calls.{Call}
 use Rattle.call_records.specs.declared.Kind.{Kind}
 use Rattle.call_records.specs.declared.Kind.the-variants.{SetUp, Quote, Release, Unreadable}

@@ -1,11 +1,11 @@
 -- The whole text, and the buffer that it is put into. Assumes nothing.
 use mathlib.Core.Path.{_≡_, refl, sym, ap, subst, _∙_}
 use mathlib.Core.Bool.{Bool, true, false, cond}
-use mathlib.Core.List.{List, [], _∷_, _++_}
+use mathlib.Core.List.{List, []}
 use Prim.Native.Nat.{ℕ, _+_, _*_, _<_, _≤_, min}
 use native.Mathlib.Nat.{zero-add}
 use native.Mathlib.Omega.{arith}
-use lib.ListN.{length, take, drop, length-append}
+use lib.ListN.{length, take, drop}
 use lib.Seq.{take-at, take-all, length-take-le}
 use lib.Dec.{ltb}
 use borrow.Author.Tests.{lt-ltb, le-ltb, ltb-true, ltb-false}
@@ -16,7 +16,7 @@ use Rattle.refusals.specs.declared.Refusal.{Refusal}
 use Rattle.refusals.specs.declared.Verdict.the-variants.{Passed, Refused}
 use Rattle.refusals.proofs.Refusals.{refused-is, given-is}
 use Rattle.numbers.specs.Numbers.{IsBytes}
-use Rattle.network.specs.Network.{Topology, topologyOf}
+use Rattle.network.specs.Network.{Topology}
 use Rattle.network_file.specs.declared.Loaded.{Loaded}
 use Rattle.network_file.specs.declared.Written.{Written}
 use Rattle.network_file.specs.declared.Written.the-variants as written
@@ -32,7 +32,7 @@ use Rattle.sessions.specs.declared.Begun.{Begun}
 use Rattle.sessions.specs.Calls.{Begins}
 use Rattle.text.specs.Digits.{Puts}
 use Rattle.text.specs.Lines.{networkLine}
-use Rattle.report.specs.Transcript.{callsIn, counted, linesOf, textOn, transcript}
+use Rattle.report.specs.Transcript.{callsIn, counted, linesOf, transcript}
 use Rattle.report.specs.Reports.{textBound, tooShort, lengthOr20, bufferWith, Reports, asNumber}
 
 -- ---- what the first bytes are

@@ -10,31 +10,24 @@ use borrow.Author.Tests.{not-true, not-false}
 use mathlib.Core.Path.{refl}
 use Prim.Native.Nat.{_+_}
 
--- src/lib.rt:76:9
 returns : tie.Need-returns
 returns c = plain-links _ _ _ (not-true _ (c .if1 .taken))
 
--- src/lib.rt:78:22
 add-if2 : tie.Need-add-if2
 add-if2 c = search needs
 
--- src/lib.rt:79:9
 returns-2 : tie.Need-returns-2
 returns-2 c = links-past _ _ _ (not-false _ (c .before .if1 .left)) (c .if2 .taken)
 
--- src/lib.rt:81:10
 add-result : tie.Need-add-result
 add-result c = search needs
 
--- src/lib.rt:81:5
 shared-slice-read-result : tie.Need-shared-slice-read-result
 shared-slice-read-result c = search needs
 
--- src/lib.rt:81:5
 cast-result : tie.Need-cast-result
 cast-result c = omega (arith, c .shared-slice-known .given (1 + c .before .before .before .args .width))
 
--- src/lib.rt:71:1
 returns-3 : tie.Need-returns-3
 returns-3 c = links-there _ _ _ _ (not-false _ (c .before .before .if1 .left)) refl (c .shared-slice-known .given (1 + c .before .before .before .args .width) .fits)
 

@@ -4,19 +4,15 @@ use Rattle.call_records.proofs.route.Statement.{statement}
 use Rattle.call_records.proofs.route.Tie as tie
 use Rattle.call_records.proofs.Cases.{route-part}
 
--- src/lib.rt:133:5
 sub-result : tie.Need-sub-result
 sub-result c = search needs
 
--- src/lib.rt:133:5
 part-result-start : tie.Need-part-result-start
 part-result-start c = search needs
 
--- src/lib.rt:133:5
 part-result-end : tie.Need-part-result-end
 part-result-end c = search needs
 
--- src/lib.rt:127:1
 returns : tie.Need-returns
 returns c = route-part (c .before .args .call) _
 

@@ -6,42 +6,33 @@ use mathlib.Core.Path.{sym}
 use lib.Seq.{length-take-le}
 use Rattle.report.proofs.Whole.{length-within}
 
--- src/main.rt:29:19
 room-requires : tie.Need-room-requires
 room-requires c κs = search needs
 
--- src/main.rt:30:47
 slice-aggregate-report : tie.Need-slice-aggregate-report
 slice-aggregate-report c = search needs
 
--- src/main.rt:30:9
 report-requires : tie.Need-report-requires
 report-requires c κs = search needs
 
--- src/main.rt:32:25
 enum-known-written : tie.Need-enum-known-written
 enum-known-written c = search needs
 
--- src/main.rt:33:42
 array-share-prefix-out : tie.Need-array-share-prefix-out
 array-share-prefix-out c = length-within _ _ _ _ (c .before .before .before .before .report .ensures) _ (c .before .written .given .1)
 
--- src/main.rt:33:42
 slice-aggregate-write-all : tie.Need-slice-aggregate-write-all
 slice-aggregate-write-all c = sym (length-take-le _ (c .before .before .before .before .before .report .last .1 .1 .0) (length-within _ _ _ _ (c .before .before .before .before .before .report .ensures) _ (c .before .before .written .given .1)))
 
--- src/main.rt:33:13
 write-all-requires : tie.Need-write-all-requires
 write-all-requires c κs = search needs
 
 enum-told : tie.Need-enum-told
 enum-told c = search needs
 
--- src/main.rt:28:1
 returns : tie.Need-returns
 returns c = search needs
 
--- src/main.rt:28:1
 returns-2 : tie.Need-returns-2
 returns-2 c = search needs
 

@@ -7,31 +7,24 @@ use Prim.Native.Nat.{_-_}
 use Prim.Native.Nat.{_-_}
 use Prim.Native.Nat.{_-_}
 
--- src/lib.rt:253:25
 enum-known-written : tie.Need-enum-known-written
 enum-known-written c = search needs
 
--- src/lib.rt:254:26
 enum-known-written-2 : tie.Need-enum-known-written-2
 enum-known-written-2 c = search needs
 
--- src/lib.rt:254:48
 number-requires : tie.Need-number-requires
 number-requires c κs = search needs
 
--- src/lib.rt:254:48
 cast-result : tie.Need-cast-result
 cast-result c = search needs
 
--- src/lib.rt:254:38
 add-result : tie.Need-add-result
 add-result c = search needs
 
--- src/lib.rt:248:1
 returns : tie.Need-returns
 returns c = search needs
 
--- src/lib.rt:248:1
 returns-2 : tie.Need-returns-2
 returns-2 c = rw (c .before .before .written2 .given .1, c .number .ensures)
 

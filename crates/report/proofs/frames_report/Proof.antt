@@ -7,19 +7,15 @@ use Rattle.report.proofs.Whole.{as-answer}
 use Prim.Native.Nat.{_-_}
 use Rattle.report.proofs.Whole.{as-answer}
 
--- src/lib.rt:263:9
 report-requires : tie.Need-report-requires
 report-requires c κs = search needs
 
--- src
 as-number-requires : tie.Need-as-number-requires
 as-number-requires c κs = search needs
 
--- src/lib.rt:259:1
 same-length : tie.Need-same-length
 same-length c = search needs
 
--- src/lib.rt:259:1
 returns : tie.Need-returns
 returns c = as-answer _ _ _ _ (c .before .before .before .report .ensures) _ (c .as-number .ensures)
 

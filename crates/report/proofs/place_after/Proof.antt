@@ -7,47 +7,36 @@ use Prim.Native.Nat.{_-_}
 use Prim.Native.Nat.{_-_}
 use Prim.Native.Nat.{_-_}
 
--- src/lib.rt:152:24
 enum-told : tie.Need-enum-told
 enum-told c = search needs
 
--- src/lib.rt:152:24
 add-result : tie.Need-add-result
 add-result c = search needs
 
--- src/lib.rt:153:24
 enum-told-2 : tie.Need-enum-told-2
 enum-told-2 c = search needs
 
--- src/lib.rt:153:24
 add-result-2 : tie.Need-add-result-2
 add-result-2 c = search needs
 
--- src/lib.rt:154:26
 enum-told-3 : tie.Need-enum-told-3
 enum-told-3 c = search needs
 
--- src/lib.rt:154:26
 add-result-3 : tie.Need-add-result-3
 add-result-3 c = search needs
 
--- src/lib.rt:155:29
 enum-told-4 : tie.Need-enum-told-4
 enum-told-4 c = search needs
 
--- src/lib.rt:147:1
 returns : tie.Need-returns
 returns c = rw (c .enum-told .given .1)
 
--- src/lib.rt:147:1
 returns-2 : tie.Need-returns-2
 returns-2 c = rw (c .enum-told2 .given .1)
 
--- src/lib.rt:147:1
 returns-3 : tie.Need-returns-3
 returns-3 c = rw (c .enum-told3 .given .1)
 
--- src/lib.rt:147:1
 returns-4 : tie.Need-returns-4
 returns-4 c = search needs
 

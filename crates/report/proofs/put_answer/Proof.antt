@@ -21,43 +21,33 @@ use Prim.Native.Nat.{_-_}
 use lib.ListN.{length}
 use Rattle.report.proofs.Answering.{schedule-room, schedule-put, refusal-room, refusal-put}
 
--- src/lib.rt:58:25
 enum-known-reply : tie.Need-enum-known-reply
 enum-known-reply c = search needs
 
--- src/lib.rt:59:70
 array-share-prefix-frames : tie.Need-array-share-prefix-frames
 array-share-prefix-frames c = let long : length (c .before .before .before .before .before .before .args .answer .frames) ≡ 8 = search needs in omega (arith, long, schedule-room _ _ _ _ _ _ _ _ _ (c .before .before .reply .given .1) (c .before .before .before .before .before .before .pre) .0)
 
--- src/lib.rt:59:70
 slice-aggregate-put-served : tie.Need-slice-aggregate-put-served
 slice-aggregate-put-served c = let long : length (c .before .before .before .before .before .before .before .args .answer .frames) ≡ 8 = search needs in sym (length-take-le (c .before .before .before .before .before .before .before .args .hops) (c .before .before .before .before .before .before .before .args .answer .frames) (omega (arith, long, schedule-room _ _ _ _ _ _ _ _ _ (c .before .before .before .reply .given .1) (c .before .before .before .before .before .before .before .pre) .0)))
 
--- src/lib.rt:59:13
 put-served-requires : tie.Need-put-served-requires
 put-served-requires c κs = schedule-room _ _ _ _ _ _ _ _ _ (c .before .before .before .reply .given .1) (c .before .before .before .before .before .before .before .pre) .1
 
--- src/lib.rt:61:24
 enum-known-reply-2 : tie.Need-enum-known-reply-2
 enum-known-reply-2 c = search needs
 
--- src/lib.rt:61:36
 put-refusal-requires : tie.Need-put-refusal-requires
 put-refusal-requires c κs = refusal-room _ _ _ _ _ _ _ _ (c .before .before .reply2 .given .1) (c .before .before .before .before .before .before .pre)
 
--- src/lib.rt:44:1
 same-length : tie.Need-same-length
 same-length c = search needs
 
--- src/lib.rt:44:1
 returns : tie.Need-returns
 returns c = schedule-put _ _ _ _ _ _ _ _ (c .before .before .before .before .before .before .reply .given .1) _ _ _ (c .before .before .put-served .ensures)
 
--- src/lib.rt:44:1
 same-length-2 : tie.Need-same-length-2
 same-length-2 c = search needs
 
--- src/lib.rt:44:1
 returns-2 : tie.Need-returns-2
 returns-2 c = refusal-put _ _ _ _ _ _ _ (c .before .before .before .before .before .reply2 .given .1) _ _ _ (c .before .before .put-refusal .ensures)
 

@@ -7,23 +7,18 @@ use Prim.Native.Nat.{_-_}
 use Prim.Native.Nat.{_-_}
 use Prim.Native.Nat.{_-_}
 
--- src/lib.rt:38:9
 number-requires : tie.Need-number-requires
 number-requires c κs = search needs
 
--- src/lib.rt:39:9
 count-requires : tie.Need-count-requires
 count-requires c κs = search needs
 
--- src/lib.rt:40:5
 put-refused-requires : tie.Need-put-refused-requires
 put-refused-requires c κs = rw (c .before .before .number .ensures, c .before .count .ensures) (c .before .before .before .before .pre)
 
--- src/lib.rt:34:1
 same-length : tie.Need-same-length
 same-length c = search needs
 
--- src/lib.rt:34:1
 returns : tie.Need-returns
 returns c = rw (c .before .before .before .before .before .number .ensures, c .before .before .before .before .count .ensures) at (c .before .before .put-refused .ensures)
 

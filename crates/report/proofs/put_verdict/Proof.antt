@@ -7,35 +7,27 @@ use Prim.Native.Nat.{_-_}
 use Prim.Native.Nat.{_-_}
 use Prim.Native.Nat.{_-_}
 
--- src/lib.rt:71:44
 enum-told : tie.Need-enum-told
 enum-told c = search needs
 
--- src/lib.rt:71:28
 put-freed-requires : tie.Need-put-freed-requires
 put-freed-requires c κs = rw (c .before .enum-told .given .1) at (c .before .before .before .before .pre)
 
--- src/lib.rt:72:26
 enum-known-verdict : tie.Need-enum-known-verdict
 enum-known-verdict c = search needs
 
--- src/lib.rt:72:38
 put-refusal-requires : tie.Need-put-refusal-requires
 put-refusal-requires c κs = rw (c .before .before .verdict .given .1) at (c .before .before .before .before .before .pre)
 
--- src/lib.rt:66:1
 same-length : tie.Need-same-length
 same-length c = search needs
 
--- src/lib.rt:66:1
 returns : tie.Need-returns
 returns c = rw (c .before .before .before .before .enum-told .given .1) (c .before .before .put-freed .ensures)
 
--- src/lib.rt:66:1
 same-length-2 : tie.Need-same-length-2
 same-length-2 c = search needs
 
--- src/lib.rt:66:1
 returns-2 : tie.Need-returns-2
 returns-2 c = rw (c .before .before .before .before .before .verdict .given .1) (c .before .before .put-refusal .ensures)
 

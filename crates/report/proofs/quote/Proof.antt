@@ -11,19 +11,15 @@ use Rattle.report.proofs.Answering.{quote-room, quote-turn}
 use Prim.Native.Nat.{_-_}
 use Rattle.report.proofs.Answering.{quote-room, quote-turn}
 
--- src/lib.rt:96:9
 quote-requires : tie.Need-quote-requires
 quote-requires c κs = search needs
 
--- src/lib.rt:97:9
 put-answer-requires : tie.Need-put-answer-requires
 put-answer-requires c κs = quote-room (c .before .before .before .before .args .st) (c .before .before .before .before .pre .0) (c .before .before .before .before .args .route .now) _ (c .before .quote .ensures) _ _ _ (c .before .before .before .before .pre .1)
 
--- src/lib.rt:92:1
 same-length : tie.Need-same-length
 same-length c = search needs
 
--- src/lib.rt:92:1
 returns : tie.Need-returns
 returns c = quote-turn (c .before .before .before .before .before .before .before .args .st) (c .before .before .before .before .before .before .before .pre .0) (c .before .before .before .before .before .before .before .args .route .now) _ (c .before .before .before .before .quote .ensures) _ _ _ _ _ (c .before .before .put-answer .ensures)
 

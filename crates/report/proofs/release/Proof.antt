@@ -11,19 +11,15 @@ use Rattle.report.proofs.Answering.{release-room, release-turn}
 use Prim.Native.Nat.{_-_}
 use Rattle.report.proofs.Answering.{release-room, release-turn}
 
--- src/lib.rt:109:9
 release-requires : tie.Need-release-requires
 release-requires c κs = search needs
 
--- src/lib.rt:111:9
 put-verdict-requires : tie.Need-put-verdict-requires
 put-verdict-requires c κs = release-room (c .before .before .before .args .st) (c .before .before .before .pre .0) (c .before .before .before .args .number) _ (c .before .release .ensures) _ _ _ (c .before .before .before .pre .1)
 
--- src/lib.rt:105:1
 same-length : tie.Need-same-length
 same-length c = search needs
 
--- src/lib.rt:105:1
 returns : tie.Need-returns
 returns c = release-turn (c .before .before .before .before .before .before .before .args .st) (c .before .before .before .before .before .before .before .pre .0) (c .before .before .before .before .before .before .before .args .number) _ (c .before .before .before .before .before .release .ensures) _ _ _ _ _ (c .before .before .before .put-verdict .ensures)
 

@@ -9,31 +9,24 @@ use Rattle.report.proofs.Bound.{text-bound}
 use Prim.Native.Nat.{_-_}
 use Rattle.report.proofs.Whole.{long-report, back-long}
 
--- src/lib.rt:241:20
 text-bound-requires : tie.Need-text-bound-requires
 text-bound-requires c κs = search needs
 
--- src/lib.rt:242:9
 report-by-way-requires : tie.Need-report-by-way-requires
 report-by-way-requires c κs = search needs
 
--- src/lib.rt:242:9
 same-length : tie.Need-same-length
 same-length c = search needs
 
--- src/lib.rt:242:9
 returns : tie.Need-returns
 returns c = search needs
 
--- src/lib.rt:244:21
 write-text-requires : tie.Need-write-text-requires
 write-text-requires c κs = omega (arith, text-bound (c .before .before .before .before .before .before .args .file .now) (c .before .before .before .before .before .before .args .calls .now) (λ i. c .before .before .before .before .before .shared-slice-known .given i .fits), c .before .before .text-bound .ensures, c .before .if1 .left)
 
--- src/lib.rt:238:1
 same-length-2 : tie.Need-same-length-2
 same-length-2 c = search needs
 
--- src/lib.rt:238:1
 returns-2 : tie.Need-returns-2
 returns-2 c = long-report _ _ (omega (arith, text-bound (c .before .before .before .before .before .before .before .before .before .args .file .now) (c .before .before .before .before .before .before .before .before .before .args .calls .now) (λ i. c .before .before .before .before .before .before .before .before .shared-slice-known .given i .fits), c .before .before .before .before .before .text-bound .ensures, c .before .before .before .before .if1 .left)) _ _ (back-long _ _ _ _ (c .before .before .write-text .ensures)) (c .before .before .write-text .ensures .1)
 

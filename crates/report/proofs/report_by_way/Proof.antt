@@ -14,39 +14,30 @@ use lib.ListN.{length}
 use Rattle.report.proofs.Whole.{bound-most, short-report, long-report, back-long, back-within, back-fits, back-put}
 use lib.Seq.{length-take-le}
 
--- src/lib.rt:227:20
 room-requires : tie.Need-room-requires
 room-requires c κs = search needs
 
--- src/lib.rt:228:37
 slice-aggregate-write-text : tie.Need-slice-aggregate-write-text
 slice-aggregate-write-text c = search needs
 
--- src/lib.rt:228:9
 write-text-requires : tie.Need-write-text-requires
 write-text-requires c κs = omega (arith, text-bound (c .before .before .before .before .before .args .file .now) (c .before .before .before .before .before .args .calls .now) (λ i. c .before .before .before .before .shared-slice-known .given i .fits), bound-most (length (c .before .before .before .before .before .args .calls .now)), c .before .room .ensures)
 
--- src/lib.rt:230:9
 returns : tie.Need-returns
 returns c = short-report _ _ (omega (arith, c .if1 .taken, back-long _ _ _ _ (c .before .before .write-text .ensures))) _ refl
 
--- src/lib.rt:232:29
 array-share-prefix-text : tie.Need-array-share-prefix-text
 array-share-prefix-text c = back-within _ _ _ _ (c .before .before .before .write-text .ensures) (omega (arith, text-bound (c .before .before .before .before .before .before .before .before .before .args .file .now) (c .before .before .before .before .before .before .before .before .before .args .calls .now) (λ i. c .before .before .before .before .before .before .before .before .shared-slice-known .given i .fits), bound-most (length (c .before .before .before .before .before .before .before .before .before .args .calls .now)), c .before .before .before .before .before .room .ensures))
 
--- src/lib.rt:232:29
 slice-aggregate-put-bytes : tie.Need-slice-aggregate-put-bytes
 slice-aggregate-put-bytes c = sym (length-take-le (c .before .before .before .before .write-text .result) (c .before .before .before .before .write-text .last .1 .1 .0) (back-within _ _ _ _ (c .before .before .before .before .write-text .ensures) (omega (arith, text-bound (c .before .before .before .before .before .before .before .before .before .before .args .file .now) (c .before .before .before .before .before .before .before .before .before .before .args .calls .now) (λ i. c .before .before .before .before .before .before .before .before .before .shared-slice-known .given i .fits), bound-most (length (c .before .before .before .before .before .before .before .before .before .before .args .calls .now)), c .before .before .before .before .before .before .room .ensures))))
 
--- src/lib.rt:232:5
 put-bytes-requires : tie.Need-put-bytes-requires
 put-bytes-requires c κs = back-fits _ _ _ _ (c .before .before .before .before .write-text .ensures) _ (c .before .before .if1 .left)
 
--- src/lib.rt:224:1
 same-length : tie.Need-same-length
 same-length c = search needs
 
--- src/lib.rt:224:1
 returns-2 : tie.Need-returns-2
 returns-2 c = long-report _ _ (omega (arith, back-long _ _ _ _ (c .before .before .before .before .before .before .before .write-text .ensures), c .before .before .before .before .before .if1 .left)) _ _ (back-long _ _ _ _ (c .before .before .before .before .before .before .before .write-text .ensures)) (back-put _ _ _ _ (c .before .before .before .before .before .before .before .write-text .ensures) _ _ (c .before .before .put-bytes .ensures .1))
 

@@ -7,7 +7,6 @@ use Prim.Native.Nat.{ℕ, _-_}
 use Prim.Native.Nat.{ℕ, _-_}
 use Prim.Native.Nat.{ℕ, _-_}
 
--- src/lib.rt:217:1
 returns : tie.Need-returns
 returns c = length-replicate {0} {A = ℕ} 720918 0
 

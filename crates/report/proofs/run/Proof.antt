@@ -29,71 +29,54 @@ Inv-loop calls out₀ st₀ from₀ at₀ place₀ out st from at place = Runnin
 abbrev μ-loop : tie.MeasureT-loop
 μ-loop calls out₀ st₀ from₀ at₀ place₀ out st from at place = length calls - from
 
--- src/lib.rt:168:5
 loop-holds : tie.Need-loop-holds Inv-loop μ-loop
 loop-holds c = none-run _ _ (c .before .before .args .first) (c .before .before .pre .0)
 
--- src/lib.rt:169:46
 sub-read-record : tie.Need-sub-read-record Inv-loop μ-loop
 sub-read-record c = search needs
 
--- src/lib.rt:169:46
 part-read-record-start : tie.Need-part-read-record-start Inv-loop μ-loop
 part-read-record-start c = search needs
 
--- src/lib.rt:169:46
 part-read-record-end : tie.Need-part-read-record-end Inv-loop μ-loop
 part-read-record-end c = search needs
 
--- src/lib.rt:169:13
 read-record-requires : tie.Need-read-record-requires Inv-loop μ-loop
 read-record-requires c κs = search needs
 
--- src/lib.rt:170:36
 sub-serve : tie.Need-sub-serve Inv-loop μ-loop
 sub-serve c = search needs
 
--- src/lib.rt:170:36
 part-serve-start : tie.Need-part-serve-start Inv-loop μ-loop
 part-serve-start c = search needs
 
--- src/lib.rt:170:36
 part-serve-end : tie.Need-part-serve-end Inv-loop μ-loop
 part-serve-end c = search needs
 
--- src/lib.rt:170:13
 serve-requires : tie.Need-serve-requires Inv-loop μ-loop
 serve-requires c κs = let i = c .before .before .before .before .before .loop .inv in (i .unbroken, record-within (linesOf 1 (viewOf (c .before .before .before .before .before .before .before .before .args .first)) (callsIn (c .before .before .before .before .before .before .before .before .args .calls .now))) (c .before .before .before .before .before .before .before .before .args .calls .now) (c .before .before .before .before .before .before .before .before .args .out .now) (c .before .before .before .before .before .before .before .before .pre .2) (c .before .before .before .before .before .loop .st) (c .before .before .before .before .before .loop .from) (c .before .before .before .before .before .loop .at) (c .before .before .before .before .before .loop .place) (c .before .before .before .before .before .loop .out) (c .before .before .before .before .before .loop .inv) (c .before .before .before .before .loop-test .taken) _ (c .before .before .read-record .ensures), line-room (linesOf 1 (viewOf (c .before .before .before .before .before .before .before .before .args .first)) (callsIn (c .before .before .before .before .before .before .before .before .args .calls .now))) (c .before .before .before .before .before .before .before .before .args .calls .now) (c .before .before .before .before .before .before .before .before .args .out .now) (c .before .before .before .before .before .before .before .before .pre .2) (c .before .before .before .before .before .loop .st) (c .before .before .before .before .before .loop .from) (c .before .before .before .before .before .loop .at) (c .before .before .before .before .before .loop .place) (c .before .before .before .before .before .loop .out) (c .before .before .before .before .before .loop .inv) (c .before .before .before .before .loop-test .taken) _ (c .before .before .read-record .ensures))
 
--- src/lib.rt:174:9
 place-after-requires : tie.Need-place-after-requires Inv-loop μ-loop
 place-after-requires c κs = let h = record-within (linesOf 1 (viewOf (c .before .before .before .before .before .before .before .before .before .before .before .before .args .first)) (callsIn (c .before .before .before .before .before .before .before .before .before .before .before .before .args .calls .now))) (c .before .before .before .before .before .before .before .before .before .before .before .before .args .calls .now) (c .before .before .before .before .before .before .before .before .before .before .before .before .args .out .now) (c .before .before .before .before .before .before .before .before .before .before .before .before .pre .2) (c .before .before .before .before .before .before .before .before .before .loop .st) (c .before .before .before .before .before .before .before .before .before .loop .from) (c .before .before .before .before .before .before .before .before .before .loop .at) (c .before .before .before .before .before .before .before .before .before .loop .place) (c .before .before .before .before .before .before .before .before .before .loop .out) (c .before .before .before .before .before .before .before .before .before .loop .inv) (c .before .before .before .before .before .before .before .before .loop-test .taken) _ (c .before .before .before .before .before .before .read-record .ensures) in (omega (arith, c .before .before .before .before .before .before .before .before .loop-test .taken, c .before .before .before .before .before .before .before .before .before .before .before .before .pre .1), omega (arith, h .within, ap length (part-rest (c .before .before .before .before .before .before .before .before .before .loop .from) (c .before .before .before .before .before .before .before .before .before .before .before .before .args .calls .now)), length-drop (c .before .before .before .before .before .before .before .before .before .loop .from) (c .before .before .before .before .before .before .before .before .before .before .before .before .args .calls .now), c .before .before .before .before .before .before .before .before .before .before .before .before .pre .1))
 
--- src/lib.rt:175:9
 add-place : tie.Need-add-place Inv-loop μ-loop
 add-place c = omega (arith, c .before .before .before .before .before .before .before .before .before .before .loop .inv .early, c .before .before .before .before .before .before .before .before .before .before .loop .inv .within, c .before .before .before .before .before .before .before .before .before .before .before .before .before .pre .1)
 
--- src/lib.rt:168:5
 loop-less : tie.Need-loop-less Inv-loop μ-loop
 loop-less c = let n = next-within (linesOf 1 (viewOf (c .before .before .before .before .before .before .before .before .before .before .before .before .before .args .first)) (callsIn (c .before .before .before .before .before .before .before .before .before .before .before .before .before .args .calls .now))) (c .before .before .before .before .before .before .before .before .before .before .before .before .before .args .calls .now) (c .before .before .before .before .before .before .before .before .before .before .before .before .before .args .out .now) (c .before .before .before .before .before .before .before .before .before .before .before .before .before .pre .2) (c .before .before .before .before .before .before .before .before .before .before .loop .st) (c .before .before .before .before .before .before .before .before .before .before .loop .from) (c .before .before .before .before .before .before .before .before .before .before .loop .at) (c .before .before .before .before .before .before .before .before .before .before .loop .place) (c .before .before .before .before .before .before .before .before .before .before .loop .out) (c .before .before .before .before .before .before .before .before .before .before .loop .inv) (c .before .before .before .before .before .before .before .before .before .loop-test .taken) _ (c .before .before .before .before .before .before .before .read-record .ensures) in omega (arith, n, c .place-after .ensures)
 
--- src/lib.rt:168:5
 loop-again : tie.Need-loop-again Inv-loop μ-loop
 loop-again c = one-run (linesOf 1 (viewOf (c .before .before .before .before .before .before .before .before .before .before .before .before .before .args .first)) (callsIn (c .before .before .before .before .before .before .before .before .before .before .before .before .before .args .calls .now))) (c .before .before .before .before .before .before .before .before .before .before .before .before .before .args .calls .now) (c .before .before .before .before .before .before .before .before .before .before .before .before .before .args .out .now) (c .before .before .before .before .before .before .before .before .before .before .before .before .before .pre .2) (c .before .before .before .before .before .before .before .before .before .before .loop .st) (c .before .before .before .before .before .before .before .before .before .before .loop .from) (c .before .before .before .before .before .before .before .before .before .before .loop .at) (c .before .before .before .before .before .before .before .before .before .before .loop .place) (c .before .before .before .before .before .before .before .before .before .before .loop .out) (c .before .before .before .before .before .before .before .before .before .before .loop .inv) (c .before .before .before .before .before .before .before .before .before .loop-test .taken) _ (c .before .before .before .before .before .before .before .read-record .ensures) _ _ (c .before .before .before .before .serve .ensures) _ (c .place-after .ensures)
 
--- src/lib.rt:178:29
 cast-put-live : tie.Need-cast-put-live Inv-loop μ-loop
 cast-put-live c = let f = few-live (c .before .before .loop .st) (c .before .before .loop .inv .unbroken) in omega (arith, f)
 
--- src/lib.rt:178:5
 put-live-requires : tie.Need-put-live-requires Inv-loop μ-loop
 put-live-requires c κs = last-room (linesOf 1 (viewOf (c .before .before .before .before .before .args .first)) (callsIn (c .before .before .before .before .before .args .calls .now))) (c .before .before .before .before .before .args .calls .now) (c .before .before .before .before .before .args .out .now) (c .before .before .before .before .before .pre .2) (c .before .before .loop .st) (c .before .before .loop .from) (c .before .before .loop .at) (c .before .before .loop .place) (c .before .before .loop .out) (c .before .before .loop .inv) (c .before .loop-test .left) _ (sym (in-length (c .before .before .loop .st .table .live) (c .before .before .loop .st .table .places)))
 
--- src/lib.rt:160:1
 same-length : tie.Need-same-length Inv-loop μ-loop
 same-length c = search needs
 
--- src/lib.rt:160:1
 returns : tie.Need-returns Inv-loop μ-loop
 returns c = all-run (linesOf 1 (viewOf (c .before .before .before .before .before .before .before .before .args .first)) (callsIn (c .before .before .before .before .before .before .before .before .args .calls .now))) (c .before .before .before .before .before .before .before .before .args .calls .now) (c .before .before .before .before .before .before .before .before .args .out .now) (c .before .before .before .before .before .before .before .before .pre .2) (c .before .before .before .before .before .loop .st) (c .before .before .before .before .before .loop .from) (c .before .before .before .before .before .loop .at) (c .before .before .before .before .before .loop .place) (c .before .before .before .before .before .loop .out) (c .before .before .before .before .before .loop .inv) (c .before .before .before .before .loop-test .left) _ (sym (in-length (c .before .before .before .before .before .loop .st .table .live) (c .before .before .before .before .before .loop .st .table .places))) _ _ (c .before .before .put-live .ensures)
 

@@ -11,71 +11,54 @@ use Rattle.report.proofs.Answering.{says-set-up, says-quote, says-relea
 use Prim.Native.Nat.{_-_}
 use Rattle.report.proofs.Answering.{says-set-up, says-quote, says-release, says-nothing}
 
--- src/lib.rt:136:9
 route-requires : tie.Need-route-requires
 route-requires c κs = search needs
 
--- src/lib.rt:139:62
 enum-told : tie.Need-enum-told
 enum-told c = search needs
 
--- src/lib.rt:139:24
 set-up-requires : tie.Need-set-up-requires
 set-up-requires c κs = (c .before .before .before .before .before .before .pre .0, rw (says-set-up (c .before .before .before .before .before .before .args .call) (c .before .before .before .before .before .before .args .rest .now) (c .before .enum-told .given .1) _ (c .before .before .before .route .ensures)) at (c .before .before .before .before .before .before .pre .2))
 
--- src/lib.rt:140:48
 enum-told-2 : tie.Need-enum-told-2
 enum-told-2 c = search needs
 
--- src/lib.rt:140:24
 quote-requires : tie.Need-quote-requires
 quote-requires c κs = (c .before .before .before .before .before .before .pre .0, rw (says-quote (c .before .before .before .before .before .before .args .call) (c .before .before .before .before .before .before .args .rest .now) (c .before .enum-told2 .given .1) _ (c .before .before .before .route .ensures)) at (c .before .before .before .before .before .before .pre .2))
 
--- src/lib.rt:141:58
 enum-told-3 : tie.Need-enum-told-3
 enum-told-3 c = search needs
 
--- src/lib.rt:141:26
 release-requires : tie.Need-release-requires
 release-requires c κs = (c .before .before .before .before .before .before .pre .0, rw (says-release (c .before .before .before .before .before .before .args .call) (c .before .before .before .before .before .before .args .rest .now) (c .before .enum-told3 .given .1)) at (c .before .before .before .before .before .before .pre .2))
 
--- src/lib.rt:142:51
 enum-told-4 : tie.Need-enum-told-4
 enum-told-4 c = search needs
 
--- src/lib.rt:142:29
 unreadable-requires : tie.Need-unreadable-requires
 unreadable-requires c κs = (c .before .before .before .before .before .before .pre .0, rw (says-nothing (c .before .before .before .before .before .before .args .call) (c .before .before .before .before .before .before .args .rest .now) (c .before .enum-told4 .given .1)) at (c .before .before .before .before .before .before .pre .2))
 
--- src/lib.rt:132:1
 same-length : tie.Need-same-length
 same-length c = search needs
 
--- src/lib.rt:132:1
 returns : tie.Need-returns
 returns c = rw (says-set-up (c .before .before .before .before .before .before .before .before .before .args .call) (c .before .before .before .before .before .before .before .before .before .args .rest .now) (c .before .before .before .before .enum-told .given .1) _ (c .before .before .before .before .before .before .route .ensures)) (c .before .before .set-up .ensures)
 
--- src/lib.rt:132:1
 same-length-2 : tie.Need-same-length-2
 same-length-2 c = search needs
 
--- src/lib.rt:132:1
 returns-2 : tie.Need-returns-2
 returns-2 c = rw (says-quote (c .before .before .before .before .before .before .before .before .before .args .call) (c .before .before .before .before .before .before .before .before .before .args .rest .now) (c .before .before .before .before .enum-told2 .given .1) _ (c .before .before .before .before .before .before .route .ensures)) (c .before .before .quote .ensures)
 
--- src/lib.rt:132:1
 same-length-3 : tie.Need-same-length-3
 same-length-3 c = search needs
 
--- src/lib.rt:132:1
 returns-3 : tie.Need-returns-3
 returns-3 c = rw (says-release (c .before .before .before .before .before .before .before .before .before .args .call) (c .before .before .before .before .before .before .before .before .before .args .rest .now) (c .before .before .before .before .enum-told3 .given .1)) (c .before .before .release .ensures)
 
--- src/lib.rt:132:1
 same-length-4 : tie.Need-same-length-4
 same-length-4 c = search needs
 
--- src/lib.rt:132:1
 returns-4 : tie.Need-returns-4
 returns-4 c = rw (says-nothing (c .before .before .before .before .before .before .before .before .before .args .call) (c .before .before .before .before .before .before .before .before .before .args .rest .now) (c .before .before .before .before .enum-told4 .given .1)) (c .before .before .unreadable .ensures)
 

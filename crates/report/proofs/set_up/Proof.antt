@@ -11,19 +11,15 @@ use Rattle.report.proofs.Answering.{set-up-room, set-up-turn}
 use Prim.Native.Nat.{_-_}
 use Rattle.report.proofs.Answering.{set-up-room, set-up-turn}
 
--- src/lib.rt:81:9
 set-up-requires : tie.Need-set-up-requires
 set-up-requires c κs = search needs
 
--- src/lib.rt:83:9
 put-answer-requires : tie.Need-put-answer-requires
 put-answer-requires c κs = set-up-room (c .before .before .before .before .before .args .st) (c .before .before .before .before .before .pre .0) (c .before .before .before .before .before .args .number) (c .before .before .before .before .before .args .route .now) _ (c .before .before .set-up .ensures) _ _ _ (c .before .before .before .before .before .pre .1)
 
--- src/lib.rt:77:1
 same-length : tie.Need-same-length
 same-length c = search needs
 
--- src/lib.rt:77:1
 returns : tie.Need-returns
 returns c = set-up-turn (c .before .before .before .before .before .before .before .before .before .args .st) (c .before .before .before .before .before .before .before .before .before .pre .0) (c .before .before .before .before .before .before .before .before .before .args .number) (c .before .before .before .before .before .before .before .before .before .args .route .now) _ (c .before .before .before .before .before .before .set-up .ensures) _ _ _ _ _ (c .before .before .before .put-answer .ensures)
 

@@ -8,19 +8,15 @@ use Rattle.report.proofs.Whole.{bound-is}
 use Prim.Native.Nat.{_-_}
 use Prim.Native.Nat.{_-_}
 
--- src/lib.rt:195:15
 counted-requires : tie.Need-counted-requires
 counted-requires c κs = search needs
 
--- src/lib.rt:195:10
 mul-result : tie.Need-mul-result
 mul-result c = search needs
 
--- src/lib.rt:195:5
 add-result : tie.Need-add-result
 add-result c = search needs
 
--- src/lib.rt:192:1
 returns : tie.Need-returns
 returns c = bound-is _ _ (c .counted .ensures)
 

@@ -7,55 +7,42 @@ use Rattle.report.proofs.Whole.{counted-long, refused-room, refused-put
 use Prim.Native.Nat.{_-_}
 use Rattle.report.proofs.Whole.{counted-long, refused-room, refused-put, read-room, read-put}
 
--- src/lib.rt:203:9
 read-network-requires : tie.Need-read-network-requires
 read-network-requires c κs = search needs
 
--- src/lib.rt:206:26
 enum-known-verdict : tie.Need-enum-known-verdict
 enum-known-verdict c = search needs
 
--- src/lib.rt:206:64
 number-requires : tie.Need-number-requires
 number-requires c κs = search needs
 
--- src/lib.rt:206:38
 put-network-requires : tie.Need-put-network-requires
 put-network-requires c κs = refused-room (c .before .before .before .before .before .before .before .before .before .args .file .now) (c .before .before .before .before .before .before .before .before .before .args .calls .now) (λ i. c .before .before .before .before .before .before .before .before .shared-slice-known .given i .fits) _ (c .before .before .before .before .before .read-network .ensures) _ (c .before .before .before .verdict .given .1) _ (c .number .ensures) _ (c .before .before .before .before .before .before .before .before .before .pre)
 
--- src/lib.rt:208:17
 enum-told : tie.Need-enum-told
 enum-told c = search needs
 
--- src/lib.rt:209:17
 begin-requires : tie.Need-begin-requires
 begin-requires c κs = search needs
 
--- src/lib.rt:211:33
 counted-requires : tie.Need-counted-requires
 counted-requires c κs = search needs
 
--- src/lib.rt:211:24
 slice-aggregate-run : tie.Need-slice-aggregate-run
 slice-aggregate-run c = counted-long (c .before .before .before .before .before .before .before .before .before .before .before .args .calls .now) _ (c .before .counted .ensures)
 
--- src/lib.rt:211:13
 run-requires : tie.Need-run-requires
 run-requires c κs = read-room (c .before .before .before .before .before .before .before .before .before .before .before .before .args .file .now) (c .before .before .before .before .before .before .before .before .before .before .before .before .args .calls .now) (λ i. c .before .before .before .before .before .before .before .before .before .before .before .shared-slice-known .given i .fits) _ (c .before .before .before .before .before .before .before .before .read-network .ensures) (c .before .before .before .before .before .before .enum-told .given .1) _ (c .before .before .before .before .begin .ensures) _ (c .before .before .counted .ensures) _ (c .before .before .before .before .before .before .before .before .before .before .before .before .pre)
 
--- src/lib.rt:199:1
 same-length : tie.Need-same-length
 same-length c = search needs
 
--- src/lib.rt:199:1
 returns : tie.Need-returns
 returns c = refused-put (c .before .before .before .before .before .before .before .before .before .before .before .before .args .file .now) (c .before .before .before .before .before .before .before .before .before .before .before .before .args .calls .now) (λ i. c .before .before .before .before .before .before .before .before .before .before .before .shared-slice-known .given i .fits) _ (c .before .before .before .before .before .before .before .before .read-network .ensures) _ (c .before .before .before .before .before .before .verdict .given .1) _ (c .before .before .before .number .ensures) _ _ _ (c .before .before .put-network .ensures)
 
--- src/lib.rt:199:1
 same-length-2 : tie.Need-same-length-2
 same-length-2 c = search needs
 
--- src/lib.rt:199:1
 returns-2 : tie.Need-returns-2
 returns-2 c = read-put (c .before .before .before .before .before .before .before .before .before .before .before .before .before .before .before .args .file .now) (c .before .before .before .before .before .before .before .before .before .before .before .before .before .before .before .args .calls .now) (λ i. c .before .before .before .before .before .before .before .before .before .before .before .before .before .before .shared-slice-known .given i .fits) _ (c .before .before .before .before .before .before .before .before .before .before .before .read-network .ensures) (c .before .before .before .before .before .before .before .before .before .enum-told .given .1) _ (c .before .before .before .before .before .before .before .begin .ensures) _ (c .before .before .before .before .before .counted .ensures) _ _ _ (c .before .before .run .ensures)
 
