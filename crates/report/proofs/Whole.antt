@@ -33,7 +33,7 @@ use Rattle.sessions.specs.Calls.{Begins}
 use Rattle.text.specs.Digits.{Puts}
 use Rattle.text.specs.Lines.{networkLine}
 use Rattle.report.specs.Transcript.{callsIn, counted, linesOf, transcript}
-use Rattle.report.specs.Reports.{textBound, tooShort, lengthOr20, bufferWith, Reports, asNumber}
+use Rattle.report.specs.Reports.{textBound, tooShort, lengthOr20, bufferWith, Reports}
 
 -- ---- what the first bytes are
 take-least : (s : List ℕ) (m : ℕ) → take (min (length s) m) s ≡ take m s
@@ -151,7 +151,3 @@ module _ (text before after : List ℕ) (n : ℕ) (p : Puts 0 text before after 
 
   pub back-put : (out out′ : List ℕ) → out′ ≡ putAt 0 (take n after) out → out′ ≡ putAt 0 text out
   back-put out out′ e = e ∙ ap (λ (x : List ℕ). putAt 0 x out) back-is
-
--- the exported answer
-pub as-answer : (text before after : List ℕ) (r : Written) → Reports text before after r → (k : ℕ) → k ≡ asNumber (lengthRead r) → (k ≡ asNumber (lengthOr20 text before)) × (after ≡ bufferWith text before)
-as-answer text before after r w k e = (e ∙ ap asNumber (w .answer), w .buffer)

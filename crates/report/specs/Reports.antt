@@ -42,11 +42,6 @@ pub record Reports (text before after : List ℕ) (r : Written) : Type 0 where
   pub answer : lengthRead r ≡ lengthOr20 text before
   pub buffer : after ≡ bufferWith text before
 
--- the answer as one number: a length, or 1,000,000 and the refusal; every text is shorter (`text-bound`)
-abbrev pub asNumber : Outcome ℕ → ℕ
-asNumber (given n) = n
-asNumber (refused n) = 1000000 + n
-
 -- the frames of an answer over as many links stand in its eight places
 abbrev pub InPlaces : Reply → ℕ → Type 0
 InPlaces (Schedule delay count) hops = hops ≤ 8

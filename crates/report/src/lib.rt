@@ -16,13 +16,12 @@ ghost use Rattle.refusals.specs.Refusals.{refusalNumber, refusalCount, given, r
 ghost use Rattle.ledger.specs.Sound.{intact};
 ghost use Rattle.ledger.specs.Calls.{SetUp, Quote, Release};
 ghost use Rattle.ledger.specs.Calls as rules;
-ghost use Rattle.network_file.specs.Writing.{lengthRead};
 ghost use Rattle.call_records.specs.Records.{callIn, InBytes};
 ghost use Rattle.state.specs.State.{viewOf, replyIn, releasedIn};
 ghost use Rattle.text.specs.Digits.{Puts};
 ghost use Rattle.text.specs.Lines.{line};
 ghost use Rattle.report.specs.Transcript.{callsIn, lineOf, linesOf, transcript};
-ghost use Rattle.report.specs.Reports.{textBound, lengthOr20, bufferWith, Reports, asNumber, InPlaces, placeAfter, Turns};
+ghost use Rattle.report.specs.Reports.{textBound, Reports, InPlaces, placeAfter, Turns};
 
 // After a call: the state, and the place after its line.
 pub struct Turn {
@@ -242,23 +241,4 @@ pub fn report(file: &[u8], calls: &[u8], out: &mut [u8]) -> Written
         return report_by_way(file, calls, out);
     }
     Written::Length(write_text(file, calls, out))
-}
-
-// An answer as one number.
-fn as_number(written: Written) -> u64
-    ensures { λ r. ⌜ r ≡ asNumber (lengthRead written) ⌝ }
-{
-    match written {
-        Written::Length(n) => n as u64,
-        Written::Refused(refusal) => 1000000 + refusals::number(refusal) as u64,
-    }
-}
-
-// The same for callers in other languages: the text's length, or 1,000,020 where the buffer is too short.
-#[no_mangle]
-pub extern "C" fn frames_report(file: &[u8], calls: &[u8], out: &mut [u8]) -> u64
-    ensures { λ r. ⌜ (r ≡ asNumber (lengthOr20 (transcript (now (file .entry)) (now (calls .entry))) (now (out .entry)))) × (now (out .exit) ≡ bufferWith (transcript (now (file .entry)) (now (calls .entry))) (now (out .entry))) ⌝ }
-{
-    let written = report(file, calls, out);
-    as_number(written)
 }

@@ -1,11 +1,7 @@
--- `report::as_number` meets its contract. Assumes nothing.
+-- `exports::as_number` meets its contract. Assumes nothing.
 use borrow.Author.Needs.{needs}
-use Rattle.report.proofs.as_number.Statement.{statement}
-use Rattle.report.proofs.as_number.Tie as tie
-use Prim.Native.Nat.{_-_}
-use Prim.Native.Nat.{_-_}
-use Prim.Native.Nat.{_-_}
-use Prim.Native.Nat.{_-_}
+use Rattle.exports.proofs.as_number.Statement.{statement}
+use Rattle.exports.proofs.as_number.Tie as tie
 
 enum-known-written : tie.Need-enum-known-written
 enum-known-written c = search needs
