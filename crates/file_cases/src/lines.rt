@@ -1,75 +1,41 @@
 // Numbers written in text, a space before each.
-ghost use lib.ListN.{length};
-ghost use Prim.Native.Nat.{_<_, _≤_};
+ghost use Prim.Native.Nat.{_≤_};
+
+// The bases: 10 is 8 + 2 and 16 is 8 + 8, so that a base is told by the power of two that is added to 8.
+pub(super) const DECIMAL: u64 = 1;
+
+const HEXADECIMAL: u64 = 3;
 
 // No file of the cases has more bytes.
 pub(super) const MOST: usize = 64;
 
-// The first place of a byte from a place on, or the end.
-pub(super) fn find(text: &[u8], from: usize, sought: u8) -> usize
-    requires { ⌜ from ≤ length (now text) ⌝ }
-    ensures { λ r. ⌜ (from ≤ r) × (r ≤ length (now (text .entry))) ⌝ }
+// The number at a place, from 1 on, of those that a text says; 0 if it says fewer. A letter, as a digit above 9, stands at 64 or above.
+pub(super) fn number(text: &[u8], place: usize, base: u64) -> u64
+    requires { ⌜ base ≤ 3 ⌝ }
 {
-    let mut i = from;
+    let mut x: u64 = 0;
+    let mut spaces: usize = 0;
+    let mut i = 0;
     while i < text.len() {
-        if text[i] == sought {
-            return i;
+        let c = text[i];
+        if c == b' ' {
+            spaces += 1;
+        } else if spaces == place {
+            let tens = std::num::wrapping_add_u64(x << 3, x << base);
+            x = std::num::wrapping_add_u64(tens, (c % 16 + 9 * (c / 64)) as u64);
         }
         i += 1;
     }
-    i
+    x
 }
 
-// The value of a hexadecimal digit.
-fn digit(c: u8) -> u8 {
-    if c < b'a' { c % 16 } else { c % 16 + 9 }
-}
-
-fn byte(high: u8, low: u8) -> u8 {
-    (digit(high) << 4) | digit(low)
-}
-
-// The bytes that a text says, two hexadecimal digits for each.
+// The bytes that a text says.
 pub(super) fn bytes(text: &[u8]) -> [u8; MOST] {
     let mut file = [0u8; MOST];
     let mut j = 0;
     while j < MOST {
-        let i = 3 * j;
-        if text.len() < i + 3 {
-            return file;
-        }
-        file[j] = byte(text[i + 1], text[i + 2]);
+        file[j] = (number(text, j + 1, HEXADECIMAL) % 256) as u8;
         j += 1;
     }
     file
-}
-
-// The place of the number that a character belongs to.
-fn place(n: usize, c: u8) -> usize
-    requires { ⌜ n < 16 ⌝ }
-    ensures { λ r. ⌜ r < 16 ⌝ }
-{
-    if c == b' ' { (n + 1) % 16 } else { n }
-}
-
-// A number with one character more.
-fn more(x: u64, c: u8) -> u64 {
-    if c == b' ' {
-        return x;
-    }
-    std::num::wrapping_add_u64(std::num::wrapping_add_u64(x << 3, x << 1), (c % 16) as u64)
-}
-
-// The decimal numbers that a text says, from place 1 on.
-pub(super) fn numbers(text: &[u8]) -> [u64; 16] {
-    let mut all = [0u64; 16];
-    let mut n: usize = 0;
-    let mut i = 0;
-    while i < text.len() {
-        let c = text[i];
-        n = place(n, c);
-        all[n] = more(all[n], c);
-        i += 1;
-    }
-    all
 }

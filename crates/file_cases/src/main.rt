@@ -1,23 +1,37 @@
 // The network file of document 01: files read, networks written, and networks given as values checked, a line for each case.
+// The cases are the lines of the file stdin, which says how they are written.
 // A line of a file has `ok` with T and K, Z and closed frames of each link, or `no` with the refusal; what was read is also written back.
 // A line of a network given as values has what its checks say, then what the writer says, and whether the rest of the buffer is as before.
-// The expected lines, in the file stdout, are written by hand from the document. The lines of the random networks come from a run.
-mod cases;
+// The expected lines, in the file stdout, are written by hand from the document.
 mod image;
 mod lines;
-mod random;
 mod reading;
 mod show;
 mod values;
 
+use bytes::scan;
+use libc::STDIN_FILENO;
+
+// Every line of standard input: a case has its name before the colon, and its numbers from there to the comment.
 fn main() {
-    cases::refused_files();
-    cases::refused_links();
-    cases::first_refusals();
-    cases::passed_files();
-    cases::refused_networks();
-    cases::first_values();
-    cases::rooms();
-    cases::passed_values();
-    random::round_trips();
+    let mut buffer = io::large_buffer();
+    let n = io::read_full(STDIN_FILENO, &mut buffer);
+    let text = &buffer[..n];
+    let mut from = 0;
+    while from < text.len() {
+        let next = scan::find(text, from, text.len(), b'\n');
+        let end = scan::find(text, from, next, b';');
+        let at = scan::find(text, from, end, b':');
+        if at < end {
+            show::text(&text[from..at + 1]);
+            let numbers = &text[at + 1..end];
+            if text[from] == b'r' {
+                reading::read(numbers);
+            } else {
+                values::value(numbers);
+            }
+            show::text(b"\n");
+        }
+        from = next + 1;
+    }
 }

@@ -1,4 +1,3 @@
-pub mod Telling
 pub mod Holds
 pub mod Rates
 pub mod Transitions

@@ -1,6 +1,5 @@
 -- What the checks of document 01 have shown of a route when its search begins. Assumes nothing.
 use mathlib.Core.Path.{_≡_}
-use mathlib.Core.Bool.{Bool, true, false}
 use mathlib.Core.List.{List}
 use Prim.Native.Nat.{ℕ, _%_, _<_, _≤_}
 use lib.ListN.{getD}
@@ -27,8 +26,3 @@ pub record Ready (T : ℕ) (hops : List Hop) (n : ℕ) : Type 0 where
   pub some-hop : 0 < n
   pub few-hops : n ≤ 8
   pub passed : (j : ℕ) → j < n → Passed T (getD hops j noHop)
-
--- a test that tells whether something holds
-pub record Tells (b : Bool) (P : Type 0) : Type 0 where
-  pub holds : b ≡ true → P
-  pub fails : b ≡ false → P → ⊥

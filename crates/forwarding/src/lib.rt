@@ -2,7 +2,6 @@
 ghost use mathlib.Core.Path.{_≡_};
 ghost use Prim.Native.Nat.{_+_, _*_, _<_, _≤_};
 ghost use Rattle.forwarding.specs.Forwarding.{reference, hold, frameTime, Delayed};
-ghost use Rattle.forwarding.specs.Checked.{Passed, Ready, Tells};
 
 // A hold counts frames of the outgoing link.
 // Form: a hold and a delay are tuple structs, so holds of unequal links are never summed as delays.
@@ -60,45 +59,4 @@ pub fn sum(first: Delay, then: Delay) -> Delay
     ensures { λ r. ⌜ r .0 ≡ first .0 + then .0 ⌝ }
 {
     Delay(first.0 + then.0)
-}
-
-// Whether a hop's link has what a search needs of checks 7 and 8, for a cycle of t ticks.
-pub fn passed(t: u16, hop: Hop) -> bool
-    ensures { λ r. ⌜ Tells r (Passed t hop) ⌝ }
-{
-    let frames = hop.frames;
-    if frames == 0 {
-        return false;
-    }
-    if 64 < frames {
-        return false;
-    }
-    if t % frames != 0 {
-        return false;
-    }
-    hop.range <= frames
-}
-
-// Whether the search of the first n hops may begin: what it needs of checks 3, 7, 8 and 12, for any values at all.
-pub fn ready(t: u16, hops: [Hop; 8], n: usize) -> bool
-    ensures { λ r. ⌜ Tells r (Ready t hops n) ⌝ }
-{
-    if 960 < t {
-        return false;
-    }
-    if n == 0 {
-        return false;
-    }
-    if 8 < n {
-        return false;
-    }
-    let mut j: usize = 0;
-    while j < n {
-        let hop = hops[j];
-        if !passed(t, hop) {
-            return false;
-        }
-        j += 1;
-    }
-    true
 }

@@ -1,152 +1,99 @@
 // States built by hand. A change is written as four words: a field's name, the link or the table's place that has it, the place in the route or in the
-// frames, and the new value; 0 stands where a field needs no place. One or two changes stand in a line.
+// frames, and the new value; 0 stands where a field needs no place. A field's first letter tells it.
 use super::calls;
 use super::lines;
 use super::show;
-use forwarding::Delay;
-use network::Link;
 use network::Network;
 use state::State;
 use table::Place;
 use table::Table;
-ghost use Prim.Native.Nat.{_≤_};
+ghost use Prim.Native.Nat.{_<_, _≤_};
 
-// A field's first letter tells it: links, ticks, K, Z, closed, sessions, number, hops, route, frame, delay.
-struct Change {
-    field: u8,
-    at: usize,
-    index: usize,
-    value: u64,
-}
-
-// The new value where this is the field, and else the old one.
-fn changed(change: Change, field: u8, old: u64) -> u64 {
-    if change.field == field {
-        change.value
-    } else {
-        old
+// A network with a new number of links, T, or K, Z or closed frames of a link.
+fn changed_network(network: Network, field: u8, at: usize, value: u64) -> Network
+    requires { ⌜ at < 32 ⌝ }
+{
+    let mut next = network;
+    match field {
+        b'l' => next.count = value as usize,
+        b't' => next.ticks = lines::word(value),
+        b'K' => next.links[at].frames = lines::word(value),
+        b'Z' => next.links[at].range = lines::word(value),
+        b'c' => next.links[at].closed = value,
+        _ => {}
     }
+    next
 }
 
-// A change of one place of eight, if this is the field.
-fn changed_in(change: Change, field: u8, old: [u8; 8]) -> [u8; 8] {
-    if change.field != field {
-        return old;
+// A session with a new number, number of hops, delay, or link or frame of a hop.
+fn changed_place(place: Place, field: u8, index: usize, value: u64) -> Place
+    requires { ⌜ index < 8 ⌝ }
+{
+    let mut next = place;
+    match field {
+        b'n' => next.number = lines::word(value),
+        b'h' => next.hops = value as usize,
+        b'd' => next.delay.0 = lines::word(value),
+        b'r' => next.route[index] = lines::byte(value),
+        b'f' => next.frames[index] = lines::byte(value),
+        _ => {}
     }
-    let mut eight = old;
-    eight[change.index % 8] = lines::byte(change.value);
-    eight
+    next
 }
 
-fn changed_link(change: Change, link: Link) -> Link {
-    Link {
-        frames: lines::word(changed(change, b'K', link.frames as u64)),
-        range: lines::word(changed(change, b'Z', link.range as u64)),
-        closed: changed(change, b'c', link.closed),
-    }
-}
-
-fn changed_network(change: Change, network: Network) -> Network {
-    let at = change.at % 32;
-    let link = network.links[at];
-    let mut links = network.links;
-    links[at] = changed_link(change, link);
-    Network {
-        ticks: lines::word(changed(change, b't', network.ticks as u64)),
-        count: changed(change, b'l', network.count as u64) as usize,
-        links,
-    }
-}
-
-fn changed_place(change: Change, place: Place) -> Place {
-    let route = place.route;
-    let frames = place.frames;
-    let delay = place.delay;
-    Place {
-        number: lines::word(changed(change, b'n', place.number as u64)),
-        hops: changed(change, b'h', place.hops as u64) as usize,
-        route: changed_in(change, b'r', route),
-        frames: changed_in(change, b'f', frames),
-        delay: Delay(lines::word(changed(change, b'd', delay.0 as u64))),
-    }
-}
-
-fn changed_table(change: Change, table: Table) -> Table {
-    let at = change.at % 96;
+// A table with a new number of live sessions, or a change of a session.
+fn changed_table(table: Table, field: u8, at: usize, index: usize, value: u64) -> Table
+    requires { ⌜ (at < 96) × (index < 8) ⌝ }
+{
     let place = table.places[at];
     let mut next = table;
-    next.places[at] = changed_place(change, place);
-    next.live = changed(change, b's', table.live as u64) as usize;
+    next.places[at] = changed_place(place, field, index, value);
+    if field == b's' {
+        next.live = value as usize;
+    }
     next
 }
 
-// The change whose words stand from a place on.
-fn change_at(values: &[u64; lines::MOST], from: usize) -> Change
-    requires { ⌜ from ≤ 36 ⌝ }
+// The state with the change whose words stand from word k on. Where there is none, no field has the name.
+fn with_change(st: State, line: &[u8], k: usize) -> State
+    requires { ⌜ k ≤ 5 ⌝ }
 {
-    Change {
-        field: lines::byte(values[from]),
-        at: values[from + 1] as usize,
-        index: values[from + 2] as usize,
-        value: values[from + 3],
-    }
-}
-
-// The state with the changes that stand after a text's first word.
-fn built(st: State, text: &[u8]) -> State {
-    let values = lines::values(text);
-    let first = change_at(&values, 1);
-    let second = change_at(&values, 5);
+    let field = lines::byte(lines::number(line, k));
+    let at = lines::number(line, k + 1) as usize;
+    let index = lines::number(line, k + 2) as usize;
+    let value = lines::number(line, k + 3);
     State {
-        network: changed_network(second, changed_network(first, st.network)),
-        table: changed_table(second, changed_table(first, st.table)),
+        network: changed_network(st.network, field, at % 32, value),
+        table: changed_table(st.table, field, at % 96, index % 8, value),
     }
 }
 
-fn live(st: State) -> usize {
-    let table = st.table;
-    table.live
-}
-
-// A state built by hand in place of a state.
+// A state built by hand, by one change or two, in place of a state.
 pub(super) fn put(st: State, line: &[u8]) -> State {
-    let next = built(st, line);
+    let next = with_change(with_change(st, line, 1), line, 5);
     show::text(b" live");
-    show::next(live(next) as u64);
+    show::next(next.table.live as u64);
     next
 }
 
-// Whether five numbers are all n.
-fn all_are(n: usize, a: usize, b: usize, c: usize, d: usize, e: usize) -> bool {
-    a == n && b == n && c == n && d == n && e == n
-}
-
-// A state handed to five calls, each on what the one before returned, and whether each left as many sessions live.
-fn handed(st: State) {
-    let route = [0u8; 1];
-    show::text(b":");
-    let first = calls::set_up(st, 9, &route);
-    let second = calls::quote(first, &route);
-    let third = calls::release(second, 5);
-    let fourth = calls::lookup(third, 5, false);
-    let fifth = calls::free_frames(fourth, 0);
-    show::text(b" live");
-    show::same(all_are(
-        live(st),
-        live(first),
-        live(second),
-        live(third),
-        live(fourth),
-        live(fifth),
-    ));
-}
-
-// A state built by hand by the changes after the colon. The state itself stays.
+// A state built by hand, by one change or two, and handed to five calls, each on what the one before returned; whether each left as many sessions live.
+// The state itself stays.
 pub(super) fn case(st: State, line: &[u8]) -> State {
-    let at = lines::find(line, 0, b':');
-    if line.len() <= at {
-        return st;
-    }
-    handed(built(st, &line[at + 1..]));
+    let one = [0u8; 1];
+    let route = &one;
+    let built = with_change(with_change(st, line, 1), line, 5);
+    let first = calls::served(built, 9, route, false);
+    let second = calls::served(first, 9, route, true);
+    let third = calls::told(second, b'R', 5);
+    let fourth = calls::told(third, b'L', 5);
+    let fifth = calls::told(fourth, b'F', 0);
+    show::same(
+        built.table.live,
+        first.table.live,
+        second.table.live,
+        third.table.live,
+        fourth.table.live,
+        fifth.table.live,
+    );
     st
 }

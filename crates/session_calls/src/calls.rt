@@ -1,150 +1,156 @@
 // The calls, each written as a line of text: the line is shown as it stands, and after it what the call answers.
 use super::broken;
 use super::lines;
-use super::many;
 use super::show;
 use network::Link;
 use network::Network;
+use refusals::Verdict;
 use sessions::Begun;
 use state::State;
 ghost use Prim.Native.Nat.{_≤_};
+ghost use lib.ListN.{length};
+ghost use mathlib.Core.Path.{_≡_};
 
-// The place where the values of the next link begin, if there are more.
-fn next_link(at: usize, more: bool) -> usize
-    requires { ⌜ at ≤ 37 ⌝ }
-    ensures { λ r. ⌜ r ≤ 37 ⌝ }
+// Link i of a line that tells a network.
+fn link_at(line: &[u8], i: usize) -> Link
+    requires { ⌜ i ≤ 32 ⌝ }
 {
-    if more { (at + 3) % 38 } else { at }
-}
-
-// The link whose values stand from a place on.
-fn link_at(values: &[u64; lines::MOST], at: usize) -> Link
-    requires { ⌜ at ≤ 37 ⌝ }
-{
+    let k = 3 * i + 2;
     Link {
-        frames: lines::word(values[at]),
-        range: lines::word(values[at + 1]),
-        closed: values[at + 2],
+        frames: lines::word(lines::number(line, k)),
+        range: lines::word(lines::number(line, k + 1)),
+        closed: lines::number(line, k + 2),
     }
 }
 
-// The links whose values stand after T. The places that are not in use hold the last of them.
-fn links(values: &[u64; lines::MOST], count: usize) -> [Link; 32] {
-    let mut links = [link_at(values, 2); 32];
-    let mut at: usize = 2;
-    let mut i: usize = 0;
-    while i < 32 {
-        links[i] = link_at(values, at);
-        i += 1;
-        at = next_link(at, i < count);
-    }
-    links
-}
-
+// The fresh network that a line tells: T, then K, Z and closed frames of each link. The places that are not in use hold the first link.
 fn begin(line: &[u8]) -> Begun {
-    let values = lines::values(line);
-    let count = lines::words_after(line, 2) / 3;
+    let count = lines::words(line) / 3 % 33;
+    let mut links = [link_at(line, 0); 32];
+    let mut i: usize = 0;
+    while i < count {
+        links[i] = link_at(line, i);
+        i += 1;
+    }
     sessions::begin(Network {
-        ticks: lines::word(values[1]),
+        ticks: lines::word(lines::number(line, 1)),
         count,
-        links: links(&values, count),
+        links,
     })
 }
 
-fn fresh(line: &[u8]) -> State {
-    let begun = begin(line);
-    let verdict = begun.verdict;
-    show::verdict(verdict);
-    begun.state
-}
-
-pub(super) fn set_up(st: State, number: u16, route: &[u8]) -> State {
-    let served = sessions::set_up(st, number, route);
+// A set-up, or a quote.
+pub(super) fn served(st: State, number: u16, route: &[u8], quotes: bool) -> State {
+    let served = if quotes {
+        sessions::quote(st, route)
+    } else {
+        sessions::set_up(st, number, route)
+    };
     let answer = served.answer;
     show::answer(answer, route.len());
     served.state
 }
 
-pub(super) fn quote(st: State, route: &[u8]) -> State {
-    let served = sessions::quote(st, route);
-    let answer = served.answer;
-    show::answer(answer, route.len());
-    served.state
-}
-
-// A set-up, or a quote, whose route has two words before it, or one.
-fn route_call(st: State, line: &[u8], number: u16, before: usize) -> State {
-    let values = lines::values(line);
-    let links = lines::route(&values, before);
-    let n = lines::words_after(line, before);
-    let route = &links[..n];
-    if before == 2 {
-        return set_up(st, number, route);
+// A set-up, or a quote, whose route has k words before it. No line has a route of more than 40 links.
+fn route_call(st: State, line: &[u8], k: usize) -> State
+    requires { ⌜ k ≤ 3 ⌝ }
+{
+    let mut links = [0u8; 40];
+    let mut i: usize = 0;
+    while i < 40 {
+        links[i] = lines::byte(lines::number(line, k + i));
+        i += 1;
     }
-    quote(st, route)
+    let n = std::num::wrapping_sub_usize(lines::words(line), k) % 41;
+    served(st, lines::word(lines::number(line, 1)), &links[..n], k == 1)
 }
 
-fn long_route(st: State) -> State {
-    let route = [0u8; 200];
-    quote(set_up(st, 5, &route), &route)
-}
-
-pub(super) fn release(st: State, number: u16) -> State {
-    let released = sessions::release(st, number);
-    let verdict = released.verdict;
-    show::verdict(verdict);
-    released.state
-}
-
-pub(super) fn lookup(st: State, number: u16, all: bool) -> State {
-    let looked = sessions::lookup(st, number);
-    let shown = looked.shown;
-    show::session(shown, if all { 8 } else { shown.hops });
-    looked.state
-}
-
-pub(super) fn free_frames(st: State, link: u8) -> State {
-    let tallied = sessions::free_frames(st, link);
-    let counted = tallied.counted;
-    show::counted(counted);
-    tallied.state
-}
-
-fn call(st: State, line: &[u8]) -> State {
-    let values = lines::values(line);
-    let number = lines::word(values[1]);
-    let to = lines::word(values[2]);
-    match lines::byte(values[0]) {
-        b'N' => fresh(line),
-        b'S' => route_call(st, line, number, 2),
-        b'Q' => route_call(st, line, number, 1),
-        b'R' => release(st, number),
-        b'L' => lookup(st, number, false),
-        b'E' => lookup(st, number, true),
-        b'F' => free_frames(st, lines::byte(values[1])),
-        b'M' => many::set_up_all(st, number, to, lines::byte(values[3])),
-        b'D' => many::release_all(st, number, to),
-        b'W' => long_route(st),
-        b'P' => broken::put(st, line),
-        b'B' => broken::case(st, line),
+// A release, a lookup or the free frames of a link, by its letter. A letter that is no call's leaves the state.
+pub(super) fn told(st: State, letter: u8, x: u64) -> State {
+    match letter {
+        b'R' => {
+            let released = sessions::release(st, lines::word(x));
+            let verdict = released.verdict;
+            show::verdict(verdict);
+            released.state
+        }
+        b'L' | b'E' => {
+            let looked = sessions::lookup(st, lines::word(x));
+            let shown = looked.shown;
+            show::session(shown, letter);
+            looked.state
+        }
+        b'F' => {
+            let tallied = sessions::free_frames(st, lines::byte(x));
+            let counted = tallied.counted;
+            show::counted(counted);
+            tallied.state
+        }
         _ => st,
     }
 }
 
-// Every line of a text, on the state that the line before it left; each ends with a line end. A line that is no call is only shown.
+// A set-up over the route, or a release, for each number from `from` to before `to`, and how many of them were accepted.
+fn many(st: State, line: &[u8], sets_up: bool) -> State {
+    let route = [lines::byte(lines::number(line, 3)); 1];
+    let to = lines::word(lines::number(line, 2));
+    let mut number = lines::word(lines::number(line, 1));
+    let mut next = st;
+    let mut accepted: u64 = 0;
+    while number < to {
+        if sets_up {
+            let served = sessions::set_up(next, number, &route);
+            let answer = served.answer;
+            accepted = show::with_answer(accepted, answer);
+            next = served.state;
+        } else {
+            let released = sessions::release(next, number);
+            let verdict = released.verdict;
+            accepted = show::with_verdict(accepted, verdict);
+            next = released.state;
+        }
+        number += 1;
+    }
+    show::verdict(Verdict::Passed);
+    show::next(accepted);
+    next
+}
+
+// A line's call, on the state that the line before it left.
+fn call(st: State, line: &[u8]) -> State {
+    let letter = lines::byte(lines::number(line, 0));
+    match letter {
+        b'N' => {
+            let begun = begin(line);
+            let verdict = begun.verdict;
+            show::verdict(verdict);
+            begun.state
+        }
+        b'S' => route_call(st, line, 2),
+        b'Q' => route_call(st, line, 1),
+        b'M' => many(st, line, true),
+        b'D' => many(st, line, false),
+        b'W' => {
+            let all = [0u8; 200];
+            let route = &all;
+            served(served(st, 5, route, false), 5, route, true)
+        }
+        b'P' => broken::put(st, line),
+        b':' => broken::case(st, line),
+        _ => told(st, letter, lines::number(line, 1)),
+    }
+}
+
+// Every line of a text.
 pub(super) fn run(text: &[u8]) {
-    let begun = begin(b"N");
+    let begun = begin(text);
     let mut st = begun.state;
     let mut from = 0;
     while from < text.len() {
         let end = lines::find(text, from, b'\n');
-        if text.len() <= end {
-            return;
-        }
         let line = &text[from..end];
-        show::name(line);
-        st = call(st, line);
-        show::text(b"\n");
+        st = call(st, show::said(line));
+        show::end(line);
         from = end + 1;
     }
 }

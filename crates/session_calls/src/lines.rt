@@ -1,14 +1,12 @@
 // Words and numbers written in text, with a space between two.
 ghost use lib.ListN.{length};
-ghost use Prim.Native.Nat.{_<_, _≤_};
-
-// No line of the cases has more words.
-pub(super) const MOST: usize = 40;
+ghost use Prim.Native.Nat.{_≤_};
+ghost use Rattle.io.specs.Counts.{Counts};
 
 // The first place of a byte from a place on, or the end.
 pub(super) fn find(text: &[u8], from: usize, sought: u8) -> usize
     requires { ⌜ from ≤ length (now text) ⌝ }
-    ensures { λ r. ⌜ (from ≤ r) × (r ≤ length (now (text .entry))) ⌝ }
+    ensures { λ r. ⌜ (from ≤ r) × Counts r (now (text .entry)) ⌝ }
 {
     let mut i = from;
     while i < text.len() {
@@ -20,53 +18,40 @@ pub(super) fn find(text: &[u8], from: usize, sought: u8) -> usize
     i
 }
 
-// The place of the word that a character belongs to.
-fn place(n: usize, c: u8) -> usize
-    requires { ⌜ n < 40 ⌝ }
-    ensures { λ r. ⌜ r < 40 ⌝ }
-{
-    if c == b' ' { (n + 1) % MOST } else { n }
-}
-
 // A word's value with one character more: of a number its value, of another word its first letter.
 fn more(x: u64, c: u8) -> u64 {
-    if c == b' ' {
-        return x;
-    }
-    if c < b'A' {
-        return std::num::wrapping_add_u64(
-            std::num::wrapping_add_u64(x << 3, x << 1),
-            (c % 16) as u64,
-        );
+    if c < b':' {
+        return std::num::wrapping_add_u64(x % 1844674407370955162 * 10, (c % 16) as u64);
     }
     if x == 0 { c as u64 } else { x }
 }
 
-// The values of a text's words.
-pub(super) fn values(text: &[u8]) -> [u64; MOST] {
-    let mut all = [0u64; MOST];
-    let mut n: usize = 0;
+// The value of word k of a line, 0 where there is none.
+pub(super) fn number(line: &[u8], k: usize) -> u64 {
+    let mut x: u64 = 0;
+    let mut passed: usize = 0;
     let mut i = 0;
-    while i < text.len() {
-        let c = text[i];
-        n = place(n, c);
-        all[n] = more(all[n], c);
+    while i < line.len() {
+        let c = line[i];
+        if c == b' ' {
+            passed += 1;
+        } else if passed == k {
+            x = more(x, c);
+        }
         i += 1;
     }
-    all
+    x
 }
 
-// How many words a text has after its first n.
-pub(super) fn words_after(text: &[u8], n: usize) -> usize
-    ensures { λ r. ⌜ r ≤ 40 ⌝ }
-{
-    let mut last: usize = 0;
+// How many words a line has.
+pub(super) fn words(line: &[u8]) -> usize {
+    let mut n: usize = 1;
     let mut i = 0;
-    while i < text.len() {
-        last = place(last, text[i]);
+    while i < line.len() {
+        n = std::num::wrapping_add_usize(n, (line[i] == b' ') as usize);
         i += 1;
     }
-    if last < n { 0 } else { last + 1 - n }
+    n
 }
 
 pub(super) fn byte(x: u64) -> u8 {
@@ -75,17 +60,4 @@ pub(super) fn byte(x: u64) -> u8 {
 
 pub(super) fn word(x: u64) -> u16 {
     (x % 65536) as u16
-}
-
-// The values from place n on as link numbers.
-pub(super) fn route(values: &[u64; MOST], n: usize) -> [u8; MOST] {
-    let mut links = [0u8; MOST];
-    let mut j: usize = n;
-    let mut i: usize = 0;
-    while j < MOST {
-        links[i] = byte(values[j]);
-        j += 1;
-        i += 1;
-    }
-    links
 }

@@ -1,18 +1,15 @@
--- `session_calls::calls::run` meets its contract. The loop's invariant: a line starts within the text or at its end. Assumes nothing.
-use Prim.Native.Nat.{_-_, _≤_}
+-- `session_calls::calls::run` meets its contract. The loop's invariant: a line starts within the text, at its end, or after that. Assumes nothing.
+use Prim.Native.Nat.{_+_, _-_, _≤_}
 use lib.ListN.{length}
 use borrow.Author.Needs.{needs}
 use Rattle.session_calls.proofs.calls.run.Statement.{statement}
 use Rattle.session_calls.proofs.calls.run.Tie as tie
 
 abbrev Inv-loop : tie.InvT-loop
-Inv-loop text st₀ from₀ t8 st from = from ≤ length text
+Inv-loop text st₀ from₀ st from = from ≤ length text + 1
 
 abbrev μ-loop : tie.MeasureT-loop
-μ-loop text st₀ from₀ t8 st from = length text - from
-
-slice-aggregate-begin : tie.Need-slice-aggregate-begin Inv-loop μ-loop
-slice-aggregate-begin c = search needs
+μ-loop text st₀ from₀ st from = length text + 1 - from
 
 begin-requires : tie.Need-begin-requires Inv-loop μ-loop
 begin-requires c κs = search needs
@@ -23,9 +20,6 @@ loop-holds c = search needs
 find-requires : tie.Need-find-requires Inv-loop μ-loop
 find-requires c κs = search needs
 
-returns : tie.Need-returns Inv-loop μ-loop
-returns c = search needs
-
 sub-line : tie.Need-sub-line Inv-loop μ-loop
 sub-line c = search needs
 
@@ -35,17 +29,14 @@ part-line-start c = search needs
 part-line-end : tie.Need-part-line-end Inv-loop μ-loop
 part-line-end c = search needs
 
-name-requires : tie.Need-name-requires Inv-loop μ-loop
-name-requires c κs = search needs
+said-requires : tie.Need-said-requires Inv-loop μ-loop
+said-requires c κs = search needs
 
 call-requires : tie.Need-call-requires Inv-loop μ-loop
 call-requires c κs = search needs
 
-slice-aggregate-text : tie.Need-slice-aggregate-text Inv-loop μ-loop
-slice-aggregate-text c = search needs
-
-text-requires : tie.Need-text-requires Inv-loop μ-loop
-text-requires c κs = search needs
+end-requires : tie.Need-end-requires Inv-loop μ-loop
+end-requires c κs = search needs
 
 add-from : tie.Need-add-from Inv-loop μ-loop
 add-from c = search needs
@@ -56,8 +47,8 @@ loop-less c = search needs
 loop-again : tie.Need-loop-again Inv-loop μ-loop
 loop-again c = search needs
 
-returns-2 : tie.Need-returns-2 Inv-loop μ-loop
-returns-2 c = search needs
+returns : tie.Need-returns Inv-loop μ-loop
+returns c = search needs
 
 pub run-spec : {M : Type 1} → statement M
 run-spec =
@@ -65,19 +56,16 @@ run-spec =
     (tie.spec
     Inv-loop
     μ-loop
-    slice-aggregate-begin
     begin-requires
     loop-holds
     find-requires
-    returns
     sub-line
     part-line-start
     part-line-end
-    name-requires
+    said-requires
     call-requires
-    slice-aggregate-text
-    text-requires
+    end-requires
     add-from
     loop-less
     loop-again
-    returns-2)
+    returns)

@@ -1,6 +1,9 @@
 -- `session_calls::lines::find` meets its contract. The loop's invariant: i lies between where it began and the end. Assumes nothing.
 use Prim.Native.Nat.{_-_, _≤_}
 use lib.ListN.{length}
+use lib.Seq.{length-take-le}
+use mathlib.Core.Path.{sym}
+use native.Mathlib.Omega.{arith}
 use borrow.Author.Needs.{needs}
 use Rattle.session_calls.proofs.lines.find.Statement.{statement}
 use Rattle.session_calls.proofs.lines.find.Tie as tie
@@ -18,7 +21,11 @@ shared-slice-read-if1 : tie.Need-shared-slice-read-if1 Inv-loop μ-loop
 shared-slice-read-if1 c = search needs
 
 returns : tie.Need-returns Inv-loop μ-loop
-returns c = search needs
+returns c =
+    let i = c .before .before .before .loop .i in
+    let text = c .before .before .before .before .args .text .now in
+    let le : i ≤ length text = omega arith in
+    (search needs, (le, sym (length-take-le i text le)))
 
 add-i : tie.Need-add-i Inv-loop μ-loop
 add-i c = search needs
@@ -30,7 +37,11 @@ loop-again : tie.Need-loop-again Inv-loop μ-loop
 loop-again c = search needs
 
 returns-2 : tie.Need-returns-2 Inv-loop μ-loop
-returns-2 c = search needs
+returns-2 c =
+    let i = c .before .loop .i in
+    let text = c .before .before .args .text .now in
+    let le : i ≤ length text = omega arith in
+    (search needs, (le, sym (length-take-le i text le)))
 
 pub find-spec : {M : Type 1} → statement M
 find-spec =

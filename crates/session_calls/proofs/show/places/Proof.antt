@@ -5,19 +5,22 @@ use Rattle.session_calls.proofs.show.places.Statement.{statement}
 use Rattle.session_calls.proofs.show.places.Tie as tie
 
 abbrev Inv-loop : tie.InvT-loop
-Inv-loop eight n j₀ j = j ≤ 8
+Inv-loop n eight j₀ j = j ≤ 8
 
 abbrev μ-loop : tie.MeasureT-loop
-μ-loop eight n j₀ j = 8 - j
+μ-loop n eight j₀ j = 8 - j
 
 loop-holds : tie.Need-loop-holds Inv-loop μ-loop
 loop-holds c = search needs
 
-element-copy-out-place : tie.Need-element-copy-out-place Inv-loop μ-loop
-element-copy-out-place c = search needs
+array-read-x : tie.Need-array-read-x Inv-loop μ-loop
+array-read-x c = search needs
 
-place-requires : tie.Need-place-requires Inv-loop μ-loop
-place-requires c κs = search needs
+cast-next : tie.Need-cast-next Inv-loop μ-loop
+cast-next c = search needs
+
+next-requires : tie.Need-next-requires Inv-loop μ-loop
+next-requires c κs = search needs
 
 add-j : tie.Need-add-j Inv-loop μ-loop
 add-j c = search needs
@@ -38,8 +41,9 @@ places-spec =
     Inv-loop
     μ-loop
     loop-holds
-    element-copy-out-place
-    place-requires
+    array-read-x
+    cast-next
+    next-requires
     add-j
     loop-less
     loop-again

@@ -1,0 +1,90 @@
+-- `session_calls::calls::many` meets its contract. The loop ends because the number rises. Assumes nothing.
+use Prim.Native.Nat.{_-_}
+use borrow.Author.Needs.{needs}
+use Rattle.session_calls.proofs.calls.many.Statement.{statement}
+use Rattle.session_calls.proofs.calls.many.Tie as tie
+
+abbrev Inv-loop : tie.InvT-loop
+Inv-loop line sets-up route to number₀ next₀ accepted₀ number next accepted = Unit
+
+abbrev μ-loop : tie.MeasureT-loop
+μ-loop line sets-up route to number₀ next₀ accepted₀ number next accepted = to - number
+
+number-requires : tie.Need-number-requires Inv-loop μ-loop
+number-requires c κs = search needs
+
+byte-requires : tie.Need-byte-requires Inv-loop μ-loop
+byte-requires c κs = search needs
+
+number-requires-2 : tie.Need-number-requires-2 Inv-loop μ-loop
+number-requires-2 c κs = search needs
+
+word-requires : tie.Need-word-requires Inv-loop μ-loop
+word-requires c κs = search needs
+
+number-requires-3 : tie.Need-number-requires-3 Inv-loop μ-loop
+number-requires-3 c κs = search needs
+
+word-requires-2 : tie.Need-word-requires-2 Inv-loop μ-loop
+word-requires-2 c κs = search needs
+
+loop-holds : tie.Need-loop-holds Inv-loop μ-loop
+loop-holds c = search needs
+
+slice-aggregate-set-up : tie.Need-slice-aggregate-set-up Inv-loop μ-loop
+slice-aggregate-set-up c = search needs
+
+set-up-requires : tie.Need-set-up-requires Inv-loop μ-loop
+set-up-requires c κs = search needs
+
+with-answer-requires : tie.Need-with-answer-requires Inv-loop μ-loop
+with-answer-requires c κs = search needs
+
+release-requires : tie.Need-release-requires Inv-loop μ-loop
+release-requires c κs = search needs
+
+with-verdict-requires : tie.Need-with-verdict-requires Inv-loop μ-loop
+with-verdict-requires c κs = search needs
+
+add-number : tie.Need-add-number Inv-loop μ-loop
+add-number c = search needs
+
+loop-less : tie.Need-loop-less Inv-loop μ-loop
+loop-less c = search needs
+
+loop-again : tie.Need-loop-again Inv-loop μ-loop
+loop-again c = search needs
+
+verdict-requires : tie.Need-verdict-requires Inv-loop μ-loop
+verdict-requires c κs = search needs
+
+next-requires : tie.Need-next-requires Inv-loop μ-loop
+next-requires c κs = search needs
+
+returns : tie.Need-returns Inv-loop μ-loop
+returns c = search needs
+
+pub many-spec : {M : Type 1} → statement M
+many-spec =
+    tie.close
+    (tie.spec
+    Inv-loop
+    μ-loop
+    number-requires
+    byte-requires
+    number-requires-2
+    word-requires
+    number-requires-3
+    word-requires-2
+    loop-holds
+    slice-aggregate-set-up
+    set-up-requires
+    with-answer-requires
+    release-requires
+    with-verdict-requires
+    add-number
+    loop-less
+    loop-again
+    verdict-requires
+    next-requires
+    returns)
