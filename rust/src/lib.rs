@@ -1,5 +1,6 @@
 //! An independent cross-check of the reservation program `frames`.
 
+pub mod compared;
 pub mod dijkstra;
 pub mod library;
 pub mod listing;

@@ -2,37 +2,69 @@
 
 use crate::route::{self, Answer, Hop, MAX_HOPS};
 
+/// Routes with at most so many paths, free or not, are listed.
+pub const MOST_PATHS: u64 = 4_096;
+
+/// The number of ways to pick a frame of each hop, by the frames per cycle of the hops.
+pub fn paths(rates: impl Iterator<Item = u32>) -> u64 {
+    rates.map(u64::from).product()
+}
+
+/// What puts the answer before the next best schedule of the list: the first rule of the order by which they
+/// differ, or that there is no other.
+#[derive(Clone, Copy, Debug, PartialEq, Eq)]
+pub enum Decided {
+    ByDelay,
+    ByLastFrame,
+    ByHold,
+    ByPrecedingFrame,
+    OnlySchedule,
+}
+
+/// A route with its answer; where that is a schedule, also what decided it.
+pub struct Listed {
+    pub ticks: u32,
+    pub hops: Vec<Hop>,
+    pub answer: Answer,
+    pub decided: Option<Decided>,
+}
+
 /// The order of schedules as one list of numbers: the delay, the last frame, then going back hop by hop
 /// the hold and the preceding frame. The smaller key wins. Unused places hold 0.
 type Key = [u32; 2 * MAX_HOPS];
 
-/// The listing so far: the best schedule with its key, and the frames that end some schedule of hops 0 to j.
+/// The listing so far: the best schedule with its key, the next best key, and the frames that end some schedule
+/// of hops 0 to j.
 struct Listing<'a> {
     ticks: u32,
     hops: &'a [Hop],
     best: Option<(Key, Vec<u32>)>,
+    next_best: Option<Key>,
     ends: Vec<u64>,
 }
 
 /// The least-delay schedule of the route, from the whole list of its schedules.
 pub fn least(ticks: u32, hops: &[Hop]) -> Answer {
+    list(ticks, hops).answer
+}
+
+/// The least-delay schedule of the route and what decided it, from the whole list of its schedules.
+pub fn list(ticks: u32, hops: &[Hop]) -> Listed {
     let mut listing = Listing {
         ticks,
         hops,
         best: None,
+        next_best: None,
         ends: vec![0; hops.len()],
     };
     for frame in (0..hops[0].frames).filter(|&i| route::has(hops[0].free, i)) {
         listing.extend(&mut vec![frame]);
     }
-    let count = route::count(hops, &listing.ends);
-    match listing.best {
-        None => Answer::Blocked { count },
-        Some((key, frames)) => Answer::Found {
-            delay: key[0],
-            count,
-            frames: frames.iter().map(|&frame| frame as u8).collect(),
-        },
+    Listed {
+        ticks,
+        hops: hops.to_vec(),
+        answer: listing.answer(),
+        decided: listing.decided(),
     }
 }
 
@@ -55,12 +87,49 @@ impl Listing<'_> {
         }
     }
 
-    /// Keeps the schedule when its key is smaller than every key before.
+    /// Keeps the schedule when its key is smaller than every key before, and its key when only one was smaller.
     fn compare(&mut self, frames: &[u32]) {
         let key = key(self.ticks, self.hops, frames);
         if self.best.as_ref().is_none_or(|(best, _)| key < *best) {
+            self.next_best = self.best.as_ref().map(|&(best, _)| best);
             self.best = Some((key, frames.to_vec()));
+        } else if self.next_best.is_none_or(|next_best| key < next_best) {
+            self.next_best = Some(key);
         }
+    }
+
+    /// The answer, when every schedule has been listed.
+    fn answer(&self) -> Answer {
+        let count = route::count(self.hops, &self.ends);
+        match &self.best {
+            None => Answer::Blocked { count },
+            Some((key, frames)) => Answer::Found {
+                delay: key[0],
+                count,
+                frames: frames.iter().map(|&frame| frame as u8).collect(),
+            },
+        }
+    }
+
+    /// What decided the answer, when every schedule has been listed; nothing where there is none.
+    fn decided(&self) -> Option<Decided> {
+        let (best, _) = self.best.as_ref()?;
+        Some(match &self.next_best {
+            None => Decided::OnlySchedule,
+            Some(next_best) => rule(best, next_best),
+        })
+    }
+}
+
+/// The rule of the first place in which the keys of two schedules differ.
+fn rule(best: &Key, next_best: &Key) -> Decided {
+    let mut places = best.iter().zip(next_best);
+    match places.position(|(a, b)| a != b) {
+        None => panic!("two schedules have one key"),
+        Some(0) => Decided::ByDelay,
+        Some(1) => Decided::ByLastFrame,
+        Some(place) if place % 2 == 0 => Decided::ByHold,
+        Some(_) => Decided::ByPrecedingFrame,
     }
 }
 
@@ -77,4 +146,99 @@ fn key(ticks: u32, hops: &[Hop], frames: &[u32]) -> Key {
         key[3 + 2 * back] = frames[j - 1];
     }
     key
+}
+
+#[cfg(test)]
+mod tests {
+    use super::*;
+
+    /// A link of K frames and range Z with only the frames named free.
+    fn link(frames: u32, range: u32, free: &[u32]) -> Hop {
+        let free = free.iter().fold(0, |word, frame| word | 1 << frame);
+        Hop {
+            frames,
+            range,
+            free,
+        }
+    }
+
+    /// A link of 8 frames and range 2.
+    fn eight(free: &[u32]) -> Hop {
+        link(8, 2, free)
+    }
+
+    /// A link of 4 frames and range 2.
+    fn four(free: &[u32]) -> Hop {
+        link(4, 2, free)
+    }
+
+    /// What decides the route in a cycle of 48 ticks.
+    fn decided(hops: &[Hop]) -> Option<Decided> {
+        list(48, hops).decided
+    }
+
+    const ALL: &[u32] = &[0, 1, 2, 3, 4, 5, 6, 7];
+
+    #[test]
+    fn decided_by_delay() {
+        // 2 3 with delay 6, then 1 3 with 12.
+        let route = [eight(&[1, 2]), eight(&[3])];
+        assert_eq!(decided(&route), Some(Decided::ByDelay));
+        // 0 1 with delay 6, then 0 2 with 12.
+        let route = [eight(&[0]), eight(&[1, 2])];
+        assert_eq!(decided(&route), Some(Decided::ByDelay));
+    }
+
+    #[test]
+    fn decided_by_last_frame() {
+        // 0, then 1, both with delay 0.
+        assert_eq!(decided(&[eight(ALL)]), Some(Decided::ByLastFrame));
+        // 7 0, then 0 1, both with delay 6.
+        let route = [eight(ALL), eight(ALL)];
+        assert_eq!(decided(&route), Some(Decided::ByLastFrame));
+    }
+
+    #[test]
+    fn decided_by_hold() {
+        // 0 2 3 with holds 2 and 1, then 0 1 3 with holds 1 and 2, both with delay 18.
+        let route = [eight(&[0]), eight(&[1, 2]), eight(&[3])];
+        assert_eq!(decided(&route), Some(Decided::ByHold));
+        // The same two, and hold 1 into frame 4 of one hop more.
+        let route = [eight(&[0]), eight(&[1, 2]), eight(&[3]), eight(&[4])];
+        assert_eq!(decided(&route), Some(Decided::ByHold));
+    }
+
+    #[test]
+    fn decided_by_preceding_frame() {
+        // 4 3, then 5 3: both have reference frame 2, hold 1 and delay 12.
+        let route = [eight(&[4, 5]), four(&[3])];
+        assert_eq!(decided(&route), Some(Decided::ByPrecedingFrame));
+        // The same two, and hold 1 into frame 0 of one hop more.
+        let route = [eight(&[4, 5]), four(&[3]), four(&[0])];
+        assert_eq!(decided(&route), Some(Decided::ByPrecedingFrame));
+    }
+
+    #[test]
+    fn only_schedule_or_none() {
+        let route = [eight(&[3]), eight(&[5])];
+        assert_eq!(decided(&route), Some(Decided::OnlySchedule));
+        assert_eq!(decided(&[eight(&[3]), eight(&[6])]), None);
+    }
+
+    /// The next best schedule is found whether it is listed before the best one or after it.
+    #[test]
+    fn next_best_is_found_wherever_it_stands() {
+        // In the order of the list: 1 0 with delay 42, 1 2 with 6, 7 0 with 6, 7 2 with 18.
+        let before = [eight(&[1, 7]), link(8, 7, &[0, 2])];
+        assert_eq!(decided(&before), Some(Decided::ByLastFrame));
+        // 1 2 with delay 6, 1 4 with 18, 3 2 with 42, 3 4 with 6.
+        let after = [eight(&[1, 3]), link(8, 7, &[2, 4])];
+        assert_eq!(decided(&after), Some(Decided::ByLastFrame));
+    }
+
+    #[test]
+    fn paths_are_free_or_not() {
+        assert_eq!(paths([8, 4, 3].into_iter()), 96);
+        assert_eq!(paths([64; 8].into_iter()), 1 << 48);
+    }
 }

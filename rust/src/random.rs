@@ -1,5 +1,6 @@
 //! Seeded random inputs: networks, damaged files, call lists and buffer lengths.
 
+use crate::listing;
 use crate::model::{Link, Network, ABSENT};
 use crate::route::{self, MAX_HOPS};
 
@@ -61,13 +62,14 @@ impl Random {
 /// One random input. Most are short; the long lists are rare.
 pub fn input(random: &mut Random) -> Input {
     match random.below(10_000) {
-        0..=3 => over_the_limit(random),
-        4..=14 => long_list(random),
+        0..=2 => over_the_limit(random),
+        3..=14 => long_list(random),
         15..=64 => full_ledger(random),
         65..=2_499 => damaged_input(random),
         2_500..=2_999 => random_bytes(random),
         3_000..=5_499 => short_list(random, 64),
         5_500..=6_499 => nearly_full(random),
+        6_500..=7_999 => listed_routes(random),
         _ => short_list(random, 8),
     }
 }
@@ -114,6 +116,25 @@ fn nearly_full(random: &mut Random) -> Input {
             0 => push_release(&mut calls, number),
             1 => push_quote(&mut calls, &route),
             _ => push_set_up(&mut calls, number, &route),
+        }
+    }
+    Input {
+        file: image(&network),
+        calls,
+    }
+}
+
+/// Quotes over a route that can be listed, over its parts and the way back, with a few sessions among them.
+fn listed_routes(random: &mut Random) -> Input {
+    let network = listed_network(random);
+    let mut calls = Vec::new();
+    for _ in 0..random.between(3, 9) {
+        let number = random.below(4) as u16;
+        let route = part_of_all(random, &network);
+        match random.below(8) {
+            0 | 1 => push_set_up(&mut calls, number, &route),
+            2 => push_release(&mut calls, number),
+            _ => push_quote(&mut calls, &route),
         }
     }
     Input {
@@ -254,25 +275,32 @@ pub fn network(random: &mut Random, most_frames: u32) -> Network {
         3..=7 => random.between(5, 10),
         _ => random.between(11, 32),
     };
-    let one_closing = random.pick(&CLOSINGS);
-    let mixed = random.chance(30);
+    let rates: Vec<u32> = (0..number).map(|_| random.pick(&rates)).collect();
+    let closings = if random.chance(30) {
+        CLOSINGS.to_vec()
+    } else {
+        vec![random.pick(&CLOSINGS)]
+    };
+    Network {
+        ticks,
+        links: links(random, &rates, &closings),
+    }
+}
+
+/// Links with these frames per cycle in turn, and ranges of one kind.
+fn links(random: &mut Random, rates: &[u32], closings: &[Closing]) -> Vec<Link> {
     let width = random.below(4);
-    let links = (0..number)
-        .map(|_| {
-            let frames = random.pick(&rates);
-            let closing = if mixed {
-                random.pick(&CLOSINGS)
-            } else {
-                one_closing
-            };
+    rates
+        .iter()
+        .map(|&frames| {
+            let closing = random.pick(closings);
             Link {
                 frames,
                 range: range(random, frames, width),
                 closed: closed_frames(random, frames, closing),
             }
         })
-        .collect();
-    Network { ticks, links }
+        .collect()
 }
 
 /// A cycle: most often one with many divisors, now and then any.
@@ -286,15 +314,23 @@ fn cycle(random: &mut Random) -> u32 {
 
 /// The frames per cycle that the links are picked from: one rate, rates that divide each other, or any.
 fn rates(random: &mut Random, ticks: u32, most_frames: u32) -> Vec<u32> {
-    let all: Vec<u32> = (1..=most_frames.min(ticks))
-        .filter(|k| ticks % k == 0)
-        .collect();
+    let all = divisors(ticks, most_frames);
     let top = all[all.len() - 1 - random.below(all.len().min(3))];
     match random.below(4) {
         0 => vec![top],
         1 | 2 => chain(random, top),
         _ => all,
     }
+}
+
+/// The divisors of T up to `most`.
+fn divisors(ticks: u32, most: u32) -> Vec<u32> {
+    (1..=most.min(ticks)).filter(|k| ticks % k == 0).collect()
+}
+
+/// May links of these frames per cycle be adjacent?
+fn fit(before: u32, here: u32) -> bool {
+    before % here == 0 || here % before == 0
 }
 
 /// Rates from `top` downwards, each dividing the one before.
@@ -334,6 +370,103 @@ fn closed_frames(random: &mut Random, frames: u32, closing: Closing) -> u64 {
             closed
         }
     }
+}
+
+// ---- Routes that can be listed ----
+
+/// Their cycles: multiples of 24, and others with a factor 5, 7 or 11.
+const CYCLES_OF_24: [u32; 12] = [24, 48, 72, 96, 120, 192, 240, 384, 480, 720, 840, 960];
+const OTHER_CYCLES: [u32; 28] = [
+    30, 35, 42, 50, 66, 70, 77, 98, 100, 105, 110, 154, 210, 245, 330, 350, 385, 420, 462, 490,
+    550, 605, 630, 660, 735, 770, 900, 935,
+];
+
+/// What the frames per cycle of a hop are drawn from: the numbers up to a bound, or the largest up to 64.
+#[derive(Clone, Copy)]
+enum Frames {
+    UpTo(u32),
+    Many,
+}
+
+/// A network whose links, in the order of their numbers, make a route that can be listed.
+fn listed_network(random: &mut Random) -> Network {
+    let ticks = if random.chance(40) {
+        random.pick(&CYCLES_OF_24)
+    } else {
+        random.pick(&OTHER_CYCLES)
+    };
+    let rates = listed_rates(random, ticks);
+    // On a long route few frames may be closed, or it is blocked.
+    let closings: &[Closing] = if rates.len() > 4 {
+        &[Closing::None, Closing::None, Closing::None, Closing::Some]
+    } else {
+        &CLOSINGS
+    };
+    Network {
+        ticks,
+        links: links(random, &rates, closings),
+    }
+}
+
+/// The frames per cycle of each hop in turn, drawn until the route can be listed.
+fn listed_rates(random: &mut Random, ticks: u32) -> Vec<u32> {
+    let shape = shape(random);
+    loop {
+        let rates = rates_of_shape(random, ticks, &shape);
+        if listing::paths(rates.iter().copied()) <= listing::MOST_PATHS {
+            return rates;
+        }
+    }
+}
+
+/// Many frames on one or two links, on two after one with a single frame, or on one between two with fewer;
+/// some on three links; few on five to eight links, or on up to four.
+fn shape(random: &mut Random) -> Vec<Frames> {
+    match random.below(16) {
+        0 | 1 => vec![Frames::Many; random.pick(&[1, 2, 2])],
+        2 => vec![Frames::UpTo(1), Frames::Many, Frames::Many],
+        3 => vec![Frames::UpTo(8), Frames::Many, Frames::UpTo(32)],
+        4 => vec![Frames::UpTo(16); 3],
+        5..=9 => vec![Frames::UpTo(random.pick(&[2, 3, 3, 5, 7])); random.between(5, MAX_HOPS)],
+        _ => vec![Frames::UpTo(8); random.pick(&[1, 2, 3, 3, 4, 4])],
+    }
+}
+
+/// Divisors of T by the shape, each dividing the next or divided by it.
+fn rates_of_shape(random: &mut Random, ticks: u32, shape: &[Frames]) -> Vec<u32> {
+    let mut rates: Vec<u32> = Vec::new();
+    for &frames in shape {
+        let most = match frames {
+            Frames::UpTo(most) => most,
+            Frames::Many => 64,
+        };
+        let mut choices = divisors(ticks, most);
+        if let Some(&before) = rates.last() {
+            choices.retain(|&here| fit(before, here));
+        }
+        // A single frame, which fits everywhere, comes less often.
+        if choices.len() > 1 && random.chance(75) {
+            choices.remove(0);
+        }
+        if let Frames::Many = frames {
+            choices.drain(..choices.len().saturating_sub(3));
+        }
+        rates.push(random.pick(&choices));
+    }
+    rates
+}
+
+/// The route over all links in the order of their numbers, or a part of it, or the way back.
+fn part_of_all(random: &mut Random, network: &Network) -> Vec<u8> {
+    let mut route: Vec<u8> = (0..network.links.len() as u8).collect();
+    if random.chance(30) {
+        route.truncate(random.between(1, route.len()));
+        route.drain(..random.below(route.len()));
+    }
+    if random.chance(50) {
+        route.reverse();
+    }
+    route
 }
 
 // ---- The network file ----
@@ -536,8 +669,7 @@ fn good_route(random: &mut Random, network: &Network) -> Vec<u8> {
             network.links[usize::from(last)].frames,
             network.links[usize::from(next)].frames,
         );
-        let fits = before % here == 0 || here % before == 0;
-        if route.len() < length && fits && !route.contains(&next) {
+        if route.len() < length && fit(before, here) && !route.contains(&next) {
             route.push(next);
         }
     }
@@ -627,7 +759,6 @@ pub fn too_little_room(random: &mut Random, text: usize) -> usize {
 mod tests {
     use super::*;
     use crate::model::read_network;
-    use crate::{dijkstra, listing};
 
     #[test]
     fn a_network_is_read_back_from_its_file() {
@@ -660,36 +791,15 @@ mod tests {
     }
 
     #[test]
-    fn both_searches_agree_on_random_routes() {
+    fn routes_over_all_links_can_be_listed() {
         let mut random = Random::new(3);
-        for _ in 0..20_000 {
-            let (ticks, hops) = hops(&mut random);
-            let product: u32 = hops.iter().map(|hop| hop.frames).product();
-            if product <= 3_000 {
-                assert_eq!(
-                    listing::least(ticks, &hops),
-                    dijkstra::least(ticks, &hops),
-                    "{ticks} {hops:?}"
-                );
-            }
+        for _ in 0..10_000 {
+            let network = listed_network(&mut random);
+            assert_eq!(read_network(&image(&network)).as_ref(), Ok(&network));
+            let paths = listing::paths(network.links.iter().map(|link| link.frames));
+            assert!(paths <= listing::MOST_PATHS, "{network:?}");
+            let route = part_of_all(&mut random, &network);
+            assert_eq!(crate::model::check_route(&network, &route), Ok(()));
         }
-    }
-
-    /// A cycle and a random route as a search sees it.
-    fn hops(random: &mut Random) -> (u32, Vec<route::Hop>) {
-        let network = network(random, 8);
-        let route = good_route(random, &network);
-        let hops = route
-            .iter()
-            .map(|&link| {
-                let link = &network.links[usize::from(link)];
-                route::Hop {
-                    frames: link.frames,
-                    range: link.range,
-                    free: route::ones(link.frames) & !link.closed,
-                }
-            })
-            .collect();
-        (network.ticks, hops)
     }
 }

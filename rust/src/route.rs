@@ -4,7 +4,7 @@
 pub const MAX_HOPS: usize = 8;
 
 /// What a search sees of a link: its frames per cycle K, its forwarding range Z and its free word.
-#[derive(Clone, Copy, Debug, PartialEq, Eq)]
+#[derive(Clone, Copy, Debug, PartialEq, Eq, Hash)]
 pub struct Hop {
     pub frames: u32,
     pub range: u32,

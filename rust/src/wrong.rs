@@ -3,6 +3,7 @@
 use crate::dijkstra;
 use crate::model::{self, check_link, read_link, refuse};
 use crate::model::{Ledger, Link, Network, Refusal, Rules, Session, ABSENT};
+use crate::random;
 use crate::route::{self, Answer, Hop};
 
 /// A wrong model: its mistake and its text.
@@ -635,10 +636,74 @@ pub fn all_libraries() -> Vec<WrongLibrary> {
     ]
 }
 
+// ---- Mistakes of the writer ----
+
+/// A stand-in for the library's function that reads a network file and writes it again.
+pub type Image = fn(&[u8], &mut [u8]) -> Result<usize, u64>;
+
+/// A wrong writer: its mistake, and its function.
+pub struct WrongImage {
+    pub name: &'static str,
+    pub image: Image,
+}
+
+/// The file of the network that a file says, where so many bytes are room for it; or the refusal.
+pub fn image_of(file: &[u8], room: usize) -> Result<Vec<u8>, u64> {
+    let network = model::read_network(file).map_err(u64::from)?;
+    let image = random::image(&network);
+    if room < image.len() {
+        return Err(20);
+    }
+    Ok(image)
+}
+
+/// The right image put into the buffer, or the refusal.
+fn right_image(file: &[u8], out: &mut [u8]) -> Result<usize, u64> {
+    let image = image_of(file, out.len())?;
+    out[..image.len()].copy_from_slice(&image);
+    Ok(image.len())
+}
+
+/// All wrong writers.
+pub fn all_images() -> Vec<WrongImage> {
+    let writer = |name, image| WrongImage { name, image };
+    vec![
+        writer("a byte after the image changed", |file, out| {
+            let length = right_image(file, out)?;
+            if let Some(next) = out.get_mut(length) {
+                *next = !*next;
+            }
+            Ok(length)
+        }),
+        writer("short buffer filled before it is refused", |file, out| {
+            if let Ok(image) = image_of(file, usize::MAX) {
+                let room = image.len().min(out.len());
+                out[..room].copy_from_slice(&image[..room]);
+            }
+            right_image(file, out)
+        }),
+        writer("20 before the refusal of the file", |file, out| {
+            if out.len() < file.len() {
+                return Err(20);
+            }
+            right_image(file, out)
+        }),
+        writer("closed frames of no link written", |file, out| {
+            let network = model::read_network(file).map_err(u64::from)?;
+            let links = network.links.iter();
+            let links = links.map(|link| Link { closed: 0, ..*link }).collect();
+            let open = random::image(&Network { links, ..network });
+            right_image(file, out)?;
+            out[..open.len()].copy_from_slice(&open);
+            Ok(open.len())
+        }),
+    ]
+}
+
 #[cfg(test)]
 mod tests {
     use super::*;
-    use crate::random::{self, Random};
+    use crate::random::Random;
 
     /// A wrong search differs by its mistake alone: without one it is right.
     #[test]

@@ -1,24 +1,26 @@
 //! Compares the library with the model on random inputs, and then shows that wrong ones would be found.
 
+use frames_check::compared::Compared;
+use frames_check::listing::{Listed, MOST_PATHS};
 use frames_check::random::{self, Input, Random};
 use frames_check::route::{Answer, Hop};
-use frames_check::wrong::{self, Report, Wrong, WrongLibrary};
+use frames_check::wrong::{self, Image, Report, Wrong, WrongImage, WrongLibrary};
 use frames_check::{dijkstra, library, listing, model};
-use std::cell::Cell;
+use std::cell::{Cell, RefCell};
 use std::process::exit;
 use std::time::{Duration, Instant};
 
 const INPUTS: usize = 200_000;
 const SEED: u64 = 0x0960_0064_0096_0032;
 
-/// Routes with at most so many paths, free or not, are listed.
-const LISTED_PATHS: u64 = 3_000;
-
 /// Each refusal has to be seen at least so often.
 const LEAST_SEEN: usize = 20;
 
 /// The refusals that the program and the lent buffer can show: 1 to 20.
 const REFUSALS: usize = 20;
+
+/// Files written again, files refused and buffers too short have to be seen at least so often each.
+const LEAST_IMAGES: usize = 20_000;
 
 fn main() {
     let start = Instant::now();
@@ -32,6 +34,8 @@ fn main() {
     check.print_times(start.elapsed());
     check.demand_wrong_ones_found();
     check.demand_refusals_seen();
+    check.demand_routes_listed();
+    check.demand_images_seen();
     println!("cross-check: {} inputs, 0 differed", check.inputs);
 }
 
@@ -43,34 +47,34 @@ fn fail(message: &str) -> ! {
 
 // ---- The search of the model ----
 
-/// How often the model searched, and how.
+/// How often the model searched, and how. `unread` holds for each search since the last comparison what the
+/// listing gave, or nothing where it wasn't used.
 #[derive(Default)]
 struct Searches {
     by_both: Cell<usize>,
     by_dijkstra: Cell<usize>,
+    unread: RefCell<Vec<Option<Listed>>>,
 }
 
 impl Searches {
     /// By listing where that is short, and then Dijkstra's method must agree; else by Dijkstra's method.
     fn least(&self, ticks: u32, hops: &[Hop]) -> Answer {
         let found = dijkstra::least(ticks, hops);
-        if paths(hops) > LISTED_PATHS {
+        if listing::paths(hops.iter().map(|hop| hop.frames)) > MOST_PATHS {
             self.by_dijkstra.set(self.by_dijkstra.get() + 1);
+            self.unread.borrow_mut().push(None);
             return found;
         }
         self.by_both.set(self.by_both.get() + 1);
-        let listed = listing::least(ticks, hops);
-        if listed != found {
-            println!("T {ticks}, route {hops:?}\nlisting:  {listed:?}\nDijkstra: {found:?}");
+        let listed = listing::list(ticks, hops);
+        let answer = listed.answer.clone();
+        if answer != found {
+            println!("T {ticks}, route {hops:?}\nlisting:  {answer:?}\nDijkstra: {found:?}");
             fail("the model's two searches differ");
         }
-        listed
+        self.unread.borrow_mut().push(Some(listed));
+        answer
     }
-}
-
-/// The number of ways to pick a frame of each hop.
-fn paths(hops: &[Hop]) -> u64 {
-    hops.iter().map(|hop| u64::from(hop.frames)).product()
 }
 
 // ---- The comparison ----
@@ -84,10 +88,22 @@ struct Check {
     released: usize,
     refusals: [usize; REFUSALS + 1],
     searches: Searches,
+    listed: Compared,
     wrong_models: Vec<Tried<Wrong>>,
     wrong_libraries: Vec<Tried<WrongLibrary>>,
+    wrong_images: Vec<Tried<WrongImage>>,
+    images: Images,
+    rooms: Random,
     buffer: Buffer,
     times: Times,
+}
+
+/// How many files were written again, how many were refused, and how many buffers were too short.
+#[derive(Default)]
+struct Images {
+    written: usize,
+    refused: usize,
+    too_short: usize,
 }
 
 /// A wrong model or library, and after how many inputs it differed.
@@ -139,8 +155,12 @@ impl Check {
             released: 0,
             refusals: [0; REFUSALS + 1],
             searches: Searches::default(),
+            listed: Compared::default(),
             wrong_models: untried(wrong::all()),
             wrong_libraries: untried(wrong::all_libraries()),
+            wrong_images: untried(wrong::all_images()),
+            images: Images::default(),
+            rooms: Random::new(SEED + 2),
             buffer: Buffer::new(),
             times: Times::default(),
         }
@@ -188,7 +208,10 @@ impl Check {
             expected,
         };
         self.inputs += 1;
-        timed(&mut times.library, || self.compare(&trial));
+        timed(&mut times.library, || {
+            self.compare(&trial);
+            self.compare_images(&trial.input.file);
+        });
         timed(&mut times.wrong, || self.try_wrong_ones(&trial));
         self.times = times;
     }
@@ -199,11 +222,39 @@ impl Check {
             self.show_and_fail(trial, &fault);
         }
         self.tally(trial.expected.len());
+        self.compare_with_listing(trial.expected.len());
         if let Some(room) = trial.too_little {
             if let Some(fault) = self.buffer.refusal_fault(library::report, trial, room) {
                 self.show_and_fail(trial, &fault);
             }
             self.refusals[20] += 1;
+        }
+    }
+
+    /// Compares what the library writes of a file that it reads with the file, with room enough and with too little.
+    fn compare_images(&mut self, file: &[u8]) {
+        let rooms = [
+            random::enough_room(&mut self.rooms, file.len()),
+            random::too_little_room(&mut self.rooms, file.len().max(1)),
+        ];
+        for room in rooms {
+            if let Some(fault) = self.buffer.image_fault(library::image, file, room) {
+                println!("net.bin: {}", hex(file));
+                fail(&format!("input {}: {fault}", self.inputs));
+            }
+            match wrong::image_of(file, room) {
+                Ok(image) if image == file => self.images.written += 1,
+                Ok(_) => fail("the model has two files of one network"),
+                Err(20) => self.images.too_short += 1,
+                Err(_) => self.images.refused += 1,
+            }
+            for tried in &mut self.wrong_images {
+                let image = tried.wrong.image;
+                if tried.differed.is_none() && self.buffer.image_fault(image, file, room).is_some()
+                {
+                    tried.differed = Some(self.inputs);
+                }
+            }
         }
     }
 
@@ -256,6 +307,26 @@ impl Check {
         self.blocked = self.refusals[18];
     }
 
+    /// Compares the answers that the library's text shows with those of the listing, and counts their routes.
+    fn compare_with_listing(&mut self, length: usize) {
+        let text = std::str::from_utf8(&self.buffer.bytes[..length]).expect("the text is plain");
+        let answers: Vec<Answer> = text.lines().filter_map(answer).collect();
+        let searches = self.searches.unread.take();
+        if answers.len() != searches.len() {
+            fail("the text doesn't have one answer for each search of the model");
+        }
+        for (answer, search) in answers.iter().zip(searches) {
+            let Some(listed) = search else {
+                continue;
+            };
+            if listed.answer != *answer {
+                println!("library: {answer:?}\nlisting: {:?}", listed.answer);
+                fail("the library's answer isn't the listing's");
+            }
+            self.listed.add(&listed);
+        }
+    }
+
     /// Prints the input in hexadecimal and both texts, and ends the check as failed.
     fn show_and_fail(&mut self, trial: &Trial, fault: &str) -> ! {
         let input = &trial.input;
@@ -285,6 +356,11 @@ impl Check {
             self.searches.by_both.get(),
             self.searches.by_dijkstra.get()
         );
+        self.listed.print();
+        println!(
+            "files read and written again: {} the same, {} refused, {} with too little room, 0 differed",
+            self.images.written, self.images.refused, self.images.too_short
+        );
     }
 
     fn print_times(&self, whole: Duration) {
@@ -305,6 +381,9 @@ impl Check {
         for tried in &self.wrong_libraries {
             demand_found("library", tried.wrong.name, tried.differed);
         }
+        for tried in &self.wrong_images {
+            demand_found("writer", tried.wrong.name, tried.differed);
+        }
     }
 
     fn demand_refusals_seen(&self) {
@@ -312,6 +391,23 @@ impl Check {
             if seen < LEAST_SEEN {
                 fail(&format!("refusal {refusal} was seen only {seen} times"));
             }
+        }
+    }
+
+    fn demand_images_seen(&self) {
+        let Images {
+            written,
+            refused,
+            too_short,
+        } = self.images;
+        if written.min(refused).min(too_short) < LEAST_IMAGES {
+            fail("too few files were written again, refused or given too little room");
+        }
+    }
+
+    fn demand_routes_listed(&self) {
+        if let Some(too_few) = self.listed.too_few() {
+            fail(&format!("listed routes: {too_few}"));
         }
     }
 }
@@ -329,6 +425,30 @@ fn number(word: &str) -> usize {
     match word.parse() {
         Ok(refusal) if (1..=REFUSALS).contains(&refusal) => refusal,
         _ => fail(&format!("no refusal number: {word}")),
+    }
+}
+
+/// The answer that a line of the text shows, if it shows one: a schedule, or that there is none.
+fn answer(line: &str) -> Option<Answer> {
+    let words: Vec<&str> = line.split(' ').collect();
+    match words[..] {
+        [_, _, "ok", delay, count, ref frames @ ..] => Some(Answer::Found {
+            delay: value(delay),
+            count: value(count),
+            frames: frames.iter().copied().map(value).collect(),
+        }),
+        [_, _, "no", "18", count] => Some(Answer::Blocked {
+            count: value(count),
+        }),
+        _ => None,
+    }
+}
+
+/// A number of the text.
+fn value<T: std::str::FromStr>(word: &str) -> T {
+    match word.parse() {
+        Ok(value) => value,
+        Err(_) => fail(&format!("no number: {word}")),
     }
 }
 
@@ -375,6 +495,24 @@ impl Buffer {
             return Some("bytes after the text were touched".to_string());
         }
         None
+    }
+
+    /// What a file says must be written at the start of a buffer with room for it, and the other bytes be as they were;
+    /// where the file or the buffer is refused, all of them.
+    fn image_fault(&mut self, image: Image, file: &[u8], room: usize) -> Option<String> {
+        self.bytes.clear();
+        self.bytes.extend_from_slice(&self.pattern[..room]);
+        let answer = image(file, &mut self.bytes);
+        let expected = wrong::image_of(file, room);
+        if answer != expected.as_ref().map(Vec::len).map_err(|&refusal| refusal) {
+            return Some(format!(
+                "an image, room {room}, gave {answer:?}, not {expected:?}"
+            ));
+        }
+        let written = expected.unwrap_or_default();
+        let same = self.bytes.starts_with(&written)
+            && self.bytes[written.len()..] == self.pattern[written.len()..room];
+        (!same).then(|| "an image's bytes differ, or others were touched".to_string())
     }
 
     /// A buffer that is too short must be refused with 20 and be as it was.

@@ -1,0 +1,288 @@
+//! The routes compared with the listing: how many of each sort there were, and how many there have to be.
+
+use crate::listing::Listed;
+use crate::route::{Hop, MAX_HOPS};
+use std::collections::HashSet;
+use std::fmt;
+use std::hash::{DefaultHasher, Hash, Hasher};
+
+/// How many routes of a sort there were, and how many there have to be.
+struct Sort {
+    name: &'static str,
+    least: usize,
+    seen: usize,
+}
+
+/// A sort of which nothing has been seen.
+fn sort(name: &'static str, least: usize) -> Sort {
+    Sort {
+        name,
+        least,
+        seen: 0,
+    }
+}
+
+/// A sort for each number of hops.
+fn sorts_of_hops(least: [usize; MAX_HOPS]) -> [Sort; MAX_HOPS] {
+    const NAMES: [&str; MAX_HOPS] = [
+        "1 hop", "2 hops", "3 hops", "4 hops", "5 hops", "6 hops", "7 hops", "8 hops",
+    ];
+    std::array::from_fn(|j| sort(NAMES[j], least[j]))
+}
+
+impl Sort {
+    /// Counts a route if it is of the sort.
+    fn add(&mut self, is_of_it: bool) {
+        self.seen += usize::from(is_of_it);
+    }
+
+    /// That too few were seen, in words.
+    fn too_few(&self) -> Option<String> {
+        let least = self.least;
+        (self.seen < least).then(|| format!("{self}, and at least {least} have to be"))
+    }
+}
+
+impl fmt::Display for Sort {
+    fn fmt(&self, f: &mut fmt::Formatter<'_>) -> fmt::Result {
+        write!(f, "{} {}", self.name, self.seen)
+    }
+}
+
+/// The routes compared with the listing. A route is its T and the K, Z and free frames of its hops; one that was
+/// compared before isn't of any sort again.
+pub struct Compared {
+    answers: usize,
+    routes: HashSet<u64>,
+    different: Sort,
+    hops: [Sort; MAX_HOPS],
+    /// The same for the routes that have a schedule.
+    hops_of_schedules: [Sort; MAX_HOPS],
+    /// Blocked; with a step to a faster link, to a slower one, and with both steps.
+    steps: [Sort; 4],
+    /// In the order of `Decided`.
+    decided: [Sort; 5],
+    /// With a link whose K has a prime factor above 3, and with T no multiple of 24.
+    numbers: [Sort; 2],
+}
+
+impl Default for Compared {
+    fn default() -> Self {
+        Compared {
+            answers: 0,
+            routes: HashSet::new(),
+            different: sort("different", 200_000),
+            hops: sorts_of_hops([
+                20_000, 30_000, 40_000, 40_000, 20_000, 20_000, 10_000, 8_000,
+            ]),
+            hops_of_schedules: sorts_of_hops([
+                20_000, 20_000, 20_000, 10_000, 5_000, 3_000, 2_000, 2_000,
+            ]),
+            steps: [
+                sort("blocked", 100_000),
+                sort("to a faster link", 100_000),
+                sort("to a slower link", 100_000),
+                sort("both", 80_000),
+            ],
+            decided: [
+                sort("delay", 20_000),
+                sort("last frame", 40_000),
+                sort("hold", 3_000),
+                sort("preceding frame", 20_000),
+                sort("only schedule", 8_000),
+            ],
+            numbers: [
+                sort("K with a prime factor above 3:", 50_000),
+                sort("T no multiple of 24:", 60_000),
+            ],
+        }
+    }
+}
+
+impl Compared {
+    /// Counts a route whose answer by the library was compared with the listing's.
+    pub fn add(&mut self, listed: &Listed) {
+        self.answers += 1;
+        let is_new = self.routes.insert(fingerprint(listed));
+        if is_new {
+            self.add_different(listed);
+        }
+    }
+
+    fn add_different(&mut self, listed: &Listed) {
+        let hops = &listed.hops;
+        self.different.add(true);
+        self.hops[hops.len() - 1].add(true);
+        let (faster, slower) = (has_step(hops, u32::lt), has_step(hops, u32::gt));
+        let steps = [listed.decided.is_none(), faster, slower, faster && slower];
+        let above_3 = hops.iter().any(|hop| has_factor_above_3(hop.frames));
+        let numbers = [above_3, listed.ticks % 24 != 0];
+        add_each(&mut self.steps, &steps);
+        add_each(&mut self.numbers, &numbers);
+        if let Some(decided) = listed.decided {
+            self.hops_of_schedules[hops.len() - 1].add(true);
+            self.decided[decided as usize].add(true);
+        }
+    }
+
+    /// The sorts line by line, each line with the words before it.
+    fn lines(&self) -> [(&'static str, &[Sort]); 5] {
+        [
+            ("of ", &self.hops),
+            ("not blocked: of ", &self.hops_of_schedules),
+            ("", &self.steps),
+            ("decided by ", &self.decided),
+            ("", &self.numbers),
+        ]
+    }
+
+    /// Prints what was seen.
+    pub fn print(&self) {
+        let (answers, different) = (self.answers, &self.different);
+        println!("listed routes: {answers} compared, 0 differed, {different}");
+        for (words, sorts) in self.lines() {
+            let sorts: Vec<String> = sorts.iter().map(Sort::to_string).collect();
+            println!("  {words}{}", sorts.join(", "));
+        }
+    }
+
+    /// The first sort of which too few were seen, in words.
+    pub fn too_few(&self) -> Option<String> {
+        if let Some(different) = self.different.too_few() {
+            return Some(different);
+        }
+        self.lines().iter().find_map(|(words, sorts)| {
+            let too_few = sorts.iter().find_map(Sort::too_few)?;
+            Some(format!("{words}{too_few}"))
+        })
+    }
+}
+
+/// A number that tells different routes apart; should two share one, only the first is counted.
+fn fingerprint(listed: &Listed) -> u64 {
+    let mut hasher = DefaultHasher::new();
+    (listed.ticks, &listed.hops).hash(&mut hasher);
+    hasher.finish()
+}
+
+fn add_each(sorts: &mut [Sort], is_of: &[bool]) {
+    for (sort, &is_of_it) in sorts.iter_mut().zip(is_of) {
+        sort.add(is_of_it);
+    }
+}
+
+/// Do the K of some hop and the next one compare so?
+fn has_step(hops: &[Hop], compare: fn(&u32, &u32) -> bool) -> bool {
+    hops.windows(2)
+        .any(|pair| compare(&pair[0].frames, &pair[1].frames))
+}
+
+/// Is something left of the number when all factors 2 and 3 are taken out?
+fn has_factor_above_3(mut number: u32) -> bool {
+    for factor in [2, 3] {
+        while number % factor == 0 {
+            number /= factor;
+        }
+    }
+    number > 1
+}
+
+#[cfg(test)]
+mod tests {
+    use super::*;
+    use crate::listing;
+    use crate::route::ones;
+
+    /// The routes compared in turn: T, and the K of each hop; Z is K, and every frame is free.
+    fn compared(routes: &[(u32, &[u32])]) -> Compared {
+        let mut compared = Compared::default();
+        for (ticks, rates) in routes {
+            let all_free = |&frames: &u32| Hop {
+                frames,
+                range: frames,
+                free: ones(frames),
+            };
+            let hops: Vec<Hop> = rates.iter().map(all_free).collect();
+            compared.add(&listing::list(*ticks, &hops));
+        }
+        compared
+    }
+
+    fn seen(sorts: &[Sort]) -> Vec<usize> {
+        sorts.iter().map(|sort| sort.seen).collect()
+    }
+
+    #[test]
+    fn steps_to_faster_and_slower_links() {
+        let routes: [(u32, &[u32]); 5] = [
+            (24, &[4, 4]),
+            (24, &[4, 8, 8]),
+            (24, &[8, 8, 4]),
+            (24, &[4, 8, 4]),
+            (24, &[8, 2, 4]),
+        ];
+        let compared = compared(&routes);
+        assert_eq!(seen(&compared.steps), [0, 3, 3, 2]);
+        assert_eq!(seen(&compared.hops), [0, 1, 4, 0, 0, 0, 0, 0]);
+    }
+
+    #[test]
+    fn factors_and_cycles() {
+        let routes: [(u32, &[u32]); 5] = [
+            (24, &[1, 2, 3]),
+            (120, &[3, 15]),
+            (48, &[16]),
+            (36, &[12, 36]),
+            (77, &[11]),
+        ];
+        assert_eq!(seen(&compared(&routes).numbers), [2, 2]);
+        let plain: Vec<u32> = (1..=64).filter(|&k| !has_factor_above_3(k)).collect();
+        assert_eq!(
+            plain,
+            [1, 2, 3, 4, 6, 8, 9, 12, 16, 18, 24, 27, 32, 36, 48, 54, 64]
+        );
+    }
+
+    #[test]
+    fn blocked_or_decided() {
+        let mut compared = compared(&[(24, &[8]), (24, &[8, 8]), (24, &[1]), (24, &[2, 1])]);
+        let closed = Hop {
+            frames: 8,
+            range: 8,
+            free: 0,
+        };
+        compared.add(&listing::list(24, &[closed]));
+        assert_eq!(seen(&compared.steps), [1, 0, 1, 0]);
+        assert_eq!(seen(&compared.decided), [0, 2, 0, 1, 1]);
+        assert_eq!(compared.hops[0].seen, 3);
+        assert_eq!(compared.hops_of_schedules[0].seen, 2);
+    }
+
+    #[test]
+    fn a_route_is_of_a_sort_once() {
+        let compared = compared(&[(24, &[8]), (24, &[8]), (48, &[8]), (48, &[4])]);
+        assert_eq!(compared.answers, 4);
+        assert_eq!(compared.different.seen, 3);
+        assert_eq!(compared.hops[0].seen, 3);
+    }
+
+    #[test]
+    fn too_few_are_named() {
+        let mut compared = Compared::default();
+        compared.different.seen = compared.different.least;
+        for sorts in [
+            &mut compared.hops[..],
+            &mut compared.hops_of_schedules,
+            &mut compared.steps,
+            &mut compared.decided,
+            &mut compared.numbers,
+        ] {
+            assert!(sorts.iter().all(|sort| sort.least > 0));
+            sorts.iter_mut().for_each(|sort| sort.seen = sort.least);
+        }
+        assert_eq!(compared.too_few(), None);
+        compared.decided[2].seen = 0;
+        let words = compared.too_few().unwrap();
+        assert!(words.starts_with("decided by hold 0, "), "{words}");
+    }
+}
