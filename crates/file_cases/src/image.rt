@@ -6,7 +6,7 @@ pub(super) const ROOM: usize = 400;
 
 pub(super) const FILL: u8 = 165;
 
-// Whether the buffer, from a place on, is as a file stands in it: the file's bytes, and then what it was filled with.
+// Shows whether the buffer, from a place on, is as a file stands in it: the file's bytes, and then what the buffer was filled with.
 pub(super) fn compare(buffer: &[u8; ROOM], from: usize, file: &[u8]) {
     let mut i = from;
     while i < ROOM {

@@ -9,7 +9,8 @@ const HEXADECIMAL: u64 = 3;
 // No file of the cases has more bytes.
 pub(super) const MOST: usize = 64;
 
-// The number at a place, from 1 on, of those that a text says; 0 if it says fewer. A letter, as a digit above 9, stands at 64 or above.
+// The number at a place, from 1 on, of those that a text says; 0 if it says fewer. A letter is a digit above 9: it stands at 64 or above, and its low
+// half is 9 less.
 pub(super) fn number(text: &[u8], place: usize, base: u64) -> u64
     requires { ⌜ base ≤ 3 ⌝ }
 {
@@ -22,14 +23,14 @@ pub(super) fn number(text: &[u8], place: usize, base: u64) -> u64
             spaces += 1;
         } else if spaces == place {
             let tens = std::num::wrapping_add_u64(x << 3, x << base);
-            x = std::num::wrapping_add_u64(tens, (c % 16 + 9 * (c / 64)) as u64);
+            x = std::num::wrapping_add_u64(tens, (c % 16 + 9 * (c / 64 % 2)) as u64);
         }
         i += 1;
     }
     x
 }
 
-// The bytes that a text says.
+// The bytes that a text says, in hexadecimal.
 pub(super) fn bytes(text: &[u8]) -> [u8; MOST] {
     let mut file = [0u8; MOST];
     let mut j = 0;

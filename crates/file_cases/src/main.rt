@@ -9,29 +9,37 @@ mod reading;
 mod show;
 mod values;
 
+ghost use lib.ListN.{length};
+ghost use Prim.Native.Nat.{_<_};
 use bytes::scan;
 use libc::STDIN_FILENO;
 
-// Every line of standard input: a case has its name before the colon, and its numbers from there to the comment.
+// A case: its name, and what becomes of its numbers.
+fn case(name: &[u8], numbers: &[u8])
+    requires { ⌜ 0 < length (now name) ⌝ }
+{
+    show::text(name);
+    if name[0] == b'r' {
+        reading::read(numbers);
+    } else {
+        values::value(numbers);
+    }
+    show::text(b"\n");
+}
+
+// Every line of standard input: a case has its name up to the colon, and its numbers from there to the comment.
 fn main() {
     let mut buffer = io::large_buffer();
     let n = io::read_full(STDIN_FILENO, &mut buffer);
     let text = &buffer[..n];
     let mut from = 0;
     while from < text.len() {
-        let next = scan::find(text, from, text.len(), b'\n');
-        let end = scan::find(text, from, next, b';');
+        let stop = scan::find(text, from, text.len(), b'\n');
+        let end = scan::find(text, from, stop, b';');
         let at = scan::find(text, from, end, b':');
         if at < end {
-            show::text(&text[from..at + 1]);
-            let numbers = &text[at + 1..end];
-            if text[from] == b'r' {
-                reading::read(numbers);
-            } else {
-                values::value(numbers);
-            }
-            show::text(b"\n");
+            case(&text[from..at + 1], &text[at + 1..end]);
         }
-        from = next + 1;
+        from = stop + 1;
     }
 }

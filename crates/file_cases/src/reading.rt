@@ -48,7 +48,7 @@ fn show_network(network: Network, file: &[u8]) {
     }
 }
 
-// A file whose bytes are written in text.
+// A file whose bytes are written in text, three characters for each.
 pub(super) fn read(text: &[u8]) {
     let n = text.len() / 3 % (lines::MOST + 1);
     let bytes = lines::bytes(text);

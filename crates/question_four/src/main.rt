@@ -12,7 +12,8 @@ use refusals::Refusal;
 use state::Answer;
 use state::Reply;
 
-// The frames of a link that a route says are free: those that the braces after its letter name, and all where there are none.
+// The free frames of a link as a route says them, as a word: those that the braces after its letter name, and all where it has none. `bit` is the word
+// of the frame whose digits, from 48 on, are read.
 fn free_frames(text: &[u8], letter: u8) -> u64 {
     let mut free = u64::MAX;
     let mut frame: u64 = 0;
@@ -36,7 +37,7 @@ fn free_frames(text: &[u8], letter: u8) -> u64 {
     free
 }
 
-// A link with K and Z, whose other frames than those that a route says are free are closed.
+// A link with K and Z, on which all frames are closed but those that a route says are free.
 fn link(text: &[u8], letter: u8, frames: u16, range: u16) -> Link
     requires { ⌜ (0 < frames) × (frames ≤ 64) ⌝ }
 {
@@ -47,7 +48,7 @@ fn link(text: &[u8], letter: u8, frames: u16, range: u16) -> Link
     }
 }
 
-// The network of the links A to G, with the closed frames that a route leaves.
+// The network of a route: the links A to F, and G, which is B with Z 8.
 fn network(text: &[u8]) -> Network {
     let mut links = [link(text, b'A', 8, 2); 32];
     links[1] = link(text, b'B', 8, 2);
@@ -63,13 +64,9 @@ fn network(text: &[u8]) -> Network {
     }
 }
 
-fn text(s: &[u8]) {
-    io::write_all(STDOUT_FILENO, s);
-}
-
 // A number after a space.
 fn next(x: u16) {
-    text(b" ");
+    io::write_all(STDOUT_FILENO, b" ");
     io::print_decimal(STDOUT_FILENO, x as u64);
 }
 
@@ -92,13 +89,13 @@ fn show(answer: Answer, n: usize)
     let frames = answer.frames;
     match reply {
         Reply::Schedule(delay, count) => {
-            text(b" ok");
+            io::write_all(STDOUT_FILENO, b" ok");
             next(delay.0);
             next(count);
             show_frames(frames, n);
         }
         Reply::Refused(refusal) => {
-            text(b" no");
+            io::write_all(STDOUT_FILENO, b" no");
             next(refusals::number(refusal) as u16);
             match refusal {
                 Refusal::NoSchedule(count) => next(count),
@@ -108,7 +105,7 @@ fn show(answer: Answer, n: usize)
     }
 }
 
-// Quotes the route that a text names, on a fresh network; A is link 0. No route of the cases has more than 8 links.
+// A quote of a route on its fresh network; A is link 0. No route of the cases has more than 8 links.
 fn quote(text: &[u8]) {
     let mut links = [0u8; 8];
     let mut hops = 0;
@@ -127,21 +124,21 @@ fn quote(text: &[u8]) {
     show(answer, hops);
 }
 
-// Every line of standard input: a case has its name before the colon, and its route from there to the comment.
+// Every line of standard input: a case has its name up to the colon, and its route from there to the comment.
 fn main() {
     let mut buffer = io::large_buffer();
     let n = io::read_full(STDIN_FILENO, &mut buffer);
     let lines = &buffer[..n];
     let mut from = 0;
     while from < lines.len() {
-        let next = scan::find(lines, from, lines.len(), b'\n');
-        let end = scan::find(lines, from, next, b';');
+        let stop = scan::find(lines, from, lines.len(), b'\n');
+        let end = scan::find(lines, from, stop, b';');
         let at = scan::find(lines, from, end, b':');
         if at < end {
-            text(&lines[from..at + 1]);
+            io::write_all(STDOUT_FILENO, &lines[from..at + 1]);
             quote(&lines[at + 1..end]);
-            text(b"\n");
+            io::write_all(STDOUT_FILENO, b"\n");
         }
-        from = next + 1;
+        from = stop + 1;
     }
 }

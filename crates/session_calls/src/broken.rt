@@ -10,29 +10,29 @@ use table::Table;
 ghost use Prim.Native.Nat.{_<_, _≤_};
 
 // A network with a new number of links, T, or K, Z or closed frames of a link.
-fn changed_network(network: Network, field: u8, at: usize, value: u64) -> Network
+fn changed_network(network: Network, field: u8, at: usize, value: usize) -> Network
     requires { ⌜ at < 32 ⌝ }
 {
     let mut next = network;
     match field {
-        b'l' => next.count = value as usize,
+        b'l' => next.count = value,
         b't' => next.ticks = lines::word(value),
         b'K' => next.links[at].frames = lines::word(value),
         b'Z' => next.links[at].range = lines::word(value),
-        b'c' => next.links[at].closed = value,
+        b'c' => next.links[at].closed = value as u64,
         _ => {}
     }
     next
 }
 
 // A session with a new number, number of hops, delay, or link or frame of a hop.
-fn changed_place(place: Place, field: u8, index: usize, value: u64) -> Place
+fn changed_place(place: Place, field: u8, index: usize, value: usize) -> Place
     requires { ⌜ index < 8 ⌝ }
 {
     let mut next = place;
     match field {
         b'n' => next.number = lines::word(value),
-        b'h' => next.hops = value as usize,
+        b'h' => next.hops = value,
         b'd' => next.delay.0 = lines::word(value),
         b'r' => next.route[index] = lines::byte(value),
         b'f' => next.frames[index] = lines::byte(value),
@@ -42,14 +42,14 @@ fn changed_place(place: Place, field: u8, index: usize, value: u64) -> Place
 }
 
 // A table with a new number of live sessions, or a change of a session.
-fn changed_table(table: Table, field: u8, at: usize, index: usize, value: u64) -> Table
+fn changed_table(table: Table, field: u8, at: usize, index: usize, value: usize) -> Table
     requires { ⌜ (at < 96) × (index < 8) ⌝ }
 {
     let place = table.places[at];
     let mut next = table;
     next.places[at] = changed_place(place, field, index, value);
     if field == b's' {
-        next.live = value as usize;
+        next.live = value;
     }
     next
 }
@@ -59,8 +59,8 @@ fn with_change(st: State, line: &[u8], k: usize) -> State
     requires { ⌜ k ≤ 5 ⌝ }
 {
     let field = lines::byte(lines::number(line, k));
-    let at = lines::number(line, k + 1) as usize;
-    let index = lines::number(line, k + 2) as usize;
+    let at = lines::number(line, k + 1);
+    let index = lines::number(line, k + 2);
     let value = lines::number(line, k + 3);
     State {
         network: changed_network(st.network, field, at % 32, value),
@@ -80,13 +80,13 @@ pub(super) fn put(st: State, line: &[u8]) -> State {
 // The state itself stays.
 pub(super) fn case(st: State, line: &[u8]) -> State {
     let one = [0u8; 1];
-    let route = &one;
+    let route: &[u8] = &one;
     let built = with_change(with_change(st, line, 1), line, 5);
     let first = calls::served(built, 9, route, false);
     let second = calls::served(first, 9, route, true);
-    let third = calls::told(second, b'R', 5);
-    let fourth = calls::told(third, b'L', 5);
-    let fifth = calls::told(fourth, b'F', 0);
+    let third = calls::number_call(second, b'R', 5);
+    let fourth = calls::number_call(third, b'L', 5);
+    let fifth = calls::number_call(fourth, b'F', 0);
     show::same(
         built.table.live,
         first.table.live,

@@ -1,4 +1,4 @@
-// The calls, each written as a line of text: the line is shown as it stands, and after it what the call answers.
+// The calls that the lines of the file stdin tell: a line is shown, and after it what its call answers.
 use super::broken;
 use super::lines;
 use super::show;
@@ -6,12 +6,12 @@ use network::Link;
 use network::Network;
 use refusals::Verdict;
 use sessions::Begun;
+use state::Answer;
+use state::Reply;
 use state::State;
 ghost use Prim.Native.Nat.{_≤_};
-ghost use lib.ListN.{length};
-ghost use mathlib.Core.Path.{_≡_};
 
-// Link i of a line that tells a network.
+// K, Z and closed frames of link i, in a line that tells a network.
 fn link_at(line: &[u8], i: usize) -> Link
     requires { ⌜ i ≤ 32 ⌝ }
 {
@@ -19,11 +19,11 @@ fn link_at(line: &[u8], i: usize) -> Link
     Link {
         frames: lines::word(lines::number(line, k)),
         range: lines::word(lines::number(line, k + 1)),
-        closed: lines::number(line, k + 2),
+        closed: lines::number(line, k + 2) as u64,
     }
 }
 
-// The fresh network that a line tells: T, then K, Z and closed frames of each link. The places that are not in use hold the first link.
+// The state on the fresh network that a line tells: the letter, T, and three words for each link. The places that are not in use hold the first link.
 fn begin(line: &[u8]) -> Begun {
     let count = lines::words(line) / 3 % 33;
     let mut links = [link_at(line, 0); 32];
@@ -46,14 +46,13 @@ pub(super) fn served(st: State, number: u16, route: &[u8], quotes: bool) -> Stat
     } else {
         sessions::set_up(st, number, route)
     };
-    let answer = served.answer;
-    show::answer(answer, route.len());
+    show::answer(served.answer, route.len());
     served.state
 }
 
-// A set-up, or a quote, whose route has k words before it. No line has a route of more than 40 links.
+// A set-up, or a quote, whose route stands after k words. No line has a route of more than 40 links.
 fn route_call(st: State, line: &[u8], k: usize) -> State
-    requires { ⌜ k ≤ 3 ⌝ }
+    requires { ⌜ k ≤ 2 ⌝ }
 {
     let mut links = [0u8; 40];
     let mut i: usize = 0;
@@ -65,8 +64,8 @@ fn route_call(st: State, line: &[u8], k: usize) -> State
     served(st, lines::word(lines::number(line, 1)), &links[..n], k == 1)
 }
 
-// A release, a lookup or the free frames of a link, by its letter. A letter that is no call's leaves the state.
-pub(super) fn told(st: State, letter: u8, x: u64) -> State {
+// A release, a lookup or the free frames of a link, by its letter. Any other letter leaves the state.
+pub(super) fn number_call(st: State, letter: u8, x: usize) -> State {
     match letter {
         b'R' => {
             let released = sessions::release(st, lines::word(x));
@@ -76,37 +75,52 @@ pub(super) fn told(st: State, letter: u8, x: u64) -> State {
         }
         b'L' | b'E' => {
             let looked = sessions::lookup(st, lines::word(x));
-            let shown = looked.shown;
-            show::session(shown, letter);
+            show::session(looked.shown, letter);
             looked.state
         }
         b'F' => {
             let tallied = sessions::free_frames(st, lines::byte(x));
-            let counted = tallied.counted;
-            show::counted(counted);
+            show::counted(tallied.counted);
             tallied.state
         }
         _ => st,
     }
 }
 
-// A set-up over the route, or a release, for each number from `from` to before `to`, and how many of them were accepted.
+// One more accepted call, if the answer is a schedule.
+fn with_answer(accepted: u64, answer: Answer) -> u64 {
+    let reply = answer.reply;
+    match reply {
+        Reply::Schedule(_, _) => std::num::wrapping_add_u64(accepted, 1),
+        Reply::Refused(_) => accepted,
+    }
+}
+
+// One more accepted call, if the verdict is no refusal.
+fn with_verdict(accepted: u64, verdict: Verdict) -> u64 {
+    match verdict {
+        Verdict::Passed => std::num::wrapping_add_u64(accepted, 1),
+        Verdict::Refused(_) => accepted,
+    }
+}
+
+// A set-up over one link, or a release, for each number from one to before another, and how many of them were accepted.
 fn many(st: State, line: &[u8], sets_up: bool) -> State {
-    let route = [lines::byte(lines::number(line, 3)); 1];
+    let one = [lines::byte(lines::number(line, 3)); 1];
+    let route: &[u8] = &one;
     let to = lines::word(lines::number(line, 2));
     let mut number = lines::word(lines::number(line, 1));
     let mut next = st;
     let mut accepted: u64 = 0;
     while number < to {
         if sets_up {
-            let served = sessions::set_up(next, number, &route);
-            let answer = served.answer;
-            accepted = show::with_answer(accepted, answer);
+            let served = sessions::set_up(next, number, route);
+            accepted = with_answer(accepted, served.answer);
             next = served.state;
         } else {
             let released = sessions::release(next, number);
             let verdict = released.verdict;
-            accepted = show::with_verdict(accepted, verdict);
+            accepted = with_verdict(accepted, verdict);
             next = released.state;
         }
         number += 1;
@@ -116,7 +130,7 @@ fn many(st: State, line: &[u8], sets_up: bool) -> State {
     next
 }
 
-// A line's call, on the state that the line before it left.
+// The call of a line. A line with a colon, whose words begin there, is a state built by hand.
 fn call(st: State, line: &[u8]) -> State {
     let letter = lines::byte(lines::number(line, 0));
     match letter {
@@ -132,16 +146,16 @@ fn call(st: State, line: &[u8]) -> State {
         b'D' => many(st, line, false),
         b'W' => {
             let all = [0u8; 200];
-            let route = &all;
+            let route: &[u8] = &all;
             served(served(st, 5, route, false), 5, route, true)
         }
         b'P' => broken::put(st, line),
         b':' => broken::case(st, line),
-        _ => told(st, letter, lines::number(line, 1)),
+        _ => number_call(st, letter, lines::number(line, 1)),
     }
 }
 
-// Every line of a text.
+// The lines of a text, each on the state that the one before it left. The first network is of no account: a line tells another.
 pub(super) fn run(text: &[u8]) {
     let begun = begin(text);
     let mut st = begun.state;

@@ -18,24 +18,23 @@ pub(super) fn find(text: &[u8], from: usize, sought: u8) -> usize
     i
 }
 
-// A word's value with one character more: of a number its value, of another word its first letter.
-fn more(x: u64, c: u8) -> u64 {
+// A word's value with one character more: of a number its value, of another word its first letter. The remainder changes no number of 64 bits.
+fn more(x: usize, c: u8) -> usize {
     if c < b':' {
-        return std::num::wrapping_add_u64(x % 1844674407370955162 * 10, (c % 16) as u64);
+        return std::num::wrapping_add_usize(x % 1844674407370955162 * 10, (c % 16) as usize);
     }
-    if x == 0 { c as u64 } else { x }
+    if x == 0 { c as usize } else { x }
 }
 
-// The value of word k of a line, 0 where there is none.
-pub(super) fn number(line: &[u8], k: usize) -> u64 {
-    let mut x: u64 = 0;
+// The value of word k of a line, 0 where there is none. The space before a word counts as a 0.
+pub(super) fn number(line: &[u8], k: usize) -> usize {
+    let mut x: usize = 0;
     let mut passed: usize = 0;
     let mut i = 0;
     while i < line.len() {
         let c = line[i];
-        if c == b' ' {
-            passed += 1;
-        } else if passed == k {
+        passed = std::num::wrapping_add_usize(passed, (c == b' ') as usize);
+        if passed == k {
             x = more(x, c);
         }
         i += 1;
@@ -54,10 +53,10 @@ pub(super) fn words(line: &[u8]) -> usize {
     n
 }
 
-pub(super) fn byte(x: u64) -> u8 {
+pub(super) fn byte(x: usize) -> u8 {
     (x % 256) as u8
 }
 
-pub(super) fn word(x: u64) -> u16 {
+pub(super) fn word(x: usize) -> u16 {
     (x % 65536) as u16
 }

@@ -1,6 +1,5 @@
-// The calls on sessions of document 01, on states that calls made and on states that were built by hand. The cases, with what each is for, are the
-// lines of the file stdin, which says what a line can be; each is shown with its answer, `ok` with what it gives or `no` with the refusal.
-// The expected lines, in the file stdout, are written by hand from the document.
+// The calls on sessions of document 01, on states that calls made and on states that were built by hand. The cases, and what a line of them can be,
+// stand in the file stdin: at most 65,536 bytes. The lines with their answers, in the file stdout, are written by hand from the document.
 mod broken;
 mod calls;
 mod lines;

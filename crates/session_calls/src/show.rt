@@ -1,4 +1,4 @@
-// What the lines are made of.
+// What is shown of a line, and of the answer to its call.
 use super::lines;
 use libc::STDOUT_FILENO;
 use refusals::Verdict;
@@ -6,29 +6,21 @@ use state::Answer;
 use state::Counted;
 use state::Reply;
 use state::Shown;
-ghost use Prim.Native.Nat.{_≤_};
 
 pub(super) fn text(s: &[u8]) {
     io::write_all(STDOUT_FILENO, s);
 }
 
-// Where the words of a line begin: at its colon, which is shown, or else at the start.
-fn start(colon: usize, end: usize) -> usize
-    ensures { λ r. ⌜ r ≤ end ⌝ }
-{
-    if end <= colon {
-        return 0;
-    }
-    text(b":");
-    colon
-}
-
-// Shows a line up to its colon or its comment, and gives its words.
+// Shows a line up to its comment or its colon, and gives its words: those from the colon on, if it has one.
 pub(super) fn said(line: &[u8]) -> &[u8] {
     let all = &line[..lines::find(line, 0, b';')];
     let colon = lines::find(all, 0, b':');
     text(&all[..colon]);
-    &all[start(colon, all.len())..]
+    if all.len() <= colon {
+        return all;
+    }
+    text(b":");
+    &all[colon..]
 }
 
 // The end of a line, unless it is a comment alone.
@@ -91,17 +83,18 @@ pub(super) fn answer(answer: Answer, n: usize) {
 
 // What a lookup shows: for the letter E all eight places of its route and its frames.
 pub(super) fn session(shown: Shown, letter: u8) {
+    let n = if letter == b'E' { 8 } else { shown.hops };
     let said = shown.verdict;
     let route = shown.route;
     let frames = shown.frames;
-    let n = if letter == b'E' { 8 } else { shown.hops };
+    let stroke: &[u8] = b" /";
     verdict(said);
     match said {
         Verdict::Passed => {
             places(route, n);
-            text(b" /");
+            text(stroke);
             places(frames, n);
-            text(b" /");
+            text(stroke);
             next(shown.delay.0 as u64);
         }
         Verdict::Refused(_) => {
@@ -111,7 +104,7 @@ pub(super) fn session(shown: Shown, letter: u8) {
     }
 }
 
-// The number of free frames.
+// The number of free frames of a link.
 pub(super) fn counted(counted: Counted) {
     let said = counted.verdict;
     verdict(said);
@@ -123,26 +116,9 @@ pub(super) fn counted(counted: Counted) {
 
 // Whether five numbers of live sessions are all n.
 pub(super) fn same(n: usize, a: usize, b: usize, c: usize, d: usize, e: usize) {
-    if (a ^ n) | (b ^ n) | (c ^ n) | (d ^ n) | (e ^ n) == 0 {
+    if (a == n) & (b == n) & (c == n) & (d == n) & (e == n) {
         text(b" live same");
     } else {
         text(b" live changed");
-    }
-}
-
-// One more where an answer is a schedule.
-pub(super) fn with_answer(accepted: u64, answer: Answer) -> u64 {
-    let reply = answer.reply;
-    match reply {
-        Reply::Schedule(_, _) => std::num::wrapping_add_u64(accepted, 1),
-        Reply::Refused(_) => accepted,
-    }
-}
-
-// One more where a verdict is no refusal.
-pub(super) fn with_verdict(accepted: u64, verdict: Verdict) -> u64 {
-    match verdict {
-        Verdict::Passed => std::num::wrapping_add_u64(accepted, 1),
-        Verdict::Refused(_) => accepted,
     }
 }

@@ -1,13 +1,12 @@
-use mathlib.Core.Logic.{⊎-elim}
-use native.Mathlib.Omega.{arith}
+-- `question_four::free_frames` meets its contract. The loop's invariant: i is at most the text's length, and the frame that is read is below 64. Assumes
+-- nothing.
 use Prim.Native.Nat.{_-_, _<_, _≤_}
 use lib.ListN.{length}
+use mathlib.Core.Logic.{⊎-elim}
 use borrow.Author.Needs.{needs}
+use native.Mathlib.Omega.{arith}
 use Rattle.question_four.proofs.free_frames.Statement.{statement}
 use Rattle.question_four.proofs.free_frames.Tie as tie
-use Rattle.question_four.proofs.free_frames.Reads as reads
-use Rattle.question_four.proofs.free_frames.Lts as lts
-use Rattle.bytes.proofs.scan.find.Reads as find-reads
 
 abbrev Inv-loop : tie.InvT-loop
 Inv-loop text letter free₀ frame₀ bit₀ i₀ free frame bit i = (i ≤ length text) × (frame < 64)
@@ -15,51 +14,39 @@ Inv-loop text letter free₀ frame₀ bit₀ i₀ free frame bit i = (i ≤ leng
 abbrev μ-loop : tie.MeasureT-loop
 μ-loop text letter free₀ frame₀ bit₀ i₀ free frame bit i = length text - i
 
--- src/main.rt:47:9
 find-requires : tie.Need-find-requires Inv-loop μ-loop
 find-requires c κs = search needs
 
--- src/main.rt:48:5
 loop-holds : tie.Need-loop-holds Inv-loop μ-loop
 loop-holds c = search needs
 
--- src/main.rt:49:17
 shared-slice-read-c : tie.Need-shared-slice-read-c Inv-loop μ-loop
 shared-slice-read-c c = search needs
 
--- src/main.rt:51:13
 returns : tie.Need-returns Inv-loop μ-loop
 returns c = search needs
 
--- src/main.rt:54:22
 mul-frame : tie.Need-mul-frame Inv-loop μ-loop
 mul-frame c = search needs
 
--- src/main.rt:54:35
 cast-frame : tie.Need-cast-frame Inv-loop μ-loop
 cast-frame c = search needs
 
--- src/main.rt:54:22
 add-frame : tie.Need-add-frame Inv-loop μ-loop
 add-frame c = search needs
 
--- src/main.rt:55:19
 shl-bit : tie.Need-shl-bit Inv-loop μ-loop
 shl-bit c = search needs
 
--- src/main.rt:61:9
 add-i : tie.Need-add-i Inv-loop μ-loop
 add-i c = search needs
 
--- src/main.rt:48:5
 loop-less : tie.Need-loop-less Inv-loop μ-loop
 loop-less c = search needs
 
--- src/main.rt:48:5
 loop-again : tie.Need-loop-again Inv-loop μ-loop
 loop-again c = ⊎-elim (λ w. omega arith) (λ w. ⊎-elim (λ v. omega arith) (λ v. omega arith) w) (c .if2 .came)
 
--- src/main.rt:43:1
 returns-2 : tie.Need-returns-2 Inv-loop μ-loop
 returns-2 c = search needs
 

@@ -1,18 +1,13 @@
-use mathlib.Core.Path.{_≡_, _∙_, ap}
-use mathlib.Core.Logic.{⊎-elim}
-use native.Mathlib.Omega.{arith}
+-- `question_four::quote` meets its contract. The loop's invariant: i is at most the text's length, at most 8 hops were read, and there are 8 places for
+-- links. Assumes nothing.
 use Prim.Native.Nat.{_-_, _≤_}
 use lib.ListN.{length, length-set}
+use mathlib.Core.Logic.{⊎-elim}
+use mathlib.Core.Path.{_≡_, _∙_, ap}
 use borrow.Author.Needs.{needs}
+use native.Mathlib.Omega.{arith}
 use Rattle.question_four.proofs.quote.Statement.{statement}
 use Rattle.question_four.proofs.quote.Tie as tie
-use Rattle.question_four.proofs.quote.Reads as reads
-use Rattle.question_four.proofs.quote.Lts as lts
-use Rattle.question_four.proofs.network.Reads as network-reads
-use Rattle.question_four.proofs.show.Reads as show-reads
-use Rattle.sessions.proofs.begin.Reads as begin-reads
-use Rattle.sessions.proofs.quote.Reads as quote-reads
-use Rattle.std.proofs.num.wrapping_sub_u8.Reads as wrapping-sub-u8-reads
 
 abbrev Inv-loop : tie.InvT-loop
 Inv-loop text links₀ hops₀ i₀ links hops i = (i ≤ length text) × (hops ≤ 8) × (length links ≡ 8)
@@ -20,35 +15,27 @@ Inv-loop text links₀ hops₀ i₀ links hops i = (i ≤ length text) × (hops 
 abbrev μ-loop : tie.MeasureT-loop
 μ-loop text links₀ hops₀ i₀ links hops i = length text - i
 
--- src/main.rt:116:5
 loop-holds : tie.Need-loop-holds Inv-loop μ-loop
 loop-holds c = search needs
 
--- src/main.rt:117:46
 shared-slice-read-wrapping-sub-u8 : tie.Need-shared-slice-read-wrapping-sub-u8 Inv-loop μ-loop
 shared-slice-read-wrapping-sub-u8 c = search needs
 
--- src/main.rt:117:13
 wrapping-sub-u8-requires : tie.Need-wrapping-sub-u8-requires Inv-loop μ-loop
 wrapping-sub-u8-requires c κs = search needs
 
--- src/main.rt:119:13
 array-write-links : tie.Need-array-write-links Inv-loop μ-loop
 array-write-links c = search needs
 
--- src/main.rt:120:20
 add-hops : tie.Need-add-hops Inv-loop μ-loop
 add-hops c = search needs
 
--- src/main.rt:122:9
 add-i : tie.Need-add-i Inv-loop μ-loop
 add-i c = search needs
 
--- src/main.rt:116:5
 loop-less : tie.Need-loop-less Inv-loop μ-loop
 loop-less c = search needs
 
--- src/main.rt:116:5
 loop-again : tie.Need-loop-again Inv-loop μ-loop
 loop-again c =
     let long = c .before .before .before .before .loop .inv .2 in
@@ -57,35 +44,27 @@ loop-again c =
     (λ w. (omega arith, omega arith, ap length (w .1) ∙ long))
     (c .if1 .came)
 
--- src/main.rt:124:33
 network-requires : tie.Need-network-requires Inv-loop μ-loop
 network-requires c κs = search needs
 
--- src/main.rt:124:9
 begin-requires : tie.Need-begin-requires Inv-loop μ-loop
 begin-requires c κs = search needs
 
--- src/main.rt:125:47
 sub-quote : tie.Need-sub-quote Inv-loop μ-loop
 sub-quote c = search needs
 
--- src/main.rt:125:47
 part-quote-start : tie.Need-part-quote-start Inv-loop μ-loop
 part-quote-start c = search needs
 
--- src/main.rt:125:47
 part-quote-end : tie.Need-part-quote-end Inv-loop μ-loop
 part-quote-end c = search needs
 
--- src/main.rt:125:9
 quote-requires : tie.Need-quote-requires Inv-loop μ-loop
 quote-requires c κs = search needs
 
--- src/main.rt:127:5
 show-requires : tie.Need-show-requires Inv-loop μ-loop
 show-requires c κs = search needs
 
--- src/main.rt:112:1
 returns : tie.Need-returns Inv-loop μ-loop
 returns c = search needs
 

@@ -1,13 +1,11 @@
-use mathlib.Core.Logic.{⊎-elim}
-use native.Mathlib.Omega.{arith}
+-- `file_cases::lines::number` meets its contract. The loop's invariant: i is at most the text's length, and at most i spaces were passed. Assumes nothing.
 use Prim.Native.Nat.{_-_, _≤_}
 use lib.ListN.{length}
+use mathlib.Core.Logic.{⊎-elim}
 use borrow.Author.Needs.{needs}
+use native.Mathlib.Omega.{arith}
 use Rattle.file_cases.proofs.lines.number.Statement.{statement}
 use Rattle.file_cases.proofs.lines.number.Tie as tie
-use Rattle.file_cases.proofs.lines.number.Reads as reads
-use Rattle.file_cases.proofs.lines.number.Lts as lts
-use Rattle.std.proofs.num.wrapping_add_u64.Reads as wrapping-add-u64-reads
 
 abbrev Inv-loop : tie.InvT-loop
 Inv-loop text place base x₀ spaces₀ i₀ x spaces i = (i ≤ length text) × (spaces ≤ i)
@@ -15,55 +13,42 @@ Inv-loop text place base x₀ spaces₀ i₀ x spaces i = (i ≤ length text) ×
 abbrev μ-loop : tie.MeasureT-loop
 μ-loop text place base x₀ spaces₀ i₀ x spaces i = length text - i
 
--- src/lines.rt:34:5
 loop-holds : tie.Need-loop-holds Inv-loop μ-loop
 loop-holds c = search needs
 
--- src/lines.rt:35:17
 shared-slice-read-c : tie.Need-shared-slice-read-c Inv-loop μ-loop
 shared-slice-read-c c = search needs
 
--- src/lines.rt:37:13
 add-spaces : tie.Need-add-spaces Inv-loop μ-loop
 add-spaces c = search needs
 
--- src/lines.rt:39:59
 shl-wrapping-add-u64 : tie.Need-shl-wrapping-add-u64 Inv-loop μ-loop
 shl-wrapping-add-u64 c = search needs
 
--- src/lines.rt:39:17
 wrapping-add-u64-requires : tie.Need-wrapping-add-u64-requires Inv-loop μ-loop
 wrapping-add-u64-requires c κs = search needs
 
--- src/lines.rt:40:60
 mul-wrapping-add-u64 : tie.Need-mul-wrapping-add-u64 Inv-loop μ-loop
-mul-wrapping-add-u64 c = omega (arith, c .before .before .before .shared-slice-known2 .given (c .before .before .before .before .before .loop .i))
+mul-wrapping-add-u64 c = search needs
 
--- src/lines.rt:40:51
 add-wrapping-add-u64 : tie.Need-add-wrapping-add-u64 Inv-loop μ-loop
-add-wrapping-add-u64 c = omega (arith, c .before .before .before .shared-slice-known2 .given (c .before .before .before .before .before .loop .i))
+add-wrapping-add-u64 c = search needs
 
--- src/lines.rt:40:50
 cast-wrapping-add-u64 : tie.Need-cast-wrapping-add-u64 Inv-loop μ-loop
-cast-wrapping-add-u64 c = omega (arith, c .before .before .before .shared-slice-known2 .given (c .before .before .before .before .before .loop .i))
+cast-wrapping-add-u64 c = search needs
 
--- src/lines.rt:40:13
 wrapping-add-u64-requires-2 : tie.Need-wrapping-add-u64-requires-2 Inv-loop μ-loop
 wrapping-add-u64-requires-2 c κs = search needs
 
--- src/lines.rt:42:9
 add-i : tie.Need-add-i Inv-loop μ-loop
 add-i c = search needs
 
--- src/lines.rt:34:5
 loop-less : tie.Need-loop-less Inv-loop μ-loop
 loop-less c = search needs
 
--- src/lines.rt:34:5
 loop-again : tie.Need-loop-again Inv-loop μ-loop
 loop-again c = ⊎-elim (λ w. omega arith) (λ w. ⊎-elim (λ v. omega arith) (λ v. omega arith) w) (c .if1 .came)
 
--- src/lines.rt:28:1
 returns : tie.Need-returns Inv-loop μ-loop
 returns c = search needs
 

@@ -1,11 +1,8 @@
+-- `file_cases::reading::show_links` meets its contract. The loop's invariant: i is at most 32. Assumes nothing.
 use Prim.Native.Nat.{_-_, _≤_}
 use borrow.Author.Needs.{needs}
 use Rattle.file_cases.proofs.reading.show_links.Statement.{statement}
 use Rattle.file_cases.proofs.reading.show_links.Tie as tie
-use Rattle.file_cases.proofs.reading.show_links.Reads as reads
-use Rattle.file_cases.proofs.reading.show_links.Lts as lts
-use Rattle.file_cases.proofs.show.next.Reads as next-reads
-use Rattle.file_cases.proofs.show.text.Reads as text-reads
 
 abbrev Inv-loop : tie.InvT-loop
 Inv-loop count links i₀ t6 t7 i = i ≤ 32
@@ -13,71 +10,54 @@ Inv-loop count links i₀ t6 t7 i = i ≤ 32
 abbrev μ-loop : tie.MeasureT-loop
 μ-loop count links i₀ t6 t7 i = 32 - i
 
--- src/reading.rt:12:5
 loop-holds : tie.Need-loop-holds Inv-loop μ-loop
 loop-holds c = search needs
 
--- src/reading.rt:14:13
 returns : tie.Need-returns Inv-loop μ-loop
 returns c = search needs
 
--- src/reading.rt:17:24
 slice-aggregate-text : tie.Need-slice-aggregate-text Inv-loop μ-loop
 slice-aggregate-text c = search needs
 
--- src/reading.rt:17:13
 text-requires : tie.Need-text-requires Inv-loop μ-loop
 text-requires c κs = search needs
 
--- src/reading.rt:19:24
 slice-aggregate-text-2 : tie.Need-slice-aggregate-text-2 Inv-loop μ-loop
 slice-aggregate-text-2 c = search needs
 
--- src/reading.rt:19:13
 text-requires-2 : tie.Need-text-requires-2 Inv-loop μ-loop
 text-requires-2 c κs = search needs
 
--- src/reading.rt:21:20
 mul-link : tie.Need-mul-link Inv-loop μ-loop
 mul-link c = search needs
 
--- src/reading.rt:21:20
 array-copy-out-link : tie.Need-array-copy-out-link Inv-loop μ-loop
 array-copy-out-link c = search needs
 
--- src/reading.rt:22:20
 cast-next : tie.Need-cast-next Inv-loop μ-loop
 cast-next c = search needs
 
--- src/reading.rt:22:9
 next-requires : tie.Need-next-requires Inv-loop μ-loop
 next-requires c κs = search needs
 
--- src/reading.rt:23:20
 cast-next-2 : tie.Need-cast-next-2 Inv-loop μ-loop
 cast-next-2 c = search needs
 
--- src/reading.rt:23:9
 next-requires-2 : tie.Need-next-requires-2 Inv-loop μ-loop
 next-requires-2 c κs = search needs
 
--- src/reading.rt:24:9
 next-requires-3 : tie.Need-next-requires-3 Inv-loop μ-loop
 next-requires-3 c κs = search needs
 
--- src/reading.rt:25:9
 add-i : tie.Need-add-i Inv-loop μ-loop
 add-i c = search needs
 
--- src/reading.rt:12:5
 loop-less : tie.Need-loop-less Inv-loop μ-loop
 loop-less c = search needs
 
--- src/reading.rt:12:5
 loop-again : tie.Need-loop-again Inv-loop μ-loop
 loop-again c = search needs
 
--- src/reading.rt:10:1
 returns-2 : tie.Need-returns-2 Inv-loop μ-loop
 returns-2 c = search needs
 

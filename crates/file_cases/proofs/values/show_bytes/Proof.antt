@@ -1,12 +1,8 @@
+-- `file_cases::values::show_bytes` meets its contract. The loop's invariant: i is at most 16. Assumes nothing.
 use Prim.Native.Nat.{_-_, _≤_}
 use borrow.Author.Needs.{needs}
 use Rattle.file_cases.proofs.values.show_bytes.Statement.{statement}
 use Rattle.file_cases.proofs.values.show_bytes.Tie as tie
-use Rattle.file_cases.proofs.values.show_bytes.Reads as reads
-use Rattle.file_cases.proofs.values.show_bytes.Lts as lts
-use Rattle.file_cases.proofs.show.byte.Reads as byte-reads
-use Rattle.file_cases.proofs.show.next.Reads as next-reads
-use Rattle.file_cases.proofs.show.text.Reads as text-reads
 
 abbrev Inv-loop : tie.InvT-loop
 Inv-loop buffer length i₀ t6 i = i ≤ 16
@@ -14,63 +10,48 @@ Inv-loop buffer length i₀ t6 i = i ≤ 16
 abbrev μ-loop : tie.MeasureT-loop
 μ-loop buffer length i₀ t6 i = 16 - i
 
--- src/values.rt:27:16
 slice-aggregate-text : tie.Need-slice-aggregate-text Inv-loop μ-loop
 slice-aggregate-text c = search needs
 
--- src/values.rt:27:5
 text-requires : tie.Need-text-requires Inv-loop μ-loop
 text-requires c κs = search needs
 
--- src/values.rt:28:5
 next-requires : tie.Need-next-requires Inv-loop μ-loop
 next-requires c κs = search needs
 
--- src/values.rt:29:16
 slice-aggregate-text-2 : tie.Need-slice-aggregate-text-2 Inv-loop μ-loop
 slice-aggregate-text-2 c = search needs
 
--- src/values.rt:29:5
 text-requires-2 : tie.Need-text-requires-2 Inv-loop μ-loop
 text-requires-2 c κs = search needs
 
--- src/values.rt:31:5
 loop-holds : tie.Need-loop-holds Inv-loop μ-loop
 loop-holds c = search needs
 
--- src/values.rt:33:13
 returns : tie.Need-returns Inv-loop μ-loop
 returns c = search needs
 
--- src/values.rt:35:20
 element-copy-out-byte : tie.Need-element-copy-out-byte Inv-loop μ-loop
 element-copy-out-byte c = search needs
 
--- src/values.rt:35:9
 byte-requires : tie.Need-byte-requires Inv-loop μ-loop
 byte-requires c κs = search needs
 
--- src/values.rt:36:9
 add-i : tie.Need-add-i Inv-loop μ-loop
 add-i c = search needs
 
--- src/values.rt:31:5
 loop-less : tie.Need-loop-less Inv-loop μ-loop
 loop-less c = search needs
 
--- src/values.rt:31:5
 loop-again : tie.Need-loop-again Inv-loop μ-loop
 loop-again c = search needs
 
--- src/values.rt:38:16
 slice-aggregate-text-3 : tie.Need-slice-aggregate-text-3 Inv-loop μ-loop
 slice-aggregate-text-3 c = search needs
 
--- src/values.rt:38:5
 text-requires-3 : tie.Need-text-requires-3 Inv-loop μ-loop
 text-requires-3 c κs = search needs
 
--- src/values.rt:26:1
 returns-2 : tie.Need-returns-2 Inv-loop μ-loop
 returns-2 c = search needs
 

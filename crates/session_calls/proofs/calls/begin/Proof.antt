@@ -1,4 +1,4 @@
--- `session_calls::calls::begin` meets its contract. The loop's invariant: there are 32 places. Assumes nothing.
+-- `session_calls::calls::begin` meets its contract. The loop's invariant: i is at most the number of links, that at most 32, and there are 32 places. Assumes nothing.
 use Prim.Native.Nat.{_-_, _≤_}
 use lib.ListN.{length, length-set}
 use mathlib.Core.Path.{_≡_}

@@ -16,6 +16,9 @@ number-requires c κs = search needs
 byte-requires : tie.Need-byte-requires Inv-loop μ-loop
 byte-requires c κs = search needs
 
+slice-aggregate-route : tie.Need-slice-aggregate-route Inv-loop μ-loop
+slice-aggregate-route c = search needs
+
 number-requires-2 : tie.Need-number-requires-2 Inv-loop μ-loop
 number-requires-2 c κs = search needs
 
@@ -30,9 +33,6 @@ word-requires-2 c κs = search needs
 
 loop-holds : tie.Need-loop-holds Inv-loop μ-loop
 loop-holds c = search needs
-
-slice-aggregate-set-up : tie.Need-slice-aggregate-set-up Inv-loop μ-loop
-slice-aggregate-set-up c = search needs
 
 set-up-requires : tie.Need-set-up-requires Inv-loop μ-loop
 set-up-requires c κs = search needs
@@ -72,12 +72,12 @@ many-spec =
     μ-loop
     number-requires
     byte-requires
+    slice-aggregate-route
     number-requires-2
     word-requires
     number-requires-3
     word-requires-2
     loop-holds
-    slice-aggregate-set-up
     set-up-requires
     with-answer-requires
     release-requires
