@@ -151,26 +151,7 @@ fn key(ticks: u32, hops: &[Hop], frames: &[u32]) -> Key {
 #[cfg(test)]
 mod tests {
     use super::*;
-
-    /// A link of K frames and range Z with only the frames named free.
-    fn link(frames: u32, range: u32, free: &[u32]) -> Hop {
-        let free = free.iter().fold(0, |word, frame| word | 1 << frame);
-        Hop {
-            frames,
-            range,
-            free,
-        }
-    }
-
-    /// A link of 8 frames and range 2.
-    fn eight(free: &[u32]) -> Hop {
-        link(8, 2, free)
-    }
-
-    /// A link of 4 frames and range 2.
-    fn four(free: &[u32]) -> Hop {
-        link(4, 2, free)
-    }
+    use crate::question_four::{eight, four, link};
 
     /// What decides the route in a cycle of 48 ticks.
     fn decided(hops: &[Hop]) -> Option<Decided> {

@@ -7,7 +7,7 @@ const T: u32 = 48;
 const ALL: &[u32] = &[0, 1, 2, 3, 4, 5, 6, 7];
 
 /// A link of K frames and range Z with only the frames named free.
-fn link(frames: u32, range: u32, free: &[u32]) -> Hop {
+pub fn link(frames: u32, range: u32, free: &[u32]) -> Hop {
     let free = free.iter().fold(0, |word, frame| word | 1 << frame);
     assert_eq!(free & !ones(frames), 0);
     Hop {
@@ -18,7 +18,7 @@ fn link(frames: u32, range: u32, free: &[u32]) -> Hop {
 }
 
 /// Links A, B and E: K 8, Z 2.
-fn eight(free: &[u32]) -> Hop {
+pub fn eight(free: &[u32]) -> Hop {
     link(8, 2, free)
 }
 
@@ -28,7 +28,7 @@ fn sixteen(free: &[u32]) -> Hop {
 }
 
 /// Link D: K 4, Z 2.
-fn four(free: &[u32]) -> Hop {
+pub fn four(free: &[u32]) -> Hop {
     link(4, 2, free)
 }
 
