@@ -9,9 +9,11 @@ use lib.Seq.{take-at}
 use lib.Dec.{ltb}
 use lib.ListN.{length, drop, take}
 use Rattle.places.proofs.Firsts.{firsts-back}
+use Rattle.refusals.specs.declared.Refusal.{Refusal}
 use Rattle.refusals.specs.declared.Verdict.the-variants.{Passed}
+use Rattle.refusals.specs.declared.Verdict.the-variants as verdicts
 use Rattle.refusals.specs.Refusals.{Outcome, given, refused, pass, Ruling, refuseIf, orElse, refusalNumber, ruling, rulingOf, givenOr}
-use Rattle.refusals.proofs.Refusals.{past, not-given, given-is}
+use Rattle.refusals.proofs.Refusals.{past, not-given, refused-is, given-is}
 use Rattle.numbers.specs.Numbers.{bytesOf, IsBytes}
 use Rattle.numbers.proofs.Trip.{bytes-cons, bytes-none, bytes-append, bytes-of}
 use Rattle.network.specs.declared.Link.{Link}
@@ -49,6 +51,15 @@ one-file t e = record { bytes = image-bytes t e; reads = image-reads t e; only =
 -- AND EVERY FILE THAT READS AS A NETWORK READS AS ONE THAT PASSES ITS CHECKS
 pub read-passes : (s : List ℕ) (t : Topology) → IsBytes s → readNetwork s ≡ given t → networkCheck t ≡ given pass
 read-passes s t b e = file-only s t b e .passed
+
+-- what a file says, by the verdict of its reader
+pub refused-says : (s : List ℕ) (l : Loaded) → Reads (readNetwork s) l → (r : Refusal) → l .verdict ≡ verdicts.Refused r → readNetwork s ≡ refused (refusalNumber r)
+refused-says s l d r e = refused-is (readNetwork s) (refusalNumber r) (ap ruling (sym e) ∙ d .verdict)
+
+pub passed-says : (s : List ℕ) (l : Loaded) → Reads (readNetwork s) l → l .verdict ≡ Passed → (t : Topology) × (readNetwork s ≡ given t)
+passed-says s l d e =
+    let nothing : Topology = record { ticks = 0; links = [] } in
+    (givenOr nothing (readNetwork s), given-is (readNetwork s) nothing (ap ruling (sym e) ∙ d .verdict))
 
 -- what is stored of a network that passed stands for it
 stored-back : (t : Topology) → networkCheck t ≡ given pass → topologyOf (stored (t .ticks) (t .links)) ≡ t
@@ -98,10 +109,8 @@ passes t room e h = rw (e, le-ltb room (length (imageOf t)) h)
 -- READ, THEN WRITTEN: whatever `read_network` reads as a network, `write_network` writes as that file
 pub read-writes : (file : List ℕ) (r : Loaded) (before after : List ℕ) (w : Written) → IsBytes file → Reads (readNetwork file) r → r .verdict ≡ Passed → length file ≤ length before → Writes (topologyOf (r .network)) before after w → (w ≡ Length (length file)) × (after ≡ file ++ drop (length file) before)
 read-writes file r before after w b d p room x =
-    let o : Outcome Topology = readNetwork file in
-    let nothing : Topology = record { ticks = 0; links = [] } in
-    let t : Topology = givenOr nothing o in
-    let e : o ≡ given t = given-is o nothing (sym (ap ruling p) ∙ d .verdict) in
+    let t : Topology = passed-says file r d p .0 in
+    let e : readNetwork file ≡ given t = passed-says file r d p .1 in
     let q : Is file t = file-only file t b e in
     let same : topologyOf (r .network) ≡ t = read-stands file t r b e d in
     let y : Writes t before after w = subst (λ (z : Topology). Writes z before after w) same x in

@@ -1,7 +1,7 @@
 -- The whole text, and the buffer that it is put into. Assumes nothing.
 use mathlib.Core.Path.{_≡_, refl, sym, ap, subst, _∙_}
 use mathlib.Core.Bool.{Bool, true, false, cond}
-use mathlib.Core.List.{List, []}
+use mathlib.Core.List.{List}
 use Prim.Native.Nat.{ℕ, _+_, _*_, _<_, _≤_, min}
 use native.Mathlib.Nat.{zero-add}
 use native.Mathlib.Omega.{arith}
@@ -11,10 +11,9 @@ use lib.Dec.{ltb}
 use borrow.Author.Tests.{lt-ltb, le-ltb, ltb-true, ltb-false}
 use Rattle.places.specs.Put.{putAt}
 use Rattle.places.proofs.Puts.{put-zero, put-length}
-use Rattle.refusals.specs.Refusals.{given, refused, refuseIf, orElse, ruling, rulingOf, givenOr, refusalNumber}
+use Rattle.refusals.specs.Refusals.{given, refused, refuseIf, orElse, refusalNumber}
 use Rattle.refusals.specs.declared.Refusal.{Refusal}
 use Rattle.refusals.specs.declared.Verdict.the-variants.{Passed, Refused}
-use Rattle.refusals.proofs.Refusals.{refused-is, given-is}
 use Rattle.numbers.specs.Numbers.{IsBytes}
 use Rattle.network.specs.Network.{Topology}
 use Rattle.network_file.specs.declared.Loaded.{Loaded}
@@ -22,7 +21,7 @@ use Rattle.network_file.specs.declared.Written.{Written}
 use Rattle.network_file.specs.declared.Written.the-variants as written
 use Rattle.network_file.specs.Reading.{readNetwork, Reads}
 use Rattle.network_file.specs.Writing.{lengthRead}
-use Rattle.network_file.proofs.RoundTrip.{read-passes, read-stands}
+use Rattle.network_file.proofs.RoundTrip.{refused-says, passed-says, read-passes, read-stands}
 use Rattle.ledger.specs.Sessions.{View}
 use Rattle.ledger.specs.Sound.{intact}
 use Rattle.ledger.specs.Demand.{fresh}
@@ -70,8 +69,7 @@ module _ (file calls : List ℕ) (bytes : IsBytes file) (l : Loaded) (reads : Re
   refused-text : (r : Refusal) → l .verdict ≡ Refused r → (n : ℕ) → n ≡ refusalNumber r → transcript file calls ≡ networkLine n
   unfolding transcript
   refused-text r e n q =
-      let d : refused (refusalNumber r) ≡ rulingOf (readNetwork file) = ap ruling (sym e) ∙ reads .verdict in
-      rw (refused-is (readNetwork file) (refusalNumber r) d, q)
+      rw (refused-says file l reads r e, q)
 
   pub refused-room : (r : Refusal) → l .verdict ≡ Refused r → (n : ℕ) → n ≡ refusalNumber r → (m : ℕ) → length (transcript file calls) ≤ m → 0 + length (networkLine n) ≤ m
   refused-room r e n q m h = omega (arith, ap length (refused-text r e n q), h)
@@ -79,16 +77,13 @@ module _ (file calls : List ℕ) (bytes : IsBytes file) (l : Loaded) (reads : Re
   pub refused-put : (r : Refusal) → l .verdict ≡ Refused r → (n : ℕ) → n ≡ refusalNumber r → (before after : List ℕ) (k : ℕ) → Puts 0 (networkLine n) before after k → Puts 0 (transcript file calls) before after k
   refused-put r e n q before after k p = rw (refused-text r e n q) p
 
-  none : Topology
-  none = record { ticks = 0; links = [] }
-
   module _ (e : l .verdict ≡ Passed) where
     said : Topology
-    said = givenOr none (readNetwork file)
+    said = passed-says file l reads e .0
 
     says : readNetwork file ≡ given said
     unfolding said
-    says = given-is (readNetwork file) none (ap ruling (sym e) ∙ reads .verdict)
+    says = passed-says file l reads e .1
 
     module _ (b : Begun) (begins : Begins (l .network) b) where
       first-view : viewOf (b .state) ≡ fresh said

@@ -5,9 +5,7 @@ use Rattle.call_records.proofs.links.Tie as tie
 use Rattle.call_records.proofs.Cases.{plain-links, links-past, links-there}
 use mathlib.Core.Path.{refl}
 use native.Mathlib.Omega.{arith}
-use Rattle.call_records.proofs.Cases.{plain-links, links-past, links-there}
 use borrow.Author.Tests.{not-true, not-false}
-use mathlib.Core.Path.{refl}
 use Prim.Native.Nat.{_+_}
 
 returns : tie.Need-returns

@@ -8,18 +8,7 @@ use Prim.Native.Nat.{_-_}
 use lib.ListN.{length}
 use Rattle.report.proofs.Answering.{schedule-room, schedule-put, refusal-room, refusal-put}
 use mathlib.Core.Path.{_≡_, sym}
-use Prim.Native.Nat.{_-_}
-use lib.ListN.{length}
-use Rattle.report.proofs.Answering.{schedule-room, schedule-put, refusal-room, refusal-put}
 use lib.Seq.{length-take-le}
-use mathlib.Core.Path.{_≡_, sym}
-use Prim.Native.Nat.{_-_}
-use lib.ListN.{length}
-use Rattle.report.proofs.Answering.{schedule-room, schedule-put, refusal-room, refusal-put}
-use mathlib.Core.Path.{_≡_, sym}
-use Prim.Native.Nat.{_-_}
-use lib.ListN.{length}
-use Rattle.report.proofs.Answering.{schedule-room, schedule-put, refusal-room, refusal-put}
 
 enum-known-reply : tie.Need-enum-known-reply
 enum-known-reply c = search needs

@@ -4,12 +4,6 @@ use Rattle.report.proofs.quote.Statement.{statement}
 use Rattle.report.proofs.quote.Tie as tie
 use Prim.Native.Nat.{_-_}
 use Rattle.report.proofs.Answering.{quote-room, quote-turn}
-use Prim.Native.Nat.{_-_}
-use Rattle.report.proofs.Answering.{quote-room, quote-turn}
-use Prim.Native.Nat.{_-_}
-use Rattle.report.proofs.Answering.{quote-room, quote-turn}
-use Prim.Native.Nat.{_-_}
-use Rattle.report.proofs.Answering.{quote-room, quote-turn}
 
 quote-requires : tie.Need-quote-requires
 quote-requires c κs = search needs

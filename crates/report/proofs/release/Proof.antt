@@ -4,12 +4,6 @@ use Rattle.report.proofs.release.Statement.{statement}
 use Rattle.report.proofs.release.Tie as tie
 use Prim.Native.Nat.{_-_}
 use Rattle.report.proofs.Answering.{release-room, release-turn}
-use Prim.Native.Nat.{_-_}
-use Rattle.report.proofs.Answering.{release-room, release-turn}
-use Prim.Native.Nat.{_-_}
-use Rattle.report.proofs.Answering.{release-room, release-turn}
-use Prim.Native.Nat.{_-_}
-use Rattle.report.proofs.Answering.{release-room, release-turn}
 
 release-requires : tie.Need-release-requires
 release-requires c κs = search needs

@@ -6,7 +6,6 @@ use native.Mathlib.Omega.{arith}
 use Prim.Native.Nat.{_-_}
 use Rattle.report.proofs.Whole.{long-report}
 use Rattle.report.proofs.Bound.{text-bound}
-use Prim.Native.Nat.{_-_}
 use Rattle.report.proofs.Whole.{long-report, back-long}
 
 text-bound-requires : tie.Need-text-bound-requires

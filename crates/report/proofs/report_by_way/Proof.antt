@@ -9,8 +9,6 @@ use lib.ListN.{length}
 use Rattle.report.proofs.Whole.{bound-most, short-report}
 use Rattle.report.proofs.Bound.{text-bound}
 use mathlib.Core.Path.{refl, sym}
-use Prim.Native.Nat.{_-_}
-use lib.ListN.{length}
 use Rattle.report.proofs.Whole.{bound-most, short-report, long-report, back-long, back-within, back-fits, back-put}
 use lib.Seq.{length-take-le}
 

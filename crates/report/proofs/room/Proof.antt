@@ -3,9 +3,6 @@ use Rattle.report.proofs.room.Statement.{statement}
 use Rattle.report.proofs.room.Tie as tie
 use Prim.Native.Nat.{ℕ, _-_}
 use lib.ListN.{length-replicate}
-use Prim.Native.Nat.{ℕ, _-_}
-use Prim.Native.Nat.{ℕ, _-_}
-use Prim.Native.Nat.{ℕ, _-_}
 
 returns : tie.Need-returns
 returns c = length-replicate {0} {A = ℕ} 720918 0

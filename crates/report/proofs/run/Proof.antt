@@ -13,15 +13,6 @@ use Rattle.report.specs.Transcript.{callsIn, linesOf}
 use Rattle.report.proofs.Running.{Running, none-run, record-within, line-room, next-within, one-run, last-room, all-run}
 use Rattle.places.proofs.Parts.{part-rest}
 use lib.ListN.{length-drop}
-use mathlib.Core.Path.{sym, ap}
-use Prim.Native.Nat.{_-_}
-use lib.ListN.{length}
-use mathlib.Core.Path.{sym, ap}
-use Prim.Native.Nat.{_-_}
-use lib.ListN.{length}
-use mathlib.Core.Path.{sym, ap}
-use Prim.Native.Nat.{_-_}
-use lib.ListN.{length}
 
 abbrev Inv-loop : tie.InvT-loop
 Inv-loop calls out₀ st₀ from₀ at₀ place₀ out st from at place = Running (linesOf 1 (viewOf st₀) (callsIn calls)) calls out₀ st from at place out

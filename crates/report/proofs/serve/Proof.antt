@@ -4,12 +4,6 @@ use Rattle.report.proofs.serve.Statement.{statement}
 use Rattle.report.proofs.serve.Tie as tie
 use Prim.Native.Nat.{_-_}
 use Rattle.report.proofs.Answering.{says-set-up, says-quote, says-release, says-nothing}
-use Prim.Native.Nat.{_-_}
-use Rattle.report.proofs.Answering.{says-set-up, says-quote, says-release, says-nothing}
-use Prim.Native.Nat.{_-_}
-use Rattle.report.proofs.Answering.{says-set-up, says-quote, says-release, says-nothing}
-use Prim.Native.Nat.{_-_}
-use Rattle.report.proofs.Answering.{says-set-up, says-quote, says-release, says-nothing}
 
 route-requires : tie.Need-route-requires
 route-requires c κs = search needs

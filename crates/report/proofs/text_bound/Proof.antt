@@ -3,10 +3,7 @@ use borrow.Author.Needs.{needs}
 use Rattle.report.proofs.text_bound.Statement.{statement}
 use Rattle.report.proofs.text_bound.Tie as tie
 use Prim.Native.Nat.{_-_}
-use Prim.Native.Nat.{_-_}
 use Rattle.report.proofs.Whole.{bound-is}
-use Prim.Native.Nat.{_-_}
-use Prim.Native.Nat.{_-_}
 
 counted-requires : tie.Need-counted-requires
 counted-requires c κs = search needs

@@ -4,8 +4,6 @@ use Rattle.report.proofs.write_text.Statement.{statement}
 use Rattle.report.proofs.write_text.Tie as tie
 use Prim.Native.Nat.{_-_}
 use Rattle.report.proofs.Whole.{counted-long, refused-room, refused-put, read-room, read-put}
-use Prim.Native.Nat.{_-_}
-use Rattle.report.proofs.Whole.{counted-long, refused-room, refused-put, read-room, read-put}
 
 read-network-requires : tie.Need-read-network-requires
 read-network-requires c κs = search needs
