@@ -2,6 +2,7 @@
 use super::broken;
 use super::lines;
 use super::show;
+use bytes::scan;
 use network::Link;
 use network::Network;
 use refusals::Verdict;
@@ -161,7 +162,7 @@ pub(super) fn run(text: &[u8]) {
     let mut st = begun.state;
     let mut from = 0;
     while from < text.len() {
-        let end = lines::find(text, from, b'\n');
+        let end = scan::find(text, from, text.len(), b'\n');
         let line = &text[from..end];
         st = call(st, show::said(line));
         show::end(line);

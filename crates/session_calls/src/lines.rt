@@ -1,22 +1,4 @@
 // Words and numbers written in text, with a space between two.
-ghost use lib.ListN.{length};
-ghost use Prim.Native.Nat.{_≤_};
-ghost use Rattle.io.specs.Counts.{Counts};
-
-// The first place of a byte from a place on, or the end.
-pub(super) fn find(text: &[u8], from: usize, sought: u8) -> usize
-    requires { ⌜ from ≤ length (now text) ⌝ }
-    ensures { λ r. ⌜ (from ≤ r) × Counts r (now (text .entry)) ⌝ }
-{
-    let mut i = from;
-    while i < text.len() {
-        if text[i] == sought {
-            return i;
-        }
-        i += 1;
-    }
-    i
-}
 
 // A word's value with one character more: of a number its value, of another word its first letter. The remainder changes no number of 64 bits.
 fn more(x: usize, c: u8) -> usize {

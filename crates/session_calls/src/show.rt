@@ -1,5 +1,5 @@
 // What is shown of a line, and of the answer to its call.
-use super::lines;
+use bytes::scan;
 use libc::STDOUT_FILENO;
 use refusals::Verdict;
 use state::Answer;
@@ -13,9 +13,10 @@ pub(super) fn text(s: &[u8]) {
 
 // Shows a line up to its comment or its colon, and gives its words: those from the colon on, if it has one.
 pub(super) fn said(line: &[u8]) -> &[u8] {
-    let all = &line[..lines::find(line, 0, b';')];
-    let colon = lines::find(all, 0, b':');
-    text(&all[..colon]);
+    let end = scan::find(line, 0, line.len(), b';');
+    let all = &line[0..end];
+    let colon = scan::find(all, 0, all.len(), b':');
+    text(&all[0..colon]);
     if all.len() <= colon {
         return all;
     }
@@ -25,7 +26,7 @@ pub(super) fn said(line: &[u8]) -> &[u8] {
 
 // The end of a line, unless it is a comment alone.
 pub(super) fn end(line: &[u8]) {
-    if lines::find(line, 0, b';') != 0 {
+    if scan::find(line, 0, line.len(), b';') != 0 {
         text(b"\n");
     }
 }
