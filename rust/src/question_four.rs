@@ -1,4 +1,4 @@
-//! The cases of the document's question four, for both searches.
+//! The cases of the document's question four, with the answers of W-201 from slow to fast, for both searches.
 
 use crate::route::{ones, Answer, Hop};
 use crate::{dijkstra, listing};
@@ -97,9 +97,9 @@ fn smaller_last_hold_wins() {
 
 #[test]
 fn slow_meets_fast() {
-    found(&[eight(&[3]), sixteen(&[7])], &[3, 7], 3, 1);
-    found(&[eight(&[3]), sixteen(&[10])], &[3, 10], 12, 1);
-    blocked(&[eight(&[3]), sixteen(&[11])], 0);
+    blocked(&[eight(&[3]), sixteen(&[7])], 0);
+    found(&[eight(&[3]), sixteen(&[10])], &[3, 10], 9, 1);
+    found(&[eight(&[3]), sixteen(&[11])], &[3, 11], 12, 1);
     blocked(&[eight(&[3]), sixteen(&[6])], 0);
 }
 

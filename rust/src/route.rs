@@ -38,9 +38,9 @@ pub fn has(word: u64, frame: u32) -> bool {
     word >> frame & 1 == 1
 }
 
-/// The reference frame at `here` of a frame of the hop before: floor(k * K / K').
+/// The reference frame at `here` of a frame of the hop before: floor(((k + 1) * K - 1) / K') (W-201).
 pub fn reference(frame: u32, before: &Hop, here: &Hop) -> u32 {
-    frame * here.frames / before.frames
+    ((frame + 1) * here.frames - 1) / before.frames
 }
 
 /// The only number D from 1 to K with (reference + D) mod K = frame.
@@ -113,11 +113,11 @@ mod tests {
     }
 
     #[test]
-    fn reference_is_rounded_down() {
+    fn reference_is_where_the_last_bit_arrives() {
         let (fast, slow) = (all_free(8, 2), all_free(4, 2));
         assert_eq!(reference(4, &fast, &slow), 2);
         assert_eq!(reference(5, &fast, &slow), 2);
-        assert_eq!(reference(3, &slow, &fast), 6);
+        assert_eq!(reference(3, &slow, &fast), 7);
         assert_eq!(reference(7, &fast, &fast), 7);
     }
 

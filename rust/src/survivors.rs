@@ -52,7 +52,7 @@ fn search(ticks: u32, hops: &[Hop], wrapped: impl Fn(u32, u32) -> u32) -> Answer
             if reached == NEVER {
                 continue;
             }
-            let reference = k * frames / from;
+            let reference = ((k + 1) * frames - 1) / from;
             let mut considered = 0;
             for hold in 1..range + 1 {
                 let i = wrapped(reference + hold, frames) as usize;

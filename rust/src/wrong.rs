@@ -89,11 +89,22 @@ fn wrong_searches() -> Vec<Wrong> {
             },
         ),
         student(
-            "reference rounded up",
+            "reference rounded up where fast meets slow",
             Student {
                 reference: |frame, before, here| {
-                    (frame * here.frames).div_ceil(before.frames) % here.frames
+                    if before.frames > here.frames {
+                        (frame * here.frames).div_ceil(before.frames) % here.frames
+                    } else {
+                        route::reference(frame, before, here)
+                    }
                 },
+                ..RIGHT
+            },
+        ),
+        student(
+            "reference of a frame's first bit, as before W-201",
+            Student {
+                reference: |frame, before, here| frame * here.frames / before.frames,
                 ..RIGHT
             },
         ),

@@ -3,7 +3,7 @@ use mathlib.Core.Path.{_≡_, refl, sym, _∙_, ap, subst}
 use mathlib.Core.Bool.{Bool, true, false}
 use mathlib.Core.Logic.{_⊎_, ⊎-elim}
 use Prim.Native.Nat.{ℕ, zero, suc, _+_, _-_, _*_, _%_, _<_, _≤_}
-use native.Mathlib.Nat.{mod-lt, mod-eq-of-lt, mod-self, sub-zero, add-mod-right, mod-eq-sub-mod, mod-add-mod, div-lt-iff-lt-mul, mul-lt-mul-of-pos-right, mul-comm, add-assoc, eq-or-lt-of-le}
+use native.Mathlib.Nat.{mod-lt, mod-eq-of-lt, mod-self, sub-zero, add-mod-right, mod-eq-sub-mod, mod-add-mod, div-lt-iff-lt-mul, mul-le-mul-right, mul-pos, mul-comm, add-assoc, eq-or-lt-of-le}
 use native.Mathlib.Decide.{decLt}
 use native.Mathlib.Omega.{arith}
 use lib.Dec.{leb, ltb}
@@ -91,7 +91,8 @@ hold-unique K r i D h l e = hold-only K r i D (record { least = h; most = omega 
 pub reference-lt : (k K K′ : ℕ) → 0 < K → k < K′ → reference k K K′ < K
 unfolding reference
 reference-lt k K K′ p h =
-    div-lt-iff-lt-mul {k = K′} {x = k * K} {y = K} (omega arith) .1 (rw (mul-comm K K′) (mul-lt-mul-of-pos-right h p))
+    let q : 0 < K′ = omega arith in
+    div-lt-iff-lt-mul {k = K′} {y = K} q .1 (omega (arith, mul-le-mul-right K h, mul-comm K K′, mul-pos p q))
 
 -- the hold by one remainder
 module _ (k K K′ i f : ℕ) (e : f ≡ reference k K K′) (h : k < K′) (l : i < K) where

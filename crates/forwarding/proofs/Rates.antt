@@ -1,20 +1,83 @@
--- The reference frame at equal rates and where rates change: rules F-i to F-iii of source document 002. Assumes nothing.
+-- The reference frame at equal rates and where rates change, and that it waits for the whole frame (W-201). Assumes nothing.
 use mathlib.Core.Path.{_≡_, sym, _∙_, ap}
-use Prim.Native.Nat.{ℕ, _*_, _/_, _<_}
-use native.Mathlib.Nat.{mul-div-left, mul-div-mul-right, mul-assoc}
-use Rattle.forwarding.specs.Forwarding.{reference}
+use Prim.Native.Nat.{ℕ, _+_, _-_, _*_, _/_, _<_, _≤_}
+use native.Mathlib.Nat.{div-eq-of-lt-le, div-div-eq-div-mul, div-mul-le-self, lt-div-mul-add, le-div-iff-mul-le, mul-assoc, mul-comm, mul-right-comm, add-mul, zero-mul, one-mul, mul-le-mul-right, mul-lt-mul-of-pos-right, le-of-mul-le-mul-right, lt-of-mul-lt-mul-right, div-add-mod'}
+use native.Mathlib.Omega.{arith}
+use Rattle.forwarding.specs.declared.Hop.{Hop}
+use Rattle.forwarding.specs.Forwarding.{reference, leastHold, hold, frameTime, holdInto}
+use Rattle.forwarding.specs.Checked.{Passed}
 
--- F-i, equal rates: the frame of the same number
+next-mul : (k K : ℕ) → (k + 1) * K ≡ k * K + K
+next-mul k K = add-mul k 1 K ∙ ap (λ (x : ℕ). k * K + x) (one-mul K)
+
+-- F-i of source document 002, equal rates: the frame of the same number
 pub same-rate : (k K : ℕ) → 0 < K → reference k K K ≡ k
 unfolding reference
-same-rate k K p = mul-div-left k p
+same-rate k K p = div-eq-of-lt-le K (omega (arith, next-mul k K)) (omega (arith, next-mul k K))
 
--- F-ii, from slow to fast: the first of the m frames that the frame covers
-pub to-faster : (k m K′ : ℕ) → 0 < K′ → reference k (m * K′) K′ ≡ k * m
+-- W-201 in the place of F-ii, from slow to fast: the last of the m frames that the frame covers
+pub to-faster : (k m K′ : ℕ) → 0 < K′ → 0 < m → reference k (m * K′) K′ ≡ (k + 1) * m - 1
 unfolding reference
-to-faster k m K′ p = ap (λ (x : ℕ). x / K′) (sym (mul-assoc k m K′)) ∙ mul-div-left (k * m) p
+to-faster k m K′ p q =
+    let r : ℕ = (k + 1) * m - 1 in
+    let e : r + 1 ≡ (k + 1) * m = omega (arith, next-mul k m) in
+    ap (λ (x : ℕ). (x - 1) / K′) (sym (mul-assoc (k + 1) m K′) ∙ ap (λ (x : ℕ). x * K′) (sym e)) ∙ same-rate r K′ p
 
 -- F-iii, from fast to slow: the frame that covers it
 pub to-slower : (k m K : ℕ) → 0 < K → reference k K (m * K) ≡ k / m
 unfolding reference
-to-slower k m K p = mul-div-mul-right k m p
+to-slower k m K p =
+    ap (λ (x : ℕ). ((k + 1) * K - 1) / x) (mul-comm m K)
+    ∙ sym (div-div-eq-div-mul ((k + 1) * K - 1) K m)
+    ∙ ap (λ (x : ℕ). x / m) (same-rate k K p)
+
+-- "slow to fast moves later": document 01 named the first of the m frames
+pub to-faster-later : (k m K′ : ℕ) → 0 < K′ → 1 < m → k * m < reference k (m * K′) K′
+to-faster-later k m K′ p q = omega (arith, to-faster k m K′ p (omega arith), next-mul k m)
+
+-- NO REFERENCE FRAME COMES EARLIER than by document 01, whatever the rates
+pub never-earlier : (k K K′ : ℕ) → 0 < K → 0 < K′ → k * K / K′ ≤ reference k K K′
+unfolding reference
+never-earlier k K K′ p q = le-div-iff-mul-le q .1 (omega (arith, div-mul-le-self (k * K) K′, next-mul k K))
+
+-- a cycle is K frames
+cycle-of : (T : ℕ) (h : Hop) → Passed T h → frameTime T (h .frames) * h .frames ≡ T
+unfolding frameTime
+cycle-of T h p = omega (arith, div-add-mod' T (h .frames), p .divides)
+
+-- two adjacent hops, for a cycle of T ticks: frame k of the first ends at tick (k + 1) × T / K', frame j of the second begins at tick j × T / K
+module _ (T : ℕ) (g h : Hop) (k : ℕ) (pg : Passed T g) (ph : Passed T h) where
+  abbrev r : ℕ
+  r = reference k (h .frames) (g .frames)
+
+  -- how long a frame of the first hop lasts
+  abbrev time : ℕ
+  time = frameTime T (g .frames)
+
+  -- either is y cycles
+  y-cycles : (y : ℕ) → y * g .frames * time ≡ y * frameTime T (h .frames) * h .frames
+  y-cycles y =
+      mul-assoc y (g .frames) time
+      ∙ ap (λ (x : ℕ). y * x) (mul-comm (g .frames) time ∙ cycle-of T g pg ∙ sym (cycle-of T h ph))
+      ∙ sym (mul-assoc y (frameTime T (h .frames)) (h .frames))
+
+  -- "The new switches send nothing of a frame before its last bit has arrived": whatever frame i the hold leads to, it begins no earlier
+  pub whole-frame : (i : ℕ)
+      → (k + 1) * frameTime T (g .frames) ≤ (reference k (h .frames) (g .frames) + holdInto (g .frames) h k i) * frameTime T (h .frames)
+  unfolding reference leastHold hold holdInto
+  whole-frame i =
+      let y : ℕ = r + holdInto (g .frames) h k i in
+      let later : (r + 1) * g .frames ≤ y * g .frames = mul-le-mul-right (g .frames) (omega arith) in
+      let whole : (k + 1) * h .frames ≤ y * g .frames = omega (arith, later, next-mul r (g .frames), lt-div-mul-add {a = (k + 1) * h .frames - 1} (pg .some-frame)) in
+      le-of-mul-le-mul-right
+      (omega (arith, mul-le-mul-right time whole, y-cycles y, mul-right-comm (k + 1) (h .frames) time))
+      (ph .some-frame)
+
+  -- and the reference frame is the first that will do: when it begins, the last bit has not arrived
+  pub not-yet-whole : 0 < T → reference k (h .frames) (g .frames) * frameTime T (h .frames) < (k + 1) * frameTime T (g .frames)
+  unfolding reference
+  not-yet-whole t =
+      let early : r * g .frames < (k + 1) * h .frames = omega (arith, div-mul-le-self ((k + 1) * h .frames - 1) (g .frames), next-mul k (h .frames), ph .some-frame) in
+      let lasts : 0 < time = lt-of-mul-lt-mul-right (g .frames) {m = 0} (omega (arith, zero-mul (g .frames), cycle-of T g pg, t)) in
+      lt-of-mul-lt-mul-right (h .frames)
+      (omega (arith, mul-lt-mul-of-pos-right early lasts, y-cycles r, mul-right-comm (k + 1) (h .frames) time))

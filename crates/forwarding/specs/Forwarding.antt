@@ -1,4 +1,4 @@
--- Document 01, "Forwarding": the reference frame, the hold and the delay, and the transitions into a hop. Assumes nothing.
+-- Document 01, "Forwarding", and W-201: the reference frame, the hold and the delay, and the transitions into a hop. Assumes nothing.
 use mathlib.Core.Path.{_≡_}
 use mathlib.Core.Bool.{Bool, _&&_}
 use Prim.Native.Nat.{ℕ, _+_, _-_, _*_, _/_, _%_, _<_}
@@ -7,9 +7,9 @@ use Rattle.trellis.specs.Trellis.{Stage}
 use Rattle.words.specs.Word.{bitOf}
 use Rattle.forwarding.specs.declared.Hop.{Hop}
 
--- the reference frame: from frame k of a link with K′ frames to a link with K, "r = floor(k × K / K') (rules F-i to F-iii of 002)"
+-- the reference frame, from frame k of a link with K′ frames to a link with K: "becomes floor(((k + 1) × K − 1) / K')" (W-201, for 01's floor(k × K / K'))
 unfoldable pub reference : ℕ → ℕ → ℕ → ℕ
-reference k K K′ = k * K / K′
+reference k K K′ = ((k + 1) * K - 1) / K′
 
 -- the least hold: "000 lets holds start at 0; here they start at 1"
 unfoldable pub leastHold : ℕ

@@ -1,4 +1,4 @@
--- Document 01, "Question four": the starred cases, for a cycle of 48 ticks. Assumes nothing.
+-- Document 01, "Question four": the starred cases, for a cycle of 48 ticks, with the answers of W-201. Assumes nothing.
 use mathlib.Core.Bool.{Bool, true, false, _||_}
 use mathlib.Core.List.{List, [], _∷_}
 use Prim.Native.Nat.{ℕ}
@@ -35,7 +35,7 @@ C = link 16 4
 abbrev D : (ℕ → Bool) → Hop
 D = link 4 2
 
--- the answers have delay, count and frames; blocked has the count
+-- the answers have delay, count and frames; blocked has the count. W-201: "A{3} C{7} is now refused as blocked, A{3} C{10} has delay 9 and A{3} C{11} has delay 12"
 unfoldable pub starred : List Case
 starred =
     case (A all ∷ []) (found 0 0 (0 ∷ []))
@@ -48,9 +48,9 @@ starred =
     ∷ case (A (only (1 ∷ 2 ∷ [])) ∷ A (only (3 ∷ [])) ∷ []) (found 6 2 (2 ∷ 3 ∷ []))
     ∷ case (A (only (0 ∷ [])) ∷ A (only (1 ∷ 2 ∷ [])) ∷ A (only (4 ∷ [])) ∷ []) (found 24 3 (0 ∷ 2 ∷ 4 ∷ []))
     ∷ case (A (only (0 ∷ [])) ∷ A (only (1 ∷ 2 ∷ [])) ∷ A (only (3 ∷ [])) ∷ []) (found 18 4 (0 ∷ 2 ∷ 3 ∷ []))
-    ∷ case (A (only (3 ∷ [])) ∷ C (only (7 ∷ [])) ∷ []) (found 3 1 (3 ∷ 7 ∷ []))
-    ∷ case (A (only (3 ∷ [])) ∷ C (only (10 ∷ [])) ∷ []) (found 12 1 (3 ∷ 10 ∷ []))
-    ∷ case (A (only (3 ∷ [])) ∷ C (only (11 ∷ [])) ∷ []) (blocked 0)
+    ∷ case (A (only (3 ∷ [])) ∷ C (only (7 ∷ [])) ∷ []) (blocked 0)
+    ∷ case (A (only (3 ∷ [])) ∷ C (only (10 ∷ [])) ∷ []) (found 9 1 (3 ∷ 10 ∷ []))
+    ∷ case (A (only (3 ∷ [])) ∷ C (only (11 ∷ [])) ∷ []) (found 12 1 (3 ∷ 11 ∷ []))
     ∷ case (A (only (3 ∷ [])) ∷ C (only (6 ∷ [])) ∷ []) (blocked 0)
     ∷ case (A (only (4 ∷ 5 ∷ [])) ∷ D (only (3 ∷ [])) ∷ []) (found 12 2 (4 ∷ 3 ∷ []))
     ∷ []

@@ -1,4 +1,4 @@
-// Forwarding (document 01): holds, delays and reference frames of the hops of a route.
+// Forwarding (document 01, with the reference frame of W-201): holds, delays and reference frames of the hops of a route.
 ghost use mathlib.Core.Path.{_≡_};
 ghost use Prim.Native.Nat.{_+_, _*_, _<_, _≤_};
 ghost use Rattle.forwarding.specs.Forwarding.{reference, hold, frameTime, Delayed};
@@ -17,13 +17,13 @@ pub struct Hop {
     pub free: u64,
 }
 
-// The reference frame, on a link with `frames` frames, of frame k of the hop before, which has `before` frames.
+// The reference frame, on a link with `frames` frames, of frame k of the hop before, which has `before` frames: the one in which k's last bit arrives.
 // Check 7 bounds both links' frames; k is a frame of the hop before.
 pub fn reference_frame(k: u16, frames: u16, before: u16) -> u16
     requires { ⌜ (k < before) × (before ≤ 64) × (0 < frames) × (frames ≤ 64) ⌝ }
     ensures { λ r. ⌜ r ≡ reference k frames before ⌝ }
 {
-    k * frames / before
+    ((k + 1) * frames - 1) / before
 }
 
 // The hold from frame k of a hop with `before` frames to frame i of a link with `frames` frames: from 1 to the link's frames.

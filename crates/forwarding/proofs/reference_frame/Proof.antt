@@ -1,15 +1,24 @@
 -- `forwarding::reference_frame` meets its contract. Assumes nothing.
 use borrow.Author.Needs.{needs}
-use native.Mathlib.Nat.{mul-le-mul}
+use Prim.Native.Nat.{_+_}
+use native.Mathlib.Nat.{mul-le-mul, mul-pos}
 use native.Mathlib.Omega.{arith}
 use Rattle.forwarding.specs.Forwarding.{reference}
 use Rattle.forwarding.proofs.reference_frame.Statement.{statement}
 use Rattle.forwarding.proofs.reference_frame.Tie as tie
 
+add-result : tie.Need-add-result
+add-result c = search needs
+
 mul-result : tie.Need-mul-result
 mul-result c =
     let a = c .args in
-    record { fits = omega (arith, mul-le-mul {n₁ = a .k} {m₁ = a .frames} {n₂ = 64} {m₂ = 64} (omega arith) (omega arith)) }
+    record { fits = omega (arith, mul-le-mul {n₁ = a .k + 1} {m₁ = a .frames} {n₂ = 64} {m₂ = 64} (omega arith) (omega arith)) }
+
+sub-result : tie.Need-sub-result
+sub-result c =
+    let a = c .args in
+    omega (arith, mul-pos {m = a .k + 1} {n = a .frames} (omega arith) (omega arith))
 
 div-result : tie.Need-div-result
 div-result c = search needs
@@ -19,4 +28,4 @@ unfolding reference
 returns c = search needs
 
 pub reference-frame-spec : {M : Type 1} → statement M
-reference-frame-spec = tie.close (tie.spec mul-result div-result returns)
+reference-frame-spec = tie.close (tie.spec add-result mul-result sub-result div-result returns)
