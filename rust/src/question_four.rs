@@ -1,7 +1,7 @@
-//! The cases of the document's question four, with the answers of W-201 from slow to fast, for both searches.
+//! The cases of the document's question four, with the answers of W-201 from slow to fast, for every search.
 
 use crate::route::{ones, Answer, Hop};
-use crate::{dijkstra, listing};
+use crate::{dijkstra, listing, survivors};
 
 const T: u32 = 48;
 const ALL: &[u32] = &[0, 1, 2, 3, 4, 5, 6, 7];
@@ -32,22 +32,35 @@ pub fn four(free: &[u32]) -> Hop {
     link(4, 2, free)
 }
 
-/// Both searches find these frames with this delay and count.
-fn found(hops: &[Hop], frames: &[u8], delay: u32, count: u32) {
-    let expected = Answer::Found {
-        delay,
-        count,
-        frames: frames.to_vec(),
-    };
-    assert_eq!(listing::least(T, hops), expected);
-    assert_eq!(dijkstra::least(T, hops), expected);
+/// Every search gives this answer.
+fn answered(hops: &[Hop], expected: Answer) {
+    let searches: [fn(u32, &[Hop]) -> Answer; 4] = [
+        listing::least,
+        dijkstra::least,
+        survivors::least,
+        survivors::least_by_comparison,
+    ];
+    for search in searches {
+        assert_eq!(search(T, hops), expected);
+    }
 }
 
-/// Both searches find nothing, with this count.
+/// Every search finds these frames with this delay and count.
+fn found(hops: &[Hop], frames: &[u8], delay: u32, count: u32) {
+    let frames = frames.to_vec();
+    answered(
+        hops,
+        Answer::Found {
+            delay,
+            count,
+            frames,
+        },
+    );
+}
+
+/// Every search finds nothing, with this count.
 fn blocked(hops: &[Hop], count: u32) {
-    let expected = Answer::Blocked { count };
-    assert_eq!(listing::least(T, hops), expected);
-    assert_eq!(dijkstra::least(T, hops), expected);
+    answered(hops, Answer::Blocked { count });
 }
 
 #[test]
