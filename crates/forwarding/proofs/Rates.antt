@@ -1,11 +1,12 @@
 -- The reference frame at equal rates and where rates change, and that it waits for the whole frame (W-201). Assumes nothing.
 use mathlib.Core.Path.{_≡_, sym, _∙_, ap}
 use Prim.Native.Nat.{ℕ, _+_, _-_, _*_, _/_, _<_, _≤_}
-use native.Mathlib.Nat.{div-eq-of-lt-le, div-div-eq-div-mul, div-mul-le-self, lt-div-mul-add, le-div-iff-mul-le, mul-assoc, mul-comm, mul-right-comm, add-mul, zero-mul, one-mul, mul-le-mul-right, mul-lt-mul-of-pos-right, le-of-mul-le-mul-right, lt-of-mul-lt-mul-right, div-add-mod'}
+use native.Mathlib.Nat.{div-eq-of-lt-le, div-div-eq-div-mul, div-mul-le-self, lt-div-mul-add, le-div-iff-mul-le, mul-assoc, mul-comm, mul-right-comm, add-mul, zero-mul, one-mul, mul-le-mul-right, mul-lt-mul-of-pos-right, le-of-mul-le-mul-right, lt-of-mul-lt-mul-right}
 use native.Mathlib.Omega.{arith}
 use Rattle.forwarding.specs.declared.Hop.{Hop}
 use Rattle.forwarding.specs.Forwarding.{reference, leastHold, hold, frameTime, holdInto}
 use Rattle.forwarding.specs.Checked.{Passed}
+use Rattle.forwarding.proofs.Transitions.{cycle-frames}
 
 next-mul : (k K : ℕ) → (k + 1) * K ≡ k * K + K
 next-mul k K = add-mul k 1 K ∙ ap (λ (x : ℕ). k * K + x) (one-mul K)
@@ -40,11 +41,6 @@ pub never-earlier : (k K K′ : ℕ) → 0 < K → 0 < K′ → k * K / K′ ≤
 unfolding reference
 never-earlier k K K′ p q = le-div-iff-mul-le q .1 (omega (arith, div-mul-le-self (k * K) K′, next-mul k K))
 
--- a cycle is K frames
-cycle-of : (T : ℕ) (h : Hop) → Passed T h → frameTime T (h .frames) * h .frames ≡ T
-unfolding frameTime
-cycle-of T h p = omega (arith, div-add-mod' T (h .frames), p .divides)
-
 -- two adjacent hops, for a cycle of T ticks: frame k of the first ends at tick (k + 1) × T / K', frame j of the second begins at tick j × T / K
 module _ (T : ℕ) (g h : Hop) (k : ℕ) (pg : Passed T g) (ph : Passed T h) where
   abbrev r : ℕ
@@ -58,7 +54,7 @@ module _ (T : ℕ) (g h : Hop) (k : ℕ) (pg : Passed T g) (ph : Passed T h) whe
   y-cycles : (y : ℕ) → y * g .frames * time ≡ y * frameTime T (h .frames) * h .frames
   y-cycles y =
       mul-assoc y (g .frames) time
-      ∙ ap (λ (x : ℕ). y * x) (mul-comm (g .frames) time ∙ cycle-of T g pg ∙ sym (cycle-of T h ph))
+      ∙ ap (λ (x : ℕ). y * x) (mul-comm (g .frames) time ∙ cycle-frames T (g .frames) (pg .divides) ∙ sym (cycle-frames T (h .frames) (ph .divides)))
       ∙ sym (mul-assoc y (frameTime T (h .frames)) (h .frames))
 
   -- "The new switches send nothing of a frame before its last bit has arrived": whatever frame i the hold leads to, it begins no earlier
@@ -78,6 +74,6 @@ module _ (T : ℕ) (g h : Hop) (k : ℕ) (pg : Passed T g) (ph : Passed T h) whe
   unfolding reference
   not-yet-whole t =
       let early : r * g .frames < (k + 1) * h .frames = omega (arith, div-mul-le-self ((k + 1) * h .frames - 1) (g .frames), next-mul k (h .frames), ph .some-frame) in
-      let lasts : 0 < time = lt-of-mul-lt-mul-right (g .frames) {m = 0} (omega (arith, zero-mul (g .frames), cycle-of T g pg, t)) in
+      let lasts : 0 < time = lt-of-mul-lt-mul-right (g .frames) {m = 0} (omega (arith, zero-mul (g .frames), cycle-frames T (g .frames) (pg .divides), t)) in
       lt-of-mul-lt-mul-right (h .frames)
       (omega (arith, mul-lt-mul-of-pos-right early lasts, y-cycles r, mul-right-comm (k + 1) (h .frames) time))

@@ -12,12 +12,17 @@ use Rattle.forwarding.specs.Forwarding.{reference, delay, frameTime, Del
 use Rattle.forwarding.specs.Checked.{Passed}
 use Rattle.forwarding.proofs.Holds.{count-holds}
 
--- where K divides T, a delay is the hold times a frame's time
+-- where K divides T, K frames are a cycle
+pub cycle-frames : (T K : ℕ) → T % K ≡ 0 → frameTime T K * K ≡ T
+unfolding frameTime
+cycle-frames T K e = omega (arith, div-add-mod' T K, e)
+
+-- and a delay is the hold times a frame's time
 pub delay-frames : (T K D : ℕ) → 0 < K → T % K ≡ 0 → delay T K D ≡ D * frameTime T K
 unfolding delay frameTime
 delay-frames T K D p e =
     let q : ℕ = T / K in
-    let t : T ≡ K * q = omega (arith, div-add-mod' T K, mul-comm (T / K) K) in
+    let t : T ≡ K * q = sym (cycle-frames T K e) ∙ mul-comm q K in
     ap (λ (x : ℕ). x / K) (ap (λ (x : ℕ). D * x) t ∙ sym (mul-assoc D K q) ∙ ap (λ (x : ℕ). x * q) (mul-comm D K) ∙ mul-assoc K D q)
     ∙ mul-div-cancel-left (D * q) p
 
