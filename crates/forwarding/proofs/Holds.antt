@@ -8,8 +8,8 @@ use native.Mathlib.Decide.{decLt}
 use native.Mathlib.Omega.{arith}
 use lib.Dec.{leb, ltb}
 use borrow.Author.Tests.{leb-true, leb-false, lt-ltb, le-ltb}
-use Rattle.trellis.specs.Count.{oneIf, sumBelow, countBelow}
-use Rattle.trellis.proofs.Count.{sum-cong, sum-split, count-all}
+use Rattle.lists.specs.Count.{oneIf, sumBelow, countBelow}
+use Rattle.lists.proofs.Count.{sum-cong, sum-split, count-all}
 use Rattle.forwarding.specs.Forwarding.{reference, leastHold, gap, hold}
 
 -- D leads from the reference frame r to the frame i of a link with K frames, and is one of the K numbers from the least hold on

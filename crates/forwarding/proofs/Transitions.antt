@@ -5,8 +5,8 @@ use Prim.Native.Nat.{ℕ, _*_, _/_, _%_, _<_, _≤_}
 use native.Mathlib.Nat.{le-trans, div-le-of-le-mul, mul-le-mul-right, mul-comm, mul-assoc, mul-div-cancel-left, div-add-mod', le-of-eq}
 use native.Mathlib.Omega.{arith}
 use borrow.Author.Tests.{leb-true, le-leb}
-use Rattle.trellis.specs.Count.{oneIf, countBelow}
-use Rattle.trellis.proofs.Count.{sum-le, and-true, and-left-le}
+use Rattle.lists.specs.Count.{oneIf, countBelow}
+use Rattle.lists.proofs.Count.{sum-le, and-both, and-left-le}
 use Rattle.forwarding.specs.declared.Hop.{Hop}
 use Rattle.forwarding.specs.Forwarding.{reference, delay, frameTime, Delayed, isFree, mayHold, holdInto, stage}
 use Rattle.forwarding.specs.Checked.{Passed}
@@ -45,7 +45,7 @@ hold-may h D l = le-leb D (h .range) l
 pub stage-cap : (T K′ : ℕ) (h : Hop) (k i : ℕ) → Passed T h → stage T K′ h .allowed k i ≡ true → stage T K′ h .cost k i ≤ T
 stage-cap T K′ h k i p a =
     delay-le T (h .frames) (holdInto K′ h k i)
-    (le-trans (may-hold h (holdInto K′ h k i) (and-true (mayHold h (holdInto K′ h k i)) (isFree h i) a .0)) (p .in-cycle))
+    (le-trans (may-hold h (holdInto K′ h k i) (and-both (mayHold h (holdInto K′ h k i)) (isFree h i) a .0)) (p .in-cycle))
 
 -- from a frame at most Z frames of the next hop are led to
 pub stage-narrow : (T K′ : ℕ) (h : Hop) (k : ℕ) → Passed T h → countBelow (h .frames) (λ i. stage T K′ h .allowed k i) ≤ h .range

@@ -1,4 +1,8 @@
 pub mod Forwarding
+pub mod Hops
+pub mod Rates
 pub mod Schedule
-pub mod Checked
+pub mod Route
+pub mod Answers
 pub mod QuestionFour
+pub mod Inner

@@ -1,12 +1,15 @@
 -- Document 01, "Question four": the starred cases, for a cycle of 48 ticks, with the answers of W-201. Assumes nothing.
+use mathlib.Core.Path.{_≡_}
 use mathlib.Core.Bool.{Bool, true, false, _||_}
-use mathlib.Core.List.{List, [], _∷_}
+use mathlib.Core.List.{List, [], _∷_, List·Memᴰ}
 use Prim.Native.Nat.{ℕ}
 use lib.Dec.{eqb}
 use Rattle.trellis.specs.Answer.{Answer, found, blocked}
 use Rattle.words.specs.Word.{wordOf}
 use Rattle.forwarding.specs.declared.Hop.{Hop}
+use Rattle.forwarding.specs.Route.{routeAnswer}
 
+-- a route, and its answer: delay, count and frames, or blocked (18) with the count
 pub record Case : Type 0 where
   pub route : List Hop
   pub expected : Answer
@@ -14,20 +17,31 @@ pub record Case : Type 0 where
 abbrev case : List Hop → Answer → Case
 case hops a = record { route = hops; expected = a }
 
--- "Braces name the only free frames"; `all` is every frame free
-abbrev only : List ℕ → ℕ → Bool
-only [] i = false
-only (j ∷ js) i = eqb i j || only js i
-
+-- "Braces name the only free frames": none, one or two; `all` is every frame free
 abbrev all : ℕ → Bool
 all i = true
+
+abbrev none : ℕ → Bool
+none i = false
+
+abbrev one : ℕ → ℕ → Bool
+one j i = eqb i j
+
+abbrev two : ℕ → ℕ → ℕ → Bool
+two j k i = eqb i j || eqb i k
 
 abbrev link : ℕ → ℕ → (ℕ → Bool) → Hop
 link K Z free = record { frames = K; range = Z; free = wordOf K free }
 
--- "links A, B, E have K 8, Z 2; C 16, 4; D 4, 2": B and E are links like A
+-- "links A, B, E have K 8, Z 2; C 16, 4; D 4, 2"
 abbrev A : (ℕ → Bool) → Hop
 A = link 8 2
+
+abbrev B : (ℕ → Bool) → Hop
+B = A
+
+abbrev E : (ℕ → Bool) → Hop
+E = A
 
 abbrev C : (ℕ → Bool) → Hop
 C = link 16 4
@@ -35,22 +49,34 @@ C = link 16 4
 abbrev D : (ℕ → Bool) → Hop
 D = link 4 2
 
--- the answers have delay, count and frames; blocked has the count. W-201: "A{3} C{7} is now refused as blocked, A{3} C{10} has delay 9 and A{3} C{11} has delay 12"
+-- "with Z 8 on B"
+abbrev B8 : (ℕ → Bool) → Hop
+B8 = link 8 8
+
+-- what the document does not give: computed by its rules
+abbrev computed {ℓ} : {A : Type ℓ} → A → A
+computed x = x
+
+-- row by row as in the document; W-201: "A{3} C{7} is now refused as blocked, A{3} C{10} has delay 9 and A{3} C{11} has delay 12"
 unfoldable pub starred : List Case
 starred =
     case (A all ∷ []) (found 0 0 (0 ∷ []))
-    ∷ case (A (only []) ∷ []) (blocked 0)
-    ∷ case (A all ∷ A all ∷ []) (found 6 16 (7 ∷ 0 ∷ []))
-    ∷ case (A (only (3 ∷ [])) ∷ A (only (5 ∷ [])) ∷ []) (found 12 1 (3 ∷ 5 ∷ []))
-    ∷ case (A (only (3 ∷ [])) ∷ A (only (6 ∷ [])) ∷ []) (blocked 0)
-    ∷ case (A (only (3 ∷ [])) ∷ A (only (3 ∷ [])) ∷ []) (blocked 0)
-    ∷ case (A (only (3 ∷ [])) ∷ link 8 8 (only (3 ∷ [])) ∷ []) (found 48 1 (3 ∷ 3 ∷ []))
-    ∷ case (A (only (1 ∷ 2 ∷ [])) ∷ A (only (3 ∷ [])) ∷ []) (found 6 2 (2 ∷ 3 ∷ []))
-    ∷ case (A (only (0 ∷ [])) ∷ A (only (1 ∷ 2 ∷ [])) ∷ A (only (4 ∷ [])) ∷ []) (found 24 3 (0 ∷ 2 ∷ 4 ∷ []))
-    ∷ case (A (only (0 ∷ [])) ∷ A (only (1 ∷ 2 ∷ [])) ∷ A (only (3 ∷ [])) ∷ []) (found 18 4 (0 ∷ 2 ∷ 3 ∷ []))
-    ∷ case (A (only (3 ∷ [])) ∷ C (only (7 ∷ [])) ∷ []) (blocked 0)
-    ∷ case (A (only (3 ∷ [])) ∷ C (only (10 ∷ [])) ∷ []) (found 9 1 (3 ∷ 10 ∷ []))
-    ∷ case (A (only (3 ∷ [])) ∷ C (only (11 ∷ [])) ∷ []) (found 12 1 (3 ∷ 11 ∷ []))
-    ∷ case (A (only (3 ∷ [])) ∷ C (only (6 ∷ [])) ∷ []) (blocked 0)
-    ∷ case (A (only (4 ∷ 5 ∷ [])) ∷ D (only (3 ∷ [])) ∷ []) (found 12 2 (4 ∷ 3 ∷ []))
+    ∷ case (A none ∷ []) (blocked 0)
+    ∷ case (A all ∷ B all ∷ []) (found 6 16 (7 ∷ 0 ∷ []))
+    ∷ case (A (one 3) ∷ B (one 5) ∷ []) (found 12 1 (3 ∷ 5 ∷ []))
+    ∷ case (A (one 3) ∷ B (one 6) ∷ []) (blocked (computed 0))
+    ∷ case (A (one 3) ∷ B (one 3) ∷ []) (blocked (computed 0))
+    ∷ case (A (one 3) ∷ B8 (one 3) ∷ []) (found 48 (computed 1) (computed (3 ∷ 3 ∷ [])))
+    ∷ case (A (two 1 2) ∷ B (one 3) ∷ []) (found 6 2 (2 ∷ 3 ∷ []))
+    ∷ case (A (one 0) ∷ B (two 1 2) ∷ E (one 4) ∷ []) (found 24 3 (0 ∷ 2 ∷ 4 ∷ []))
+    ∷ case (A (one 0) ∷ B (two 1 2) ∷ E (one 3) ∷ []) (found 18 4 (0 ∷ 2 ∷ 3 ∷ []))
+    ∷ case (A (one 3) ∷ C (one 7) ∷ []) (blocked (computed 0))
+    ∷ case (A (one 3) ∷ C (one 10) ∷ []) (found 9 (computed 1) (computed (3 ∷ 10 ∷ [])))
+    ∷ case (A (one 3) ∷ C (one 11) ∷ []) (found 12 (computed 1) (computed (3 ∷ 11 ∷ [])))
+    ∷ case (A (one 3) ∷ C (one 6) ∷ []) (blocked (computed 0))
+    ∷ case (A (two 4 5) ∷ D (one 3) ∷ []) (found 12 2 (4 ∷ 3 ∷ []))
     ∷ []
+
+-- THE STARRED CASES: each answer of the table is the rule's
+abbrev pub StarredRight : Type 0
+StarredRight = (c : Case) → List·Memᴰ c starred → routeAnswer 48 (c .route) ≡ c .expected

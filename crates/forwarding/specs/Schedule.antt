@@ -1,74 +1,99 @@
--- Document 01, "Least-delay schedule": the trellis of a route, its schedules and the answer. Assumes nothing.
+-- Document 01, "Least-delay schedule", in its own words: schedules, their delay, their order, and the transitions considered. Assumes nothing.
 use mathlib.Core.Path.{_≡_}
-use mathlib.Core.Bool.{Bool, true, false}
-use mathlib.Core.List.{List, [], _∷_}
-use Prim.Native.Nat.{ℕ, _+_, _*_, _≤_}
-use Rattle.trellis.specs.Trellis.{Reach, never, after, Stage, Trellis, entry}
-use Rattle.trellis.specs.Considered.{considered}
-use Rattle.trellis.specs.Answer.{Answer, answer}
-use Rattle.trellis.specs.Walk.{grow, Walk, walks, walkCost, Answers}
+use mathlib.Core.Bool.{Bool, true, false, _&&_}
+use mathlib.Core.List.{List, [], _∷_, _++_, List·Memᴰ}
+use mathlib.Core.Logic.{_↔_}
+use Prim.Native.Nat.{ℕ, suc, _+_, _*_, _<_}
+use lib.Dec.{ltb}
+use lib.ListN.{length, take, getD}
+use Rattle.lists.specs.Order.{Precedes}
+use Rattle.lists.specs.Once.{EachOnce}
 use Rattle.forwarding.specs.declared.Hop.{Hop}
-use Rattle.forwarding.specs.Forwarding.{isFree, stage}
+use Rattle.forwarding.specs.Forwarding.{isFree, holdInto, isAllowed, choices, delay}
+use Rattle.forwarding.specs.Hops.{noHop}
 
--- hop 0: "a free frame at hop 0", at no delay
-abbrev pub startIf : Bool → Reach
-startIf true = after 0
-startIf false = never
+-- on from frame k of the hop g: "an allowed transition into each later hop", to a frame of it
+abbrev pub GoesOn : Hop → ℕ → List Hop → List ℕ → Type 0
+GoesOn g k [] [] = Unit {0}
+GoesOn g k [] (i ∷ is) = ⊥
+GoesOn g k (h ∷ hs) [] = ⊥
+GoesOn g k (h ∷ hs) (i ∷ is) = (i < h .frames) × (isAllowed g h k i ≡ true) × GoesOn h i hs is
 
-abbrev pub starts : Hop → ℕ → Reach
-starts h i = startIf (isFree h i)
+-- A SCHEDULE over the hops of a route, a frame for each, "hop 0 first": "a free frame at hop 0 and an allowed transition into each later hop"
+abbrev pub IsSchedule : List Hop → List ℕ → Type 0
+IsSchedule [] fs = ⊥
+IsSchedule (h ∷ hs) [] = ⊥
+IsSchedule (h ∷ hs) (k ∷ is) = (k < h .frames) × (isFree h k ≡ true) × GoesOn h k hs is
 
--- the later hops: "an allowed transition into each later hop", from a hop with K′ frames on
-abbrev pub stages : ℕ → ℕ → List Hop → List Stage
-stages T K′ [] = []
-stages T K′ (h ∷ hs) = stage T K′ h ∷ stages T (h .frames) hs
+-- the same as tests
+abbrev pub goesOn : Hop → ℕ → List Hop → List ℕ → Bool
+goesOn g k [] [] = true
+goesOn g k [] (i ∷ is) = false
+goesOn g k (h ∷ hs) [] = false
+goesOn g k (h ∷ hs) (i ∷ is) = ltb i (h .frames) && (isAllowed g h k i && goesOn h i hs is)
 
--- the trellis of a route, "hop 0 first", for a cycle of T ticks; a route has a link at least (refusal 12), so none is a trellis without nodes
-abbrev pub routeTrellis : ℕ → List Hop → Trellis
-routeTrellis T [] = entry 0 (λ i. never)
-routeTrellis T (h ∷ hs) = grow (entry (h .frames) (starts h)) (stages T (h .frames) hs)
+abbrev pub isSchedule : List Hop → List ℕ → Bool
+isSchedule [] fs = false
+isSchedule (h ∷ hs) [] = false
+isSchedule (h ∷ hs) (k ∷ is) = ltb k (h .frames) && (isFree h k && goesOn h k hs is)
 
--- a schedule, its frames in the order of the route: "a free frame at hop 0 and an allowed transition into each later hop"
-abbrev pub IsSchedule : ℕ → List Hop → List ℕ → Type 0
-IsSchedule T [] fs = ⊥
-IsSchedule T (h ∷ hs) fs = Walk (h .frames) (starts h) (stages T (h .frames) hs) fs
+abbrev pub TestTells : Type 0
+TestTells = (hops : List Hop) (fs : List ℕ) → (isSchedule hops fs ≡ true) ↔ IsSchedule hops fs
 
--- the same as a test
-abbrev pub isSchedule : ℕ → List Hop → List ℕ → Bool
-isSchedule T [] fs = false
-isSchedule T (h ∷ hs) fs = walks (h .frames) (starts h) (stages T (h .frames) hs) fs
+-- "Its delay is the sum, 0 for one hop", for a cycle of T ticks: the delays of the holds, from frame k of the hop g on
+abbrev pub onwardDelay : ℕ → Hop → ℕ → List Hop → List ℕ → ℕ
+onwardDelay T g k [] is = 0
+onwardDelay T g k (h ∷ hs) [] = 0
+onwardDelay T g k (h ∷ hs) (i ∷ is) = delay T (h .frames) (holdInto g h k i) + onwardDelay T h i hs is
 
--- the delay of a schedule: "Its delay is the sum, 0 for one hop"
 abbrev pub scheduleDelay : ℕ → List Hop → List ℕ → ℕ
 scheduleDelay T [] fs = 0
-scheduleDelay T (h ∷ hs) fs = walkCost (starts h) (stages T (h .frames) hs) fs
+scheduleDelay T (h ∷ hs) [] = 0
+scheduleDelay T (h ∷ hs) (k ∷ is) = onwardDelay T h k hs is
 
--- the count of transitions considered
-abbrev pub transitions : ℕ → List Hop → ℕ
-transitions T hops = considered (routeTrellis T hops)
+-- the last frame, "Then, going back hop by hop, the smaller hold wins, then the smaller preceding frame": back to frame k of the hop g
+abbrev pub goingBack : Hop → ℕ → List Hop → List ℕ → List ℕ
+goingBack g k [] is = k ∷ []
+goingBack g k (h ∷ hs) [] = k ∷ []
+goingBack g k (h ∷ hs) (i ∷ is) = goingBack h i hs is ++ (holdInto g h k i ∷ k ∷ [])
 
--- "It is at most the sum of K of hop j−1 times Z of hop j"
-abbrev pub boundFrom : ℕ → List Hop → ℕ
-boundFrom K′ [] = 0
-boundFrom K′ (h ∷ hs) = K′ * h .range + boundFrom (h .frames) hs
+-- what decides between schedules, the first difference first: the delay, the last frame, the hold into it, the frame before, and so on
+abbrev pub scheduleKey : ℕ → List Hop → List ℕ → List ℕ
+scheduleKey T [] fs = []
+scheduleKey T (h ∷ hs) [] = []
+scheduleKey T (h ∷ hs) (k ∷ is) = scheduleDelay T (h ∷ hs) (k ∷ is) ∷ goingBack h k hs is
+
+-- "The answer is a schedule of least delay. Among equals the smaller last frame wins", and so on: it is first among all
+pub record LeastSchedule (T : ℕ) (hops : List Hop) (fs : List ℕ) : Type 0 where
+  pub schedule : IsSchedule hops fs
+  pub first : (gs : List ℕ) → IsSchedule hops gs → Precedes (scheduleKey T hops fs) (scheduleKey T hops gs)
+
+-- a transition from frame `from` of hop j to frame `to` of hop j + 1
+pub record Transition : Type 0 where
+  pub hop : ℕ
+  pub from : ℕ
+  pub to : ℕ
+
+-- "a frame of hop j−1 that ends some schedule of hops 0 to j−1, and a frame of hop j to which a transition is allowed"
+pub record IsConsidered (hops : List Hop) (x : Transition) : Type 0 where
+  pub later : suc (x .hop) < length hops
+  pub before : List ℕ
+  pub ends : IsSchedule (take (suc (x .hop)) hops) (before ++ (x .from ∷ []))
+  pub frame : x .to < getD hops (suc (x .hop)) noHop .frames
+  pub allowed : isAllowed (getD hops (x .hop) noHop) (getD hops (suc (x .hop)) noHop) (x .from) (x .to) ≡ true
+
+-- "the count of transitions considered": how many there are
+pub record CountOf (hops : List Hop) (n : ℕ) : Type 0 where
+  pub pairs : List Transition
+  pub once : EachOnce pairs
+  pub all : (x : Transition) → List·Memᴰ x pairs ↔ IsConsidered hops x
+  pub number : n ≡ length pairs
+
+-- "It is at most the sum of K of hop j−1 times Z of hop j": from the hop g on (as many holds as Z: `choices`)
+abbrev pub boundFrom : Hop → List Hop → ℕ
+boundFrom g [] = 0
+boundFrom g (h ∷ hs) = g .frames * choices h + boundFrom h hs
 
 abbrev pub transitionBound : List Hop → ℕ
 transitionBound [] = 0
-transitionBound (h ∷ hs) = boundFrom (h .frames) hs
-
--- THE ANSWER of a route over its free frames: the least of all schedules by delay, last frame, then going back hold and preceding frame;
--- or blocked where there is none; with the count of transitions considered
-unfoldable pub routeAnswer : ℕ → List Hop → Answer
-routeAnswer T hops = answer (routeTrellis T hops)
-
--- the same in words: a schedule that is found is the least of all, with its delay; blocked means that there is none; either comes with the count
-abbrev pub RouteAnswer : ℕ → List Hop → Answer → Type 0
-RouteAnswer T [] a = ⊥
-RouteAnswer T (h ∷ hs) a = Answers (h .frames) (starts h) (stages T (h .frames) hs) a
-
--- a schedule with its delay and count, and no schedule has a smaller delay
-pub record Given (T : ℕ) (hops : List Hop) (d n : ℕ) (fs : List ℕ) : Type 0 where
-  pub schedule : IsSchedule T hops fs
-  pub delay-is : scheduleDelay T hops fs ≡ d
-  pub count-is : n ≡ transitions T hops
-  pub least : (gs : List ℕ) → IsSchedule T hops gs → d ≤ scheduleDelay T hops gs
+transitionBound (h ∷ hs) = boundFrom h hs

@@ -1,7 +1,9 @@
 // Forwarding (document 01, with the reference frame of W-201): holds, delays and reference frames of the hops of a route.
 ghost use mathlib.Core.Path.{_≡_};
 ghost use Prim.Native.Nat.{_+_, _*_, _<_, _≤_};
-ghost use Rattle.forwarding.specs.Forwarding.{reference, hold, frameTime, Delayed};
+ghost use Rattle.forwarding.specs.Forwarding.{referenceInto, leastHold, holdInto, choices, frameTime};
+ghost use Rattle.forwarding.specs.Hops.{noHop};
+ghost use Rattle.forwarding.specs.Inner.{Delayed};
 
 // A hold counts frames of the outgoing link.
 // Form: a hold and a delay are tuple structs, so holds of unequal links are never summed as delays.
@@ -17,23 +19,51 @@ pub struct Hop {
     pub free: u64,
 }
 
-// The reference frame, on a link with `frames` frames, of frame k of the hop before, which has `before` frames: the one in which k's last bit arrives.
-// Check 7 bounds both links' frames; k is a frame of the hop before.
-pub fn reference_frame(k: u16, frames: u16, before: u16) -> u16
-    requires { ⌜ (k < before) × (before ≤ 64) × (0 < frames) × (frames ≤ 64) ⌝ }
-    ensures { λ r. ⌜ r ≡ reference k frames before ⌝ }
+// What stands in a place of an array that no hop stands in.
+pub fn no_hop() -> Hop
+    ensures { λ r. ⌜ r ≡ noHop ⌝ }
 {
-    ((k + 1) * frames - 1) / before
+    Hop {
+        frames: 0,
+        range: 0,
+        free: 0,
+    }
 }
 
-// The hold from frame k of a hop with `before` frames to frame i of a link with `frames` frames: from 1 to the link's frames.
-// Check 7 bounds both links' frames; k and i are frames of theirs.
-pub fn hold_into(k: u16, before: u16, frames: u16, i: u16) -> Hold
-    requires { ⌜ (k < before) × (before ≤ 64) × (i < frames) × (frames ≤ 64) ⌝ }
-    ensures { λ r. ⌜ r .0 ≡ hold frames (reference k frames before) i ⌝ }
+// The reference frame, on a hop, of frame k of the hop before: the one in which k's last bit arrives.
+// Check 7 bounds both links' frames; k is a frame of the hop before.
+pub fn reference_frame(k: u16, before: Hop, hop: Hop) -> u16
+    requires { ⌜ (k < before .frames) × (before .frames ≤ 64) × (0 < hop .frames) × (hop .frames ≤ 64) ⌝ }
+    ensures { λ r. ⌜ r ≡ referenceInto before hop k ⌝ }
 {
-    let from = reference_frame(k, frames, before);
-    Hold((i + frames - (from + 1)) % frames + 1)
+    ((k + 1) * hop.frames - 1) / before.frames
+}
+
+// The least hold into a hop.
+pub fn least_hold(hop: Hop) -> u16
+    ensures { λ r. ⌜ r ≡ leastHold hop ⌝ }
+{
+    1
+}
+
+// The number of holds into a hop, from the least to Z. Checks 7 and 8 bound Z.
+pub fn choices(hop: Hop) -> u16
+    requires { ⌜ hop .range ≤ 64 ⌝ }
+    ensures { λ r. ⌜ r ≡ choices hop ⌝ }
+{
+    hop.range + 1 - least_hold(hop)
+}
+
+// The hold from frame k of the hop before to frame i of a hop.
+// Check 7 bounds both links' frames; k and i are frames of theirs.
+pub fn hold_into(k: u16, before: Hop, hop: Hop, i: u16) -> Hold
+    requires { ⌜ (k < before .frames) × (before .frames ≤ 64) × (i < hop .frames) × (hop .frames ≤ 64) ⌝ }
+    ensures { λ r. ⌜ r .0 ≡ holdInto before hop k i ⌝ }
+{
+    let from = reference_frame(k, before, hop);
+    let least = least_hold(hop);
+    let frames = hop.frames;
+    Hold((i + 2 * frames - (from + least)) % frames + least)
 }
 
 // How long a frame of a link lasts: T / K ticks. Check 7: K is not 0.

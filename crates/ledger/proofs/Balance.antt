@@ -8,10 +8,10 @@ use native.Mathlib.Omega.{arith}
 use lib.ListN.{length, length-append}
 use lib.Dec.{eqb}
 use borrow.Author.Tests.{eqb-true, not-false}
-use Rattle.trellis.specs.Count.{oneIf}
+use Rattle.lists.specs.Count.{oneIf}
 use Rattle.trellis.specs.Answer.{found, blocked}
 use Rattle.trellis.specs.Answer as trellis
-use Rattle.trellis.proofs.Count as tests
+use Rattle.lists.proofs.Count as tests
 use Rattle.refusals.specs.Refusals.{Ruling, given, refused, pass}
 use Rattle.network.specs.Network.{Topology}
 use Rattle.forwarding.specs.Schedule.{routeAnswer}
@@ -29,7 +29,7 @@ struck-one : (n : ℕ) (ss : List Session) → numberTwice ss ≡ false → isLi
 unfolding numberTwice
 struck-one n [] h k = absurd (false≢true k)
 struck-one n (s ∷ ss) h k =
-    let both = tests.or-false (any (sameNumber s) ss) (anyTwo sameNumber ss) h in
+    let both = tests.or-neither (any (sameNumber s) ss) (anyTwo sameNumber ss) h in
     go (eqb (s .number) n) refl (both .0) (struck-one n ss (both .1))
   where
     go : (b : Bool) → eqb (s .number) n ≡ b → isLive (s .number) ss ≡ false → (isLive n ss ≡ true → suc (length (keep (otherThan n) ss)) ≡ length ss)

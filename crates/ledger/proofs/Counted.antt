@@ -3,8 +3,8 @@ use mathlib.Core.Path.{_≡_, ap, _∙_}
 use mathlib.Core.Bool.{Bool, not, _&&_}
 use mathlib.Core.List.{List}
 use Prim.Native.Nat.{ℕ}
-use Rattle.trellis.specs.Count.{oneIf, countBelow}
-use Rattle.trellis.proofs.Count.{sum-cong}
+use Rattle.lists.specs.Count.{oneIf, countBelow}
+use Rattle.lists.proofs.Count.{sum-cong}
 use Rattle.words.specs.Word.{bitOf, wordOf, freeAt, freeFrames}
 use Rattle.words.proofs.Words.{bit-below}
 use Rattle.words.proofs.Ones.{free-count}

@@ -6,7 +6,7 @@ use mathlib.Core.List.{List, [], _∷_, _++_, List·Memᴰ, List·Memᴰ·head, 
 use Prim.Native.Nat.{ℕ}
 use lib.Dec.{eqb}
 use borrow.Author.Tests.{not-true}
-use Rattle.trellis.proofs.Count as tests
+use Rattle.lists.proofs.Count as tests
 use Rattle.ledger.specs.Lists.{any}
 use Rattle.ledger.specs.Sessions.{Session}
 use Rattle.ledger.specs.Calls.{Call, SetUp, Quote, Release, Reply, schedule, freed, refusal, Effect, enters, strikes, leaves, effect, otherThan, apply}
@@ -78,7 +78,7 @@ stay-step ss e leaves m h = m
 stay : (steps : List Step) (ss : List Session) (e : Session) → List·Memᴰ e ss → any (acceptedReleaseOf (e .number)) steps ≡ false → List·Memᴰ e (ledgerFrom ss steps)
 stay [] ss e m h = m
 stay (did call r ∷ steps) ss e m h =
-    let both = tests.or-false (isStrikingOf (e .number) (effect call r)) (any (acceptedReleaseOf (e .number)) steps) h in
+    let both = tests.or-neither (isStrikingOf (e .number) (effect call r)) (any (acceptedReleaseOf (e .number)) steps) h in
     stay steps (apply ss (effect call r)) e (stay-step ss e (effect call r) m (both .0)) (both .1)
 
 -- WHAT WAS ENTERED AND KEPT STANDS IN THE LEDGER

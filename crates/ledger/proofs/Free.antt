@@ -5,7 +5,7 @@ use mathlib.Core.List.{List, []}
 use Prim.Native.Nat.{ℕ}
 use lib.Dec.{ltb}
 use borrow.Author.Tests.{not-true}
-use Rattle.trellis.proofs.Count as tests
+use Rattle.lists.proofs.Count as tests
 use Rattle.words.specs.Word.{bitOf, wordOf, freeAt}
 use Rattle.words.proofs.Words.{bit-word}
 use Rattle.words.proofs.Frames.{bit-free}
@@ -28,8 +28,8 @@ module _ (net : Topology) (ss : List Session) (l : ℕ) where
 
   parts : (i : ℕ) → isFree (hopOf net ss l) i ≡ true → (ltb i (linkAt net l .frames) ≡ true) × (not (bitOf (linkAt net l .closed) i) ≡ true) × (not (heldIn ss l i) ≡ true)
   parts i h =
-      let a = tests.and-true (ltb i (linkAt net l .frames)) (not (bitOf (linkAt net l .closed) i) && not (heldIn ss l i)) (sym (free-is i) ∙ h) in
-      let b = tests.and-true (not (bitOf (linkAt net l .closed) i)) (not (heldIn ss l i)) (a .1) in
+      let a = tests.and-both (ltb i (linkAt net l .frames)) (not (bitOf (linkAt net l .closed) i) && not (heldIn ss l i)) (sym (free-is i) ∙ h) in
+      let b = tests.and-both (not (bitOf (linkAt net l .closed) i)) (not (heldIn ss l i)) (a .1) in
       (a .0, b .0, b .1)
 
   pub free-unheld : (i : ℕ) → isFree (hopOf net ss l) i ≡ true → heldIn ss l i ≡ false

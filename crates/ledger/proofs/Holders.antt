@@ -6,7 +6,7 @@ use mathlib.Core.List.{List, [], _∷_, List·Memᴰ, List·Memᴰ·cases-cons, 
 use Prim.Native.Nat.{ℕ}
 use lib.Dec.{eqb}
 use borrow.Author.Tests.{eqb-true}
-use Rattle.trellis.proofs.Count as tests
+use Rattle.lists.proofs.Count as tests
 use Rattle.ledger.specs.Lists.{any, anyTwo}
 use Rattle.ledger.specs.Sessions.{Session, names, holds}
 use Rattle.ledger.specs.Sound.{someFrame, shareFrame, frameTwice}
@@ -18,7 +18,7 @@ named-some p [] fs l i h k = h
 named-some p (r ∷ rs) [] l i h k = h
 named-some p (r ∷ rs) (f ∷ fs) l i h k =
     ⊎-elim
-    (λ w. let both = tests.and-true (eqb r l) (eqb f i) w in
+    (λ w. let both = tests.and-both (eqb r l) (eqb f i) w in
     left-or (p r f) (someFrame p rs fs)
     (subst (λ (x : ℕ). p x f ≡ true) (sym (eqb-true r l (both .0))) (subst (λ (x : ℕ). p l x ≡ true) (sym (eqb-true f i (both .1))) k)))
     (λ w. right-or (p r f) (someFrame p rs fs) (named-some p rs fs l i w k))
@@ -33,7 +33,7 @@ pub one-holder : (ss : List Session) (s u : Session) (l i : ℕ) → frameTwice 
 unfolding frameTwice
 one-holder [] s u l i h m k p q = absurd (List·Memᴰ·not-nil m)
 one-holder (x ∷ ss) s u l i h m k p q =
-    let both = tests.or-false (any (shareFrame x) ss) (anyTwo shareFrame ss) h in
+    let both = tests.or-neither (any (shareFrame x) ss) (anyTwo shareFrame ss) h in
     go (both .0) (List·Memᴰ·cases-cons m) (List·Memᴰ·cases-cons k) (λ a b. one-holder ss s u l i (both .1) a b p q)
   where
     go : any (shareFrame x) ss ≡ false → (s ≡ x) ⊎ List·Memᴰ s ss → (u ≡ x) ⊎ List·Memᴰ u ss → (List·Memᴰ s ss → List·Memᴰ u ss → s ≡ u) → s ≡ u

@@ -7,7 +7,7 @@ use native.Mathlib.Omega.{arith}
 use lib.ListN.{length}
 use lib.Dec.{eqb, leb}
 use borrow.Author.Tests.{eq-eqb, eqb-true, le-leb, leb-true, not-true}
-use Rattle.trellis.proofs.Count as tests
+use Rattle.lists.proofs.Count as tests
 use Rattle.refusals.specs.Refusals.{Ruling, given, refused, pass, refuseIf, orElse}
 use Rattle.refusals.proofs.Refusals.{past, not-refused}
 use Rattle.network.specs.Network.{Topology}
@@ -59,8 +59,8 @@ session-good net s e =
     let fs : List ℕ = s .held .frames in
     let d : ℕ = scheduleDelay T (hopsOf net [] (s .route)) fs in
     let k : Bool = isSchedule T (hopsOf net [] (s .route)) fs in
-    let a = tests.and-true (passes (routeCheck net (s .route))) (k && eqb (s .held .delay) d) e in
-    let b = tests.and-true k (eqb (s .held .delay) d) (a .1) in
+    let a = tests.and-both (passes (routeCheck net (s .route))) (k && eqb (s .held .delay) d) e in
+    let b = tests.and-both k (eqb (s .held .delay) d) (a .1) in
     record {
       route = passes-given (routeCheck net (s .route)) (a .0);
       schedule = told-schedule T (hopsOf net [] (s .route)) fs (b .0);
@@ -74,8 +74,8 @@ good-session net s g =
     let fs : List ℕ = s .held .frames in
     let d : ℕ = scheduleDelay T (hopsOf net [] (s .route)) fs in
     let k : Bool = isSchedule T (hopsOf net [] (s .route)) fs in
-    tests.true-and (passes (routeCheck net (s .route))) (k && eqb (s .held .delay) d) (given-passes (routeCheck net (s .route)) (g .route))
-    (tests.true-and k (eqb (s .held .delay) d) (schedule-told T (hopsOf net [] (s .route)) fs (g .schedule)) (eq-eqb (s .held .delay) d (g .delay)))
+    tests.both-and (passes (routeCheck net (s .route))) (k && eqb (s .held .delay) d) (given-passes (routeCheck net (s .route)) (g .route))
+    (tests.both-and k (eqb (s .held .delay) d) (schedule-told T (hopsOf net [] (s .route)) fs (g .schedule)) (eq-eqb (s .held .delay) d (g .delay)))
 
 -- ---- a state that isn't broken
 pub record Intact (net : Topology) (ss : List Session) : Type 0 where
@@ -93,11 +93,11 @@ intact-is v e =
     let f : Bool = not (frameTwice ss) in
     let g : Bool = all (goodSession net) ss in
     let n : Bool = not (numberTwice ss) in
-    let a = tests.and-true (sound v) (derived v) e in
-    let b = tests.and-true (passes (networkCheck net)) (leb (length ss) 96 && (n && (g && f))) (a .0) in
-    let c = tests.and-true (leb (length ss) 96) (n && (g && f)) (b .1) in
-    let d = tests.and-true n (g && f) (c .1) in
-    let h = tests.and-true g f (d .1) in
+    let a = tests.and-both (sound v) (derived v) e in
+    let b = tests.and-both (passes (networkCheck net)) (leb (length ss) 96 && (n && (g && f))) (a .0) in
+    let c = tests.and-both (leb (length ss) 96) (n && (g && f)) (b .1) in
+    let d = tests.and-both n (g && f) (c .1) in
+    let h = tests.and-both g f (d .1) in
     record {
       network = passes-given (networkCheck net) (b .0);
       few = leb-true (length ss) 96 (c .0);
@@ -109,7 +109,7 @@ intact-is v e =
 pub is-intact : (v : View) → Intact (v .network) (v .live) → intact v ≡ true
 unfolding intact sound goodNetwork fewSessions
 is-intact v i =
-    tests.true-and (sound v) (derived v)
+    tests.both-and (sound v) (derived v)
     (rw (given-passes (networkCheck (v .network)) (i .network), le-leb (length (v .live)) 96 (i .few), i .numbers, i .sessions, i .frames)) refl
 
 pub fresh-intact : (net : Topology) → networkCheck net ≡ given pass → intact (fresh net) ≡ true

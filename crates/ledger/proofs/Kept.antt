@@ -7,7 +7,7 @@ use native.Mathlib.Omega.{arith}
 use lib.ListN.{length, length-append}
 use lib.Dec.{eqb}
 use borrow.Author.Tests.{leb-false}
-use Rattle.trellis.proofs.Count as tests
+use Rattle.lists.proofs.Count as tests
 use Rattle.refusals.specs.Refusals.{Ruling, given, refused, pass}
 use Rattle.network.specs.Network.{Topology}
 use Rattle.forwarding.specs.Schedule.{Given}
@@ -32,8 +32,8 @@ unheld-parts : (s : Session) (ss : List Session) (route fs : List ℕ) → someF
 unheld-parts s ss [] fs h = (refl, refl)
 unheld-parts s ss (l ∷ route) [] h = (refl, refl)
 unheld-parts s ss (l ∷ route) (i ∷ fs) h =
-    let a = tests.or-false (heldIn (s ∷ ss) l i) (someFrame (heldIn (s ∷ ss)) route fs) h in
-    let b = tests.or-false (holds l i s) (heldIn ss l i) (a .0) in
+    let a = tests.or-neither (heldIn (s ∷ ss) l i) (someFrame (heldIn (s ∷ ss)) route fs) h in
+    let b = tests.or-neither (holds l i s) (heldIn ss l i) (a .0) in
     let c = unheld-parts s ss route fs (a .1) in (
       false-or (holds l i s) (someFrame (λ k j. holds k j s) route fs) (b .0) (c .0),
       false-or (heldIn ss l i) (someFrame (heldIn ss) route fs) (b .1) (c .1),
@@ -70,7 +70,7 @@ module _ (net : Topology) (ss : List Session) (h : Intact net ss) where
         network = h .network;
         few = few-more u (a .room);
         numbers = anyTwo-snoc sameNumber ss u ∙ false-or (anyTwo sameNumber ss) (any (λ s. sameNumber s u) ss) (h .numbers) (number-new ss u (a .unused));
-        sessions = all-snoc (goodSession net) ss u ∙ tests.true-and (all (goodSession net) ss) (goodSession net u) (h .sessions) good;
+        sessions = all-snoc (goodSession net) ss u ∙ tests.both-and (all (goodSession net) ss) (goodSession net u) (h .sessions) good;
         frames = anyTwo-snoc shareFrame ss u ∙ false-or (anyTwo shareFrame ss) (any (λ s. shareFrame s u) ss) (h .frames) (unheld-unshared ss u (schedule-unheld net ss (net .ticks) route (held .frames) (g .schedule)));
       }
   served-intact n route a (none count e counted nowhere) = h

@@ -9,7 +9,7 @@ use native.Mathlib.Omega.{arith}
 use lib.ListN.{length, getD}
 use lib.Dec.{eqb}
 use borrow.Author.Tests.{eq-eqb, eqb-true, ne-eqb, eqb-false}
-use Rattle.trellis.proofs.Count as tests
+use Rattle.lists.proofs.Count as tests
 use Rattle.ledger.specs.Lists.{all, any, anyTwo, keep}
 
 -- ---- tests
@@ -71,34 +71,34 @@ module _ {A : Type 0} where
   pub all-member : (p : A → Bool) {x : A} (xs : List A) → all p xs ≡ true → List·Memᴰ x xs → p x ≡ true
   all-member p [] h m = absurd (List·Memᴰ·not-nil m)
   all-member p (y ∷ ys) h m =
-      let both = tests.and-true (p y) (all p ys) h in
+      let both = tests.and-both (p y) (all p ys) h in
       ⊎-elim (λ e. ap p e ∙ both .0) (λ k. all-member p ys (both .1) k) (List·Memᴰ·cases-cons m)
 
   pub none-member : (p : A → Bool) {x : A} (xs : List A) → any p xs ≡ false → List·Memᴰ x xs → p x ≡ false
   none-member p [] h m = absurd (List·Memᴰ·not-nil m)
   none-member p (y ∷ ys) h m =
-      let both = tests.or-false (p y) (any p ys) h in
+      let both = tests.or-neither (p y) (any p ys) h in
       ⊎-elim (λ e. ap p e ∙ both .0) (λ k. none-member p ys (both .1) k) (List·Memᴰ·cases-cons m)
 
   -- where no element passes, every one fails
   pub none-all : (p : A → Bool) (xs : List A) → any p xs ≡ false → all (λ x. not (p x)) xs ≡ true
   none-all p [] h = refl
   none-all p (y ∷ ys) h =
-      let both = tests.or-false (p y) (any p ys) h in
-      tests.true-and (not (p y)) (all (λ x. not (p x)) ys) (ap not (both .0)) (none-all p ys (both .1))
+      let both = tests.or-neither (p y) (any p ys) h in
+      tests.both-and (not (p y)) (all (λ x. not (p x)) ys) (ap not (both .0)) (none-all p ys (both .1))
 
   -- what holds of a list holds of the elements kept
   pub all-keep : (p q : A → Bool) (xs : List A) → all p xs ≡ true → all p (keep q xs) ≡ true
   all-keep p q [] h = h
-  all-keep p q (y ∷ ys) h = let both = tests.and-true (p y) (all p ys) h in go (q y) (both .0) (all-keep p q ys (both .1))
+  all-keep p q (y ∷ ys) h = let both = tests.and-both (p y) (all p ys) h in go (q y) (both .0) (all-keep p q ys (both .1))
     where
       go : (b : Bool) → p y ≡ true → all p (keep q ys) ≡ true → all p (cond b (y ∷ keep q ys) (keep q ys)) ≡ true
-      go true e ih = tests.true-and (p y) (all p (keep q ys)) e ih
+      go true e ih = tests.both-and (p y) (all p (keep q ys)) e ih
       go false e ih = ih
 
   pub any-keep : (p q : A → Bool) (xs : List A) → any p xs ≡ false → any p (keep q xs) ≡ false
   any-keep p q [] h = h
-  any-keep p q (y ∷ ys) h = let both = tests.or-false (p y) (any p ys) h in go (q y) (both .0) (any-keep p q ys (both .1))
+  any-keep p q (y ∷ ys) h = let both = tests.or-neither (p y) (any p ys) h in go (q y) (both .0) (any-keep p q ys (both .1))
     where
       go : (b : Bool) → p y ≡ false → any p (keep q ys) ≡ false → any p (cond b (y ∷ keep q ys) (keep q ys)) ≡ false
       go true e ih = false-or (p y) (any p (keep q ys)) e ih
@@ -107,7 +107,7 @@ module _ {A : Type 0} where
   pub anyTwo-keep : (r : A → A → Bool) (q : A → Bool) (xs : List A) → anyTwo r xs ≡ false → anyTwo r (keep q xs) ≡ false
   anyTwo-keep r q [] h = h
   anyTwo-keep r q (y ∷ ys) h =
-      let both = tests.or-false (any (r y) ys) (anyTwo r ys) h in
+      let both = tests.or-neither (any (r y) ys) (anyTwo r ys) h in
       go (q y) (any-keep (r y) q ys (both .0)) (anyTwo-keep r q ys (both .1))
     where
       go : (b : Bool) → any (r y) (keep q ys) ≡ false → anyTwo r (keep q ys) ≡ false → anyTwo r (cond b (y ∷ keep q ys) (keep q ys)) ≡ false
@@ -125,7 +125,7 @@ module _ {A : Type 0} where
   -- where every element passes, all are kept
   pub keep-all : (q : A → Bool) (xs : List A) → all q xs ≡ true → keep q xs ≡ xs
   keep-all q [] h = refl
-  keep-all q (y ∷ ys) h = let both = tests.and-true (q y) (all q ys) h in go (q y) (both .0) (keep-all q ys (both .1))
+  keep-all q (y ∷ ys) h = let both = tests.and-both (q y) (all q ys) h in go (q y) (both .0) (keep-all q ys (both .1))
     where
       go : (b : Bool) → b ≡ true → keep q ys ≡ ys → cond b (y ∷ keep q ys) (keep q ys) ≡ y ∷ ys
       go true e ih = ap (λ (l : List A). y ∷ l) ih
@@ -163,6 +163,6 @@ module _ {A : Type 0} where
   anyTwo-at r [] j k d h l m = absurd (not-suc-le-zero m)
   anyTwo-at r (y ∷ ys) j zero d h l m = absurd (not-suc-le-zero l)
   anyTwo-at r (y ∷ ys) zero (suc k) d h l m =
-      none-member (r y) ys (tests.or-false (any (r y) ys) (anyTwo r ys) h .0) (member-at ys k d (le-of-suc-le-suc m))
+      none-member (r y) ys (tests.or-neither (any (r y) ys) (anyTwo r ys) h .0) (member-at ys k d (le-of-suc-le-suc m))
   anyTwo-at r (y ∷ ys) (suc j) (suc k) d h l m =
-      anyTwo-at r ys j k d (tests.or-false (any (r y) ys) (anyTwo r ys) h .1) (le-of-suc-le-suc l) (le-of-suc-le-suc m)
+      anyTwo-at r ys j k d (tests.or-neither (any (r y) ys) (anyTwo r ys) h .1) (le-of-suc-le-suc l) (le-of-suc-le-suc m)

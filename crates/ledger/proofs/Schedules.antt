@@ -5,7 +5,7 @@ use mathlib.Core.List.{List, [], _∷_}
 use Prim.Native.Nat.{ℕ, _+_}
 use Rattle.trellis.specs.Trellis.{after, costOf}
 use Rattle.trellis.specs.Walk.{Onward, onwardCost}
-use Rattle.trellis.proofs.Count as tests
+use Rattle.lists.proofs.Count as tests
 use Rattle.network.specs.Network.{Topology}
 use Rattle.forwarding.specs.Forwarding.{isFree, mayHold, holdInto, delay}
 use Rattle.forwarding.specs.Schedule.{startIf, stages, IsSchedule, scheduleDelay}
@@ -35,9 +35,9 @@ module _ (net : Topology) (ss : List Session) (T : ℕ) where
   onward-unclosed K k (l ∷ route) [] o = o
   onward-unclosed K k (l ∷ route) (i ∷ fs) o =
       let may : Bool = mayHold (hopOf net ss l) (holdInto K (hopOf net ss l) k i) in
-      let a = tests.and-true may (isFree (hopOf net ss l) i) (o .1) in (
+      let a = tests.and-both may (isFree (hopOf net ss l) i) (o .1) in (
         o .0,
-        tests.true-and may (isFree (hopOf net [] l) i) (a .0) (free-unclosed net ss l i (a .1)),
+        tests.both-and may (isFree (hopOf net [] l) i) (a .0) (free-unclosed net ss l i (a .1)),
         onward-unclosed (linkAt net l .frames) i route fs (o .2),
       )
 
@@ -67,7 +67,7 @@ module _ (net : Topology) (ss : List Session) (T : ℕ) where
   onward-unheld K k [] fs o = refl
   onward-unheld K k (l ∷ route) [] o = refl
   onward-unheld K k (l ∷ route) (i ∷ fs) o =
-      let a = tests.and-true (mayHold (hopOf net ss l) (holdInto K (hopOf net ss l) k i)) (isFree (hopOf net ss l) i) (o .1) in
+      let a = tests.and-both (mayHold (hopOf net ss l) (holdInto K (hopOf net ss l) k i)) (isFree (hopOf net ss l) i) (o .1) in
       false-or (heldIn ss l i) (someFrame (heldIn ss) route fs) (free-unheld net ss l i (a .1)) (onward-unheld (linkAt net l .frames) i route fs (o .2))
 
   pub schedule-unheld : (route fs : List ℕ) → IsSchedule T (hopsOf net ss route) fs → someFrame (heldIn ss) route fs ≡ false

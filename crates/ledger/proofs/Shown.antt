@@ -1,13 +1,13 @@
 -- What lookup shows, and the numbers of the live sessions, each once. Assumes nothing.
 use mathlib.Core.Path.{_≡_, refl, sym, ap, subst, _∙_}
+use Rattle.lists.specs.Once.{EachOnce}
 use mathlib.Core.Logic.{_⊎_, inl, inr}
 use mathlib.Core.Bool.{Bool, true, false, cond}
 use mathlib.Core.List.{List, [], _∷_, map, List·Memᴰ, List·Memᴰ·head, List·Memᴰ·tail, List·Memᴰ·cases-cons, List·Memᴰ·not-nil, Memᴰ·map, Memᴰ·of-map}
 use Prim.Native.Nat.{ℕ}
 use lib.Dec.{eqb}
 use borrow.Author.Tests.{eq-eqb, eqb-true}
-use Rattle.trellis.specs.Paths.{EachOnce}
-use Rattle.trellis.proofs.Count as tests
+use Rattle.lists.proofs.Count as tests
 use Rattle.refusals.specs.Refusals.{given, refused}
 use Rattle.refusals.proofs.Refusals.{not-given}
 use Rattle.ledger.specs.Lists.{any, anyTwo}
@@ -39,7 +39,7 @@ pub shown : (ss : List Session) (s : Session) → numberTwice ss ≡ false → L
 unfolding numberTwice
 shown [] s h m = absurd (List·Memᴰ·not-nil m)
 shown (x ∷ ss) s h m =
-    let both = tests.or-false (any (sameNumber x) ss) (anyTwo sameNumber ss) h in
+    let both = tests.or-neither (any (sameNumber x) ss) (anyTwo sameNumber ss) h in
     go (eqb (x .number) (s .number)) refl (both .0) (List·Memᴰ·cases-cons m) (λ k. shown ss s (both .1) k)
   where
     go : (b : Bool) → eqb (x .number) (s .number) ≡ b → any (sameNumber x) ss ≡ false → (s ≡ x) ⊎ List·Memᴰ s ss
@@ -53,7 +53,7 @@ shown (x ∷ ss) s h m =
 -- 19 for every other number
 pub not-shown : (n : ℕ) (ss : List Session) → isLive n ss ≡ false → lookIn n ss ≡ refused 19
 not-shown n [] h = refl
-not-shown n (x ∷ ss) h = let both = tests.or-false (eqb (x .number) n) (isLive n ss) h in rw (both .0) (not-shown n ss (both .1))
+not-shown n (x ∷ ss) h = let both = tests.or-neither (eqb (x .number) n) (isLive n ss) h in rw (both .0) (not-shown n ss (both .1))
 
 -- ---- the numbers of the live sessions
 abbrev pub numbersOf : List Session → List ℕ
@@ -63,7 +63,7 @@ numbers-once : (ss : List Session) → numberTwice ss ≡ false → EachOnce (nu
 unfolding numberTwice
 numbers-once [] h = tt
 numbers-once (s ∷ ss) h =
-    let both = tests.or-false (any (sameNumber s) ss) (anyTwo sameNumber ss) h in (
+    let both = tests.or-neither (any (sameNumber s) ss) (anyTwo sameNumber ss) h in (
       λ m. let w = Memᴰ·of-map (λ u. u .number) ss m in
           clash (sameNumber s (w .0)) (eq-eqb (w .0 .number) (s .number) (w .2)) (none-member (sameNumber s) ss (both .0) (w .1)),
       numbers-once ss (both .1),

@@ -1,12 +1,12 @@
 -- Demand 3: one statement about a whole list of calls from a fresh network. Assumes nothing.
 use mathlib.Core.Path.{_≡_}
+use Rattle.lists.specs.Once.{EachOnce}
 use mathlib.Core.Bool.{true, false}
 use mathlib.Core.Logic.{_↔_}
 use mathlib.Core.List.{List, [], _∷_, _++_, List·Memᴰ}
 use Prim.Native.Nat.{ℕ, _+_, _<_}
 use lib.ListN.{length, getD}
 use Rattle.trellis.specs.Answer.{found, blocked}
-use Rattle.trellis.specs.Paths.{EachOnce}
 use Rattle.refusals.specs.Refusals.{given, refused, pass}
 use Rattle.network.specs.Network.{Topology}
 use Rattle.forwarding.specs.declared.Hop.{Hop}

@@ -3,7 +3,7 @@ use mathlib.Core.Bool.{Bool, true, false}
 use mathlib.Core.List.{List, [], _∷_}
 use Prim.Native.Nat.{ℕ, _+_}
 use lib.Dec.{eqb}
-use Rattle.trellis.specs.Count.{oneIf}
+use Rattle.lists.specs.Count.{oneIf}
 use Rattle.ledger.specs.Sessions.{Session}
 use Rattle.ledger.specs.Calls.{Call, Reply, Effect, enters, strikes, leaves, effect, apply}
 

@@ -1,6 +1,6 @@
 -- A record does not see the bytes that follow it, and takes no more than all its fields. Assumes nothing.
 use mathlib.Core.Path.{_≡_, refl, ap, ap₂, _∙_}
-use mathlib.Core.Bool.{Bool, true, false, not}
+use mathlib.Core.Bool.{Bool, true, false, not, cond}
 use mathlib.Core.List.{List, [], _∷_, _++_}
 use Prim.Native.Nat.{ℕ, _+_, _<_, _≤_}
 use native.Mathlib.Omega.{arith}
@@ -8,7 +8,6 @@ use borrow.Author.Tests.{le-ltb, ne-eqb}
 use lib.ListN.{length, getD, drop, length-append, length-drop}
 use lib.Seq.{drop-append-le}
 use lib.Dec.{eqb, ltb}
-use Rattle.trellis.specs.Answer.{pick}
 use Rattle.refusals.specs.Refusals.{Outcome, given, refuseIf, orElse}
 use Rattle.refusals.proofs.Refusals.{past}
 use Rattle.numbers.specs.Numbers.{numberIn}
@@ -36,7 +35,7 @@ value-front : (map : ℕ) (f : Field) (a t : List ℕ) → sizeIn map f ≤ leng
 unfolding valueIn
 value-front map f a t h = go (stands map f) refl
   where
-    go : (b : Bool) → stands map f ≡ b → pick (stands map f) (numberIn (f .size) (a ++ t)) (f .absent) ≡ pick (stands map f) (numberIn (f .size) a) (f .absent)
+    go : (b : Bool) → stands map f ≡ b → cond (stands map f) (numberIn (f .size) (a ++ t)) (f .absent) ≡ cond (stands map f) (numberIn (f .size) a) (f .absent)
     go true e = rw e (number-front (f .size) a t (omega (arith, size-some map f e)))
     go false e = rw e
 

@@ -7,7 +7,7 @@ use native.Mathlib.Nat.{not-suc-le-zero, le-of-suc-le-suc}
 use borrow.Author.Tests.{ltb-true, leb-true, not-true}
 use lib.ListN.{length, getD, drop}
 use lib.Dec.{ltb, leb}
-use Rattle.trellis.proofs.Count.{and-true}
+use Rattle.lists.proofs.Count.{and-both}
 use Rattle.places.specs.Places.{firsts}
 use Rattle.places.proofs.Firsts.{next-first}
 use Rattle.records.specs.declared.Field.{Field}
@@ -26,10 +26,10 @@ unfolding isLayout
 leads f fs e =
     let b : Bool = ltb (f .bit) 8 && not (isBit fs (f .bit)) in
     let s : Bool = leb (f .size) 8 && ltb (f .absent) (2 ^ (8 * f .size)) in
-    let p : ((b && s) ≡ true) × (isLayout fs ≡ true) = and-true (b && s) (isLayout fs) e in
-    let q : (b ≡ true) × (s ≡ true) = and-true b s (p .0) in
-    let x : (ltb (f .bit) 8 ≡ true) × (not (isBit fs (f .bit)) ≡ true) = and-true (ltb (f .bit) 8) (not (isBit fs (f .bit))) (q .0) in
-    let y : (leb (f .size) 8 ≡ true) × (ltb (f .absent) (2 ^ (8 * f .size)) ≡ true) = and-true (leb (f .size) 8) (ltb (f .absent) (2 ^ (8 * f .size))) (q .1) in
+    let p : ((b && s) ≡ true) × (isLayout fs ≡ true) = and-both (b && s) (isLayout fs) e in
+    let q : (b ≡ true) × (s ≡ true) = and-both b s (p .0) in
+    let x : (ltb (f .bit) 8 ≡ true) × (not (isBit fs (f .bit)) ≡ true) = and-both (ltb (f .bit) 8) (not (isBit fs (f .bit))) (q .0) in
+    let y : (leb (f .size) 8 ≡ true) × (ltb (f .absent) (2 ^ (8 * f .size)) ≡ true) = and-both (leb (f .size) 8) (ltb (f .absent) (2 ^ (8 * f .size))) (q .1) in
     record {
       low = ltb-true (f .bit) 8 (x .0);
       alone = not-true (isBit fs (f .bit)) (x .1);

@@ -1,14 +1,13 @@
 -- The bits of a map byte, for any layout: bits set and cleared one field after the other give the rule's bytes, and the rule's bytes tell
 -- which fields are written. Assumes nothing.
 use mathlib.Core.Path.{_≡_, refl, sym, ap, _∙_}
-use mathlib.Core.Bool.{Bool, true, false, not, _&&_, _||_, true≢false, and-true, and-false, or-false, or-assoc}
+use mathlib.Core.Bool.{Bool, true, false, not, _&&_, _||_, true≢false, and-true, and-false, or-false, or-assoc, cond}
 use mathlib.Core.List.{List, [], _∷_}
 use Prim.Native.Nat.{ℕ, _^_, _<_}
 use native.Mathlib.Omega.{arith}
 use borrow.Author.Tests.{eq-eqb, ne-eqb, eqb-true, ltb-true, ltb-false}
 use lib.Dec.{eqb, ltb}
 use lib.ListN.{getD, drop}
-use Rattle.trellis.specs.Answer.{pick}
 use Rattle.words.specs.Word.{bitOf, withBit, withoutBit}
 use Rattle.words.proofs.Bits.{bit-zero, bit-high}
 use Rattle.words.proofs.Words.{word-lt, word-only, word-below, bit-below}
@@ -22,18 +21,18 @@ use Rattle.records.proofs.Layouts.{Leads, leads}
 -- ---- one field after the other: a map byte with the bits of the fields that are written, and one without the bits of the fields
 unfoldable pub mapWith : List Field → ℕ → List ℕ → ℕ
 mapWith [] map vs = map
-mapWith (f ∷ fs) map vs = mapWith fs (pick (isWritten f (getD vs 0 0)) (withBit map (f .bit)) map) (drop 1 vs)
+mapWith (f ∷ fs) map vs = mapWith fs (cond (isWritten f (getD vs 0 0)) (withBit 64 map (f .bit)) map) (drop 1 vs)
 
 unfoldable pub mapWithout : List Field → ℕ → ℕ
 mapWithout [] map = map
-mapWithout (f ∷ fs) map = mapWithout fs (withoutBit map (f .bit))
+mapWithout (f ∷ fs) map = mapWithout fs (withoutBit 64 map (f .bit))
 
-picked-bit : (w : Bool) (map k : ℕ) → map < 2 ^ 64 → k < 64 → (i : ℕ) → bitOf (pick w (withBit map k) map) i ≡ (bitOf map i || (w && eqb i k))
-picked-bit true map k h l i = bit-with map k h l i
+picked-bit : (w : Bool) (map k : ℕ) → map < 2 ^ 64 → k < 64 → (i : ℕ) → bitOf (cond w (withBit 64 map k) map) i ≡ (bitOf map i || (w && eqb i k))
+picked-bit true map k h l i = bit-with 64 map k h l i
 picked-bit false map k h l i = sym (or-false (bitOf map i))
 
-picked-lt : (w : Bool) (map k : ℕ) → map < 2 ^ 8 → k < 8 → pick w (withBit map k) map < 2 ^ 8
-picked-lt true map k h l = with-lt 8 map k (omega arith) h l
+picked-lt : (w : Bool) (map k : ℕ) → map < 2 ^ 8 → k < 8 → cond w (withBit 64 map k) map < 2 ^ 8
+picked-lt true map k h l = with-lt 64 8 map k (omega arith) h l
 picked-lt false map k h l = h
 
 bit-with-all : (fs : List Field) (map : ℕ) (vs : List ℕ) → isLayout fs ≡ true → map < 2 ^ 8 → (i : ℕ) → bitOf (mapWith fs map vs) i ≡ (bitOf map i || writtenAt fs vs i)
@@ -42,7 +41,7 @@ bit-with-all [] map vs l h i = sym (or-false (bitOf map i))
 bit-with-all (f ∷ fs) map vs l h i =
     let p : Leads f fs = leads f fs l in
     let w : Bool = isWritten f (getD vs 0 0) in
-    bit-with-all fs (pick w (withBit map (f .bit)) map) (drop 1 vs) (p .others) (picked-lt w map (f .bit) h (p .low)) i
+    bit-with-all fs (cond w (withBit 64 map (f .bit)) map) (drop 1 vs) (p .others) (picked-lt w map (f .bit) h (p .low)) i
     ∙ ap (λ (b : Bool). b || writtenAt fs (drop 1 vs) i) (picked-bit w map (f .bit) (omega arith) (omega (arith, p .low)) i)
     ∙ or-assoc (bitOf map i) (w && eqb i (f .bit)) (writtenAt fs (drop 1 vs) i)
 
@@ -52,7 +51,7 @@ with-all-lt [] map vs l h = h
 with-all-lt (f ∷ fs) map vs l h =
     let p : Leads f fs = leads f fs l in
     let w : Bool = isWritten f (getD vs 0 0) in
-    with-all-lt fs (pick w (withBit map (f .bit)) map) (drop 1 vs) (p .others) (picked-lt w map (f .bit) h (p .low))
+    with-all-lt fs (cond w (withBit 64 map (f .bit)) map) (drop 1 vs) (p .others) (picked-lt w map (f .bit) h (p .low))
 
 pub map-rule : (fs : List Field) (vs : List ℕ) → isLayout fs ≡ true → mapWith fs 0 vs ≡ mapOf fs vs
 unfolding mapOf
@@ -62,7 +61,7 @@ pub map-low : (fs : List Field) (vs : List ℕ) → mapOf fs vs < 256
 unfolding mapOf
 map-low fs vs = word-lt 8 (writtenAt fs vs)
 
-without-wide : (map i : ℕ) → withoutBit map i < 2 ^ 64
+without-wide : (map i : ℕ) → withoutBit 64 map i < 2 ^ 64
 unfolding withoutBit
 without-wide map i = word-lt 64 (λ j. bitOf map j && not (eqb j i))
 
@@ -70,8 +69,8 @@ bit-without-all : (fs : List Field) (map : ℕ) → map < 2 ^ 64 → (i : ℕ) �
 unfolding mapWithout isBit
 bit-without-all [] map h i = sym (and-true (bitOf map i))
 bit-without-all (f ∷ fs) map h i =
-    bit-without-all fs (withoutBit map (f .bit)) (without-wide map (f .bit)) i
-    ∙ ap (λ (b : Bool). b && not (isBit fs i)) (bit-without map (f .bit) h i)
+    bit-without-all fs (withoutBit 64 map (f .bit)) (without-wide map (f .bit)) i
+    ∙ ap (λ (b : Bool). b && not (isBit fs i)) (bit-without 64 map (f .bit) h i)
     ∙ go (bitOf map i) (eqb i (f .bit)) (isBit fs i)
   where
     go : (a b c : Bool) → ((a && not b) && not c) ≡ (a && not (b || c))
@@ -82,7 +81,7 @@ bit-without-all (f ∷ fs) map h i =
 without-all-wide : (fs : List Field) (map : ℕ) → map < 2 ^ 64 → mapWithout fs map < 2 ^ 64
 unfolding mapWithout
 without-all-wide [] map h = h
-without-all-wide (f ∷ fs) map h = without-all-wide fs (withoutBit map (f .bit)) (without-wide map (f .bit))
+without-all-wide (f ∷ fs) map h = without-all-wide fs (withoutBit 64 map (f .bit)) (without-wide map (f .bit))
 
 pub stray-rule : (fs : List Field) (map : ℕ) → map < 256 → mapWithout fs map ≡ strayBits fs map
 unfolding strayBits

@@ -1,10 +1,9 @@
 -- For any layout, values have exactly one record. Assumes nothing.
 use mathlib.Core.Path.{_≡_, sym}
-use mathlib.Core.Bool.{Bool, true, false}
+use mathlib.Core.Bool.{Bool, true, false, cond}
 use mathlib.Core.List.{List, [], _∷_}
 use Prim.Native.Nat.{ℕ}
 use lib.ListN.{getD, drop}
-use Rattle.trellis.specs.Answer.{pick}
 use Rattle.refusals.specs.Refusals.{given}
 use Rattle.numbers.specs.Numbers.{bytesOf, IsBytes}
 use Rattle.numbers.proofs.Trip.{bytes-cons, bytes-none, bytes-append, bytes-of}
@@ -22,7 +21,7 @@ field-bytes : (f : Field) (v : ℕ) → IsBytes (fieldOf f v)
 unfolding fieldOf
 field-bytes f v = go (isWritten f v)
   where
-    go : (b : Bool) → IsBytes (pick b (bytesOf (f .size) v) [])
+    go : (b : Bool) → IsBytes (cond b (bytesOf (f .size) v) [])
     go true = bytes-of (f .size) v
     go false = bytes-none
 

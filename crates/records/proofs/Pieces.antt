@@ -1,6 +1,6 @@
 -- Writing: the turns of each loop over the fields, and the record that they make. Assumes nothing.
 use mathlib.Core.Path.{_≡_, refl, sym, ap, _∙_}
-use mathlib.Core.Bool.{Bool, true, false, not}
+use mathlib.Core.Bool.{Bool, true, false, not, cond}
 use mathlib.Core.List.{List, [], _∷_, _++_}
 use Prim.Native.Nat.{ℕ, _+_, _*_, _-_, _<_, _≤_}
 use native.Mathlib.Nat.{add-zero}
@@ -8,7 +8,6 @@ use native.Mathlib.Omega.{arith}
 use borrow.Rule.Slice.PartMut.{putMid}
 use lib.ListN.{length, getD, drop, take, set, length-set}
 use lib.Dec.{eqb}
-use Rattle.trellis.specs.Answer.{pick}
 use Rattle.places.specs.Put.{putAt}
 use Rattle.places.specs.Places.{firsts}
 use Rattle.places.proofs.Pieces.{Pieces}
@@ -30,10 +29,10 @@ unfolding isWritten
 is-written f v = refl
 
 module _ (f : Field) (v : ℕ) (b : Bool) (eb : b ≡ isWritten f v) where
-  pub map-more : (map : ℕ) → b ≡ true → (r : ℕ) → r ≡ withBit map (f .bit) → r ≡ pick (isWritten f v) (withBit map (f .bit)) map
+  pub map-more : (map : ℕ) → b ≡ true → (r : ℕ) → r ≡ withBit 64 map (f .bit) → r ≡ cond (isWritten f v) (withBit 64 map (f .bit)) map
   map-more map h r e = rw (← eb, h) e
 
-  pub map-same : (map : ℕ) → b ≡ false → map ≡ pick (isWritten f v) (withBit map (f .bit)) map
+  pub map-same : (map : ℕ) → b ≡ false → map ≡ cond (isWritten f v) (withBit 64 map (f .bit)) map
   map-same map h = rw (← eb, h)
 
   pub some-long : b ≡ true → f .size ≡ length (fieldOf f v)
@@ -77,7 +76,7 @@ module _ (fields : List Field) (n : ℕ) (values : List ℕ) where
   pub none-mapped : Mapped 0 0
   none-mapped = record { within = omega arith; same = refl }
 
-  pub one-mapped : (map j r : ℕ) → Mapped map j → j < n → r ≡ pick (isWritten (getD fields j noField) (getD values j 0)) (withBit map (getD fields j noField .bit)) map → Mapped r (j + 1)
+  pub one-mapped : (map j r : ℕ) → Mapped map j → j < n → r ≡ cond (isWritten (getD fields j noField) (getD values j 0)) (withBit 64 map (getD fields j noField .bit)) map → Mapped r (j + 1)
   unfolding mapWith
   one-mapped map j r m h e = record { within = omega arith; same = m .same ∙ rw (next-first n j fields noField h, next-first n j values 0 h, e) }
 

@@ -1,6 +1,6 @@
 -- A record of any layout that is read, then written, is written as it was. Assumes nothing.
 use mathlib.Core.Path.{_≡_, refl, sym, ap, ap₂, _∙_}
-use mathlib.Core.Bool.{Bool, true, false, not, _&&_}
+use mathlib.Core.Bool.{Bool, true, false, not, _&&_, cond}
 use mathlib.Core.List.{List, [], _∷_, _++_}
 use Prim.Native.Nat.{ℕ, suc, _+_, _*_, _^_, _<_, _≤_}
 use native.Mathlib.Numerals.{one-add}
@@ -9,8 +9,7 @@ use borrow.Author.Tests.{eq-eqb, ltb-false, eqb-true, not-false}
 use lib.ListN.{length, getD, drop, take, length-drop}
 use lib.Dec.{eqb, ltb}
 use lib.Seq.{take-add}
-use Rattle.trellis.specs.Answer.{pick}
-use Rattle.trellis.proofs.Count.{or-false}
+use Rattle.lists.proofs.Count.{or-neither}
 use Rattle.refusals.specs.Refusals.{Outcome, given, refuseIf, orElse}
 use Rattle.refusals.proofs.Refusals.{past}
 use Rattle.numbers.specs.Numbers.{numberIn, bytesOf}
@@ -40,7 +39,7 @@ read-agrees [] map s e = agrees-none
 read-agrees (f ∷ fs) map s e =
     let v : ℕ = valueIn map f s in
     let vs : List ℕ = valuesIn fs map (drop (sizeIn map f) s) in
-    let o : ((stands map f && eqb v (f .absent)) ≡ false) × (restated fs map vs ≡ false) = or-false (stands map f && eqb v (f .absent)) (restated fs map vs) e in
+    let o : ((stands map f && eqb v (f .absent)) ≡ false) × (restated fs map vs ≡ false) = or-neither (stands map f && eqb v (f .absent)) (restated fs map vs) e in
     agrees-more (go (stands map f) refl (o .0)) (read-agrees fs map (drop (sizeIn map f) s) (o .1))
   where
     go : (b : Bool) → stands map f ≡ b → (stands map f && eqb (valueIn map f s) (f .absent)) ≡ false → stands map f ≡ isWritten f (valueIn map f s)
@@ -76,7 +75,7 @@ value-fits : (map : ℕ) (f : Field) (s : List ℕ) → ((i : ℕ) → getD s i 
 unfolding valueIn
 value-fits map f s b h = go (stands map f)
   where
-    go : (q : Bool) → pick q (numberIn (f .size) s) (f .absent) < 2 ^ (8 * f .size)
+    go : (q : Bool) → cond q (numberIn (f .size) s) (f .absent) < 2 ^ (8 * f .size)
     go true = number-bound (f .size) s b
     go false = h
 

@@ -1,11 +1,10 @@
 -- The bytes that fields take: laws of `sizeIn`, `needed`, `fieldOf` and `bodyOf`. Assumes nothing.
 use mathlib.Core.Path.{_≡_, refl, ap, _∙_}
-use mathlib.Core.Bool.{Bool, true, false}
+use mathlib.Core.Bool.{Bool, true, false, cond}
 use mathlib.Core.List.{List, [], _∷_, _++_}
 use Prim.Native.Nat.{ℕ, _+_, _≤_}
 use native.Mathlib.Omega.{arith}
 use lib.ListN.{length, getD, drop, length-append}
-use Rattle.trellis.specs.Answer.{pick}
 use Rattle.numbers.specs.Numbers.{bytesOf}
 use Rattle.numbers.proofs.Laws.{length-bytes}
 use Rattle.records.specs.Layout.{stands}
@@ -25,7 +24,7 @@ pub size-small : (map : ℕ) (f : Field) → f .size ≤ 8 → sizeIn map f ≤ 
 unfolding sizeIn
 size-small map f h = go (stands map f)
   where
-    go : (b : Bool) → pick b (f .size) 0 ≤ 8
+    go : (b : Bool) → cond b (f .size) 0 ≤ 8
     go true = h
     go false = omega arith
 

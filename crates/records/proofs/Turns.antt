@@ -83,7 +83,7 @@ module _ (fields : List Field) (n : ℕ) where
   pub none-cleared : (map : ℕ) → Cleared map map 0
   none-cleared map = record { within = omega arith; same = refl }
 
-  pub one-cleared : (map left j r : ℕ) → Cleared map left j → j < n → r ≡ withoutBit left (getD fields j noField .bit) → Cleared map r (j + 1)
+  pub one-cleared : (map left j r : ℕ) → Cleared map left j → j < n → r ≡ withoutBit 64 left (getD fields j noField .bit) → Cleared map r (j + 1)
   unfolding mapWithout
   one-cleared map left j r c h e = record { within = omega arith; same = c .same ∙ rw (next-first n j fields noField h, e) }
 

@@ -1,6 +1,6 @@
 -- A record of any layout that is written, then read, is read as it was. Assumes nothing.
 use mathlib.Core.Path.{_≡_, refl, sym, ap, ap₂, _∙_}
-use mathlib.Core.Bool.{Bool, true, false, not-and-self}
+use mathlib.Core.Bool.{Bool, true, false, not-and-self, cond}
 use mathlib.Core.List.{List, [], _∷_, _++_, append-assoc}
 use Prim.Native.Nat.{ℕ, suc, _+_, _*_, _^_, _<_, _≤_}
 use native.Mathlib.Numerals.{one-add}
@@ -9,7 +9,6 @@ use borrow.Author.Tests.{le-ltb, ne-eqb, eqb-true, not-false}
 use lib.Seq.{drop-at}
 use lib.ListN.{length, getD, drop, length-append}
 use lib.Dec.{eqb}
-use Rattle.trellis.specs.Answer.{pick}
 use Rattle.refusals.specs.Refusals.{given}
 use Rattle.numbers.specs.Numbers.{numberIn}
 use Rattle.numbers.proofs.Trip.{number-bytes}
@@ -37,7 +36,7 @@ value-back : (map : ℕ) (f : Field) (v : ℕ) (q : List ℕ) → stands map f �
 unfolding valueIn
 value-back map f v q e h = go (isWritten f v) refl
   where
-    go : (b : Bool) → isWritten f v ≡ b → pick (stands map f) (numberIn (f .size) (fieldOf f v ++ q)) (f .absent) ≡ v
+    go : (b : Bool) → isWritten f v ≡ b → cond (stands map f) (numberIn (f .size) (fieldOf f v ++ q)) (f .absent) ≡ v
     go true w = rw (e, w, field-some f v w) (number-bytes (f .size) v q h)
     go false w = rw (e, w) (absent-is f v w)
 

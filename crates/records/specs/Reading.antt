@@ -1,11 +1,10 @@
 -- Reading a record of any layout: refusals 4, 5 and 6, or the fields and the length used. Assumes nothing.
 use mathlib.Core.Path.{_≡_}
-use mathlib.Core.Bool.{Bool, false, not, _&&_, _||_}
+use mathlib.Core.Bool.{Bool, false, not, _&&_, _||_, cond}
 use mathlib.Core.List.{List, [], _∷_}
 use Prim.Native.Nat.{ℕ, _+_}
 use lib.Dec.{eqb, ltb}
 use lib.ListN.{length, getD, drop}
-use Rattle.trellis.specs.Answer.{pick}
 use Rattle.places.specs.Places.{firsts}
 use Rattle.refusals.specs.Refusals.{Outcome, given, refused, refuseIf, orElse, ruling, rulingOf, givenOr}
 use Rattle.refusals.specs.declared.Verdict.the-variants.{Refused}
@@ -18,7 +17,7 @@ use Rattle.records.specs.declared.Record.{Record}
 
 -- the bytes that a field takes under a map byte
 unfoldable pub sizeIn : ℕ → Field → ℕ
-sizeIn map f = pick (stands map f) (f .size) 0
+sizeIn map f = cond (stands map f) (f .size) 0
 
 -- the bytes that the bits of a map byte need
 unfoldable pub needed : List Field → ℕ → ℕ
@@ -27,7 +26,7 @@ needed (f ∷ fs) map = sizeIn map f + needed fs map
 
 -- a field's value, from the bytes that start at it
 unfoldable pub valueIn : ℕ → Field → List ℕ → ℕ
-valueIn map f s = pick (stands map f) (numberIn (f .size) s) (f .absent)
+valueIn map f s = cond (stands map f) (numberIn (f .size) s) (f .absent)
 
 -- the values of all fields, from the bytes after the map byte
 unfoldable pub valuesIn : List Field → ℕ → List ℕ → List ℕ

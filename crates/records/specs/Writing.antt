@@ -1,10 +1,9 @@
 -- The bytes of a record of any layout. Assumes nothing.
-use mathlib.Core.Bool.{Bool, false, not, _&&_, _||_}
+use mathlib.Core.Bool.{Bool, false, not, _&&_, _||_, cond}
 use mathlib.Core.List.{List, [], _∷_, _++_}
 use Prim.Native.Nat.{ℕ}
 use lib.ListN.{getD, drop}
 use lib.Dec.{eqb}
-use Rattle.trellis.specs.Answer.{pick}
 use Rattle.numbers.specs.Numbers.{bytesOf}
 use Rattle.words.specs.Word.{wordOf}
 use Rattle.records.specs.declared.Field.{Field}
@@ -24,7 +23,7 @@ mapOf fs values = wordOf 8 (writtenAt fs values)
 
 -- the bytes of a field
 unfoldable pub fieldOf : Field → ℕ → List ℕ
-fieldOf f v = pick (isWritten f v) (bytesOf (f .size) v) []
+fieldOf f v = cond (isWritten f v) (bytesOf (f .size) v) []
 
 -- the bytes of the fields, in turn
 unfoldable pub bodyOf : List Field → List ℕ → List ℕ

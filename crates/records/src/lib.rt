@@ -3,14 +3,13 @@
 use refusals::Refusal;
 use refusals::Verdict;
 ghost use mathlib.Core.Path.{_≡_};
-ghost use mathlib.Core.Bool.{_&&_};
+ghost use mathlib.Core.Bool.{_&&_, cond};
 ghost use mathlib.Core.List.{_++_};
 ghost use Prim.Native.Nat.{_+_, _<_, _≤_};
 ghost use lib.Dec.{eqb};
 ghost use lib.ListN.{length, drop};
 ghost use Rattle.places.specs.Places.{firsts};
 ghost use Rattle.places.specs.Put.{putAt};
-ghost use Rattle.trellis.specs.Answer.{pick};
 ghost use Rattle.words.specs.Word.{withBit};
 ghost use Rattle.records.specs.Layout.{noField, Laid, stands};
 ghost use Rattle.records.specs.Reading.{sizeIn, needed, valueIn, valuesIn, strayBits, restated, readRecord, noRecord, Told};
@@ -172,7 +171,7 @@ fn is_written(field: Field, value: u64) -> bool
 // A map byte with the bit of a field, where the field is written.
 fn map_with(map: u64, field: Field, value: u64) -> u64
     requires { ⌜ field .bit < 8 ⌝ }
-    ensures { λ r. ⌜ r ≡ pick (isWritten field value) (withBit map (field .bit)) map ⌝ }
+    ensures { λ r. ⌜ r ≡ cond (isWritten field value) (withBit 64 map (field .bit)) map ⌝ }
 {
     if is_written(field, value) {
         return words::set_bit(map, field.bit);

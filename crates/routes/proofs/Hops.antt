@@ -8,7 +8,7 @@ use native.Mathlib.Numerals.{add-one}
 use native.Mathlib.Omega.{arith}
 use lib.ListN.{length, getD, take, set, replicate, length-map}
 use lib.Seq.{take-suc, take-all, length-take-le}
-use Rattle.trellis.proofs.Count.{or-false}
+use Rattle.lists.proofs.Count.{or-neither}
 use Rattle.words.specs.Word.{bitOf, wordOf, freeAt, freeWord}
 use Rattle.words.proofs.Words.{word-lt, bit-below, word-ext}
 use Rattle.places.specs.Places.{firsts}
@@ -79,7 +79,7 @@ hop-held network held ss l w e h =
 map-known : (f g : ℕ → Hop) (count : ℕ) → ((l : ℕ) → l < count → f l ≡ g l) → (route : List ℕ) → any (unknown count) route ≡ false → map f route ≡ map g route
 map-known f g count h [] e = refl
 map-known f g count h (l ∷ route) e =
-    let o : (unknown count l ≡ false) × (any (unknown count) route ≡ false) = or-false (unknown count l) (any (unknown count) route) e in
+    let o : (unknown count l ≡ false) × (any (unknown count) route ≡ false) = or-neither (unknown count l) (any (unknown count) route) e in
     rw (h l (known-passed count l (o .0)), map-known f g count h route (o .1))
 
 -- THE HOPS BY STORED WORDS ARE THE HOPS BY THE SESSIONS

@@ -7,7 +7,7 @@ use native.Mathlib.Nat.{not-suc-le-zero, le-of-suc-le-suc}
 use native.Mathlib.Numerals.{add-one}
 use lib.ListN.{length, getD, drop, drop-of-length-le}
 use lib.Seq.{drop-cons}
-use Rattle.trellis.proofs.Count.{or-false}
+use Rattle.lists.proofs.Count.{or-neither}
 use Rattle.ledger.specs.Lists.{any, anyTwo}
 
 module _ {A : Type 0} where
@@ -18,8 +18,8 @@ module _ {A : Type 0} where
   -- what no place passes, place j doesn't
   pub no-place : (p : A → Bool) (l : List A) (j : ℕ) (d : A) → any p l ≡ false → j < length l → p (getD l j d) ≡ false
   no-place p [] j d e h = absurd (not-suc-le-zero h)
-  no-place p (x ∷ l) zero d e h = or-false (p x) (any p l) e .0
-  no-place p (x ∷ l) (suc j) d e h = no-place p l j d (or-false (p x) (any p l) e .1) (le-of-suc-le-suc h)
+  no-place p (x ∷ l) zero d e h = or-neither (p x) (any p l) e .0
+  no-place p (x ∷ l) (suc j) d e h = no-place p l j d (or-neither (p x) (any p l) e .1) (le-of-suc-le-suc h)
 
 module _ {A : Type 0} (d : A) (l : List A) where
   -- some place passes

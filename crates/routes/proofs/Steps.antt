@@ -6,7 +6,7 @@ use Prim.Native.Nat.{ℕ, _*_, _<_, _≤_}
 use native.Mathlib.Omega.{arith}
 use borrow.Author.Tests.{lt-ltb, le-ltb, ltb-true, lt-leb}
 use lib.Dec.{ltb}
-use Rattle.trellis.proofs.Count.{and-true}
+use Rattle.lists.proofs.Count.{and-both}
 use Rattle.words.specs.Word.{bitOf}
 use Rattle.forwarding.specs.declared.Hop.{Hop}
 use Rattle.forwarding.specs.Forwarding.{reference, hold, frameTime, delay, Delayed, isFree, mayHold, holdInto}
@@ -24,7 +24,7 @@ module _ (h : Hop) (i : ℕ) where
   a-frame l b e = rw (lt-ltb i (h .frames) l) e
 
   pub frame-in : (b : Bool) → b ≡ (ltb i (h .frames) && isFree h i) → b ≡ true → i < h .frames
-  frame-in b e g = ltb-true i (h .frames) (and-true (ltb i (h .frames)) (isFree h i) (sym e ∙ g) .0)
+  frame-in b e g = ltb-true i (h .frames) (and-both (ltb i (h .frames)) (isFree h i) (sym e ∙ g) .0)
 
 -- ---- one transition
 -- no hold within the range lasts longer than a cycle

@@ -5,7 +5,7 @@ use Prim.Native.Nat.{ℕ, _%_, _<_, _≤_}
 use native.Mathlib.Omega.{arith}
 use borrow.Author.Tests.{lt-ltb, le-ltb, eq-eqb, ne-eqb, ltb-true, ltb-false, eqb-false, not-false}
 use lib.Dec.{eqb, ltb}
-use Rattle.trellis.proofs.Count.{or-false}
+use Rattle.lists.proofs.Count.{or-neither}
 use Rattle.ledger.specs.Routes.{badLength, unknown, apart}
 
 pub no-hop : (n : ℕ) → n ≡ 0 → eqb n 0 ≡ badLength n
@@ -38,7 +38,7 @@ module _ (K K′ : ℕ) where
 pub length-passed : (n : ℕ) → badLength n ≡ false → (0 < n) × (n ≤ 8)
 unfolding badLength
 length-passed n e =
-    let o : (eqb n 0 ≡ false) × (ltb 8 n ≡ false) = or-false (eqb n 0) (ltb 8 n) e in
+    let o : (eqb n 0 ≡ false) × (ltb 8 n ≡ false) = or-neither (eqb n 0) (ltb 8 n) e in
     let z : n ≡ 0 → ⊥ = eqb-false n 0 (o .0) in
     (omega arith, ltb-false 8 n (o .1))
 

@@ -12,7 +12,7 @@ use lib.ListN.{getD, drop}
 use Rattle.trellis.specs.Trellis.{costOf}
 use Rattle.trellis.specs.Paths.{reached}
 use Rattle.trellis.specs.Walk.{goesOn, onwardCost}
-use Rattle.trellis.proofs.Count.{and-true}
+use Rattle.lists.proofs.Count.{and-both}
 use Rattle.places.specs.Places.{firsts}
 use Rattle.places.proofs.Firsts.{next-first, no-first}
 use Rattle.forwarding.specs.declared.Hop.{Hop}
@@ -115,7 +115,7 @@ module _ (T n : ℕ) (hops : List Hop) (frames : List ℕ) (r : Ready T hops n) 
         unfolding fits takes
         lasts =
             let t = step-told T K′ (getD hops j noHop) k i (d .0) step-is in
-            let a = and-true (ltb i (getD hops j noHop .frames)) (stage T K′ (getD hops j noHop) .allowed k i) (t .0) in
+            let a = and-both (ltb i (getD hops j noHop .frames)) (stage T K′ (getD hops j noHop) .allowed k i) (t .0) in
             (ltb-true i (getD hops j noHop .frames) (a .0), omega (arith, t .1, stage-cap T K′ (getD hops j noHop) k i (r .passed j h) (a .1), r .cycle))
 
         pub step-small : c + d .0 ≤ 6720

@@ -8,9 +8,9 @@ use native.Mathlib.Numerals.{add-one}
 use native.Mathlib.Omega.{arith}
 use lib.ListN.{getD, length, replicate, length-replicate}
 use Rattle.trellis.specs.Trellis.{Reach, after, Stage}
-use Rattle.trellis.specs.Count.{countBelow}
+use Rattle.lists.specs.Count.{countBelow}
 use Rattle.trellis.specs.Paths.{reached}
-use Rattle.trellis.proofs.Count.{sum-bound, count-le}
+use Rattle.lists.proofs.Count.{sum-bound, count-le}
 use Rattle.trellis.proofs.Survivor.{Best, nobody, better, bestOf}
 use Rattle.forwarding.specs.declared.Hop.{Hop}
 use Rattle.forwarding.specs.Forwarding.{frameTime, stageOf, stage}

@@ -9,8 +9,8 @@ use lib.Arith.{lt-of-le-ne}
 use lib.Dec.{leb}
 use borrow.Author.Tests.{le-leb, lt-leb, leb-true, leb-false}
 use Rattle.trellis.specs.Trellis.{after, Stage}
-use Rattle.trellis.specs.Count.{oneIf, countBelow}
-use Rattle.trellis.proofs.Count.{sum-cong, sum-const, sum-at}
+use Rattle.lists.specs.Count.{oneIf, countBelow}
+use Rattle.lists.proofs.Count.{sum-cong, sum-const, sum-at}
 use Rattle.trellis.proofs.Survivor.{Offer, none, offer, offerIf, offerOf, Best, better}
 use Rattle.words.specs.Word.{bitOf}
 use Rattle.forwarding.specs.declared.Hop.{Hop}

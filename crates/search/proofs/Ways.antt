@@ -1,6 +1,6 @@
 -- The tests on a way kept at a frame decide as survivor search does, and storing a way turns one frame only. Assumes nothing.
 use mathlib.Core.Path.{_≡_, refl, sym, _∙_, ap}
-use mathlib.Core.Bool.{Bool, true, false, _&&_, _||_}
+use mathlib.Core.Bool.{Bool, true, false, _&&_, _||_, cond}
 use Prim.Native.Nat.{ℕ, zero, suc, _+_, _-_, _<_, _≤_}
 use native.Mathlib.Numerals.{add-one}
 use native.Mathlib.Omega.{arith}
@@ -8,7 +8,6 @@ use lib.Dec.{ltb, eqb}
 use lib.ListN.{set, length-set}
 use lib.Seq.{getD-set-same, getD-set-other}
 use borrow.Author.Tests.{lt-ltb, le-ltb, eq-eqb, ne-eqb}
-use Rattle.trellis.specs.Answer.{pick}
 use Rattle.trellis.proofs.Survivor.{offer, Best, nobody, best, better}
 use Rattle.search.specs.Rows.{Rows, rows, Sized, wayOf, wayAt, taken, Offered}
 
@@ -30,11 +29,11 @@ taken-equal zero h k d e z l = absurd (z refl)
 taken-equal (suc c) h k d e z l = rw (le-ltb d c (omega arith), eq-eqb d c (omega arith))
 
 -- `better` by that test
-better-taken : (b : Best) (d h k : ℕ) → better b (offer d h) k ≡ pick (taken b d h) (best d h k) b
+better-taken : (b : Best) (d h k : ℕ) → better b (offer d h) k ≡ cond (taken b d h) (best d h k) b
 better-taken nobody d h k = refl
 better-taken (best d₀ h₀ k₀) d h k = go (ltb d d₀) (eqb d d₀ && ltb h h₀)
   where
-    go : (x y : Bool) → pick x (best d h k) (pick y (best d h k) (best d₀ h₀ k₀)) ≡ pick (x || y) (best d h k) (best d₀ h₀ k₀)
+    go : (x y : Bool) → cond x (best d h k) (cond y (best d h k) (best d₀ h₀ k₀)) ≡ cond (x || y) (best d h k) (best d₀ h₀ k₀)
     go true y = refl
     go false y = refl
 
@@ -58,7 +57,7 @@ module _ (r : Rows) (base i d h k : ℕ) (z : Sized r) (below : i < 64) (small :
   -- or it is not
   pub offered-left : taken (wayAt r base i) d h ≡ false → Offered base i d h k r r
   offered-left t = record {
-    here = sym (better-taken (wayAt r base i) d h k ∙ ap (λ (b : Bool). pick b (best d h k) (wayAt r base i)) t);
+    here = sym (better-taken (wayAt r base i) d h k ∙ ap (λ (b : Bool). cond b (best d h k) (wayAt r base i)) t);
     others = λ j n. refl;
     earlier = λ m l. refl;
     sized = z;

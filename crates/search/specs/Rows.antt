@@ -6,7 +6,7 @@ use Prim.Native.Nat.{ℕ, zero, suc, _+_, _*_, _<_, _≤_}
 use lib.Dec.{ltb, eqb}
 use lib.ListN.{getD, length}
 use Rattle.trellis.specs.Trellis.{Reach, never, after, Stage, Trellis, entry}
-use Rattle.trellis.specs.Count.{oneIf, sumBelow, countBelow}
+use Rattle.lists.specs.Count.{oneIf, sumBelow, countBelow}
 use Rattle.trellis.specs.Paths.{reached}
 use Rattle.trellis.proofs.Survivor.{Offer, offer, offerOf, Best, nobody, best, better, bestOf, lastOffer, into, row, scanned}
 use Rattle.trellis.proofs.Ladder.{ladder}

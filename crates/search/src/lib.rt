@@ -9,7 +9,7 @@ ghost use mathlib.Core.List.{_++_, reverse};
 ghost use Prim.Native.Nat.{ℕ, _+_, _%_, _<_, _≤_};
 ghost use lib.ListN.{length, drop};
 ghost use Rattle.trellis.specs.Trellis.{after};
-ghost use Rattle.trellis.specs.Count.{oneIf};
+ghost use Rattle.lists.specs.Count.{oneIf};
 ghost use Rattle.trellis.proofs.Survivor.{better, bestOf, lastOffer};
 ghost use Rattle.words.specs.Word.{bitOf};
 ghost use Rattle.forwarding.specs.Forwarding.{stage};

@@ -7,7 +7,7 @@ use native.Mathlib.Omega.{arith}
 use lib.ListN.{length, getD}
 use lib.Dec.{ltb}
 use borrow.Author.Tests.{ltb-true, ltb-false}
-use Rattle.trellis.specs.Count.{countBelow}
+use Rattle.lists.specs.Count.{countBelow}
 use Rattle.places.specs.Places.{firsts}
 use Rattle.places.proofs.Firsts.{length-firsts}
 use Rattle.refusals.specs.Refusals.{refusalNumber, refusalCount, Outcome, given, pass, rulingOf, givenOr}

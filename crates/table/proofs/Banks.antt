@@ -34,27 +34,27 @@ words-none n =
       word = λ a h. getD-replicate n a 0 0 h ∙ word-only 64 0 (λ i. false) (pow-pos 64) (λ i l. bit-zero i);
     }
 
-with-word : (w i : ℕ) → withBit w i ≡ wordOf 64 (λ j. bitOf w j || eqb j i)
+with-word : (w i : ℕ) → withBit 64 w i ≡ wordOf 64 (λ j. bitOf w j || eqb j i)
 unfolding withBit
 with-word w i = refl
 
 -- words with one bit more, bit i of word a
 pub words-put : (n : ℕ) (words : List ℕ) (p : ℕ → ℕ → Bool) → Words n words p → (a i : ℕ) → a < n
-    → Words n (set words a (withBit (getD words a 0) i)) (λ b j. p b j || (eqb a b && eqb i j))
+    → Words n (set words a (withBit 64 (getD words a 0) i)) (λ b j. p b j || (eqb a b && eqb i j))
 words-put n words p w a i h =
-    record { long = length-set words a (withBit (getD words a 0) i) ∙ w .long; word = λ b l. put b l (eqb a b) refl }
+    record { long = length-set words a (withBit 64 (getD words a 0) i) ∙ w .long; word = λ b l. put b l (eqb a b) refl }
   where
-    here : getD (set words a (withBit (getD words a 0) i)) a 0 ≡ wordOf 64 (λ j. p a j || (true && eqb i j))
+    here : getD (set words a (withBit 64 (getD words a 0) i)) a 0 ≡ wordOf 64 (λ j. p a j || (true && eqb i j))
     here =
-        getD-set-same words a (withBit (getD words a 0) i) 0 (omega (arith, h, w .long))
+        getD-set-same words a (withBit 64 (getD words a 0) i) 0 (omega (arith, h, w .long))
         ∙ with-word (getD words a 0) i
         ∙ word-cong 64 (λ j. bitOf (getD words a 0) j || eqb j i) (λ j. p a j || (true && eqb i j))
         (λ j l. ap₂ (λ (x y : Bool). x || y) (words-bit n words p w a j h l) (eqb-flip j i))
 
-    put : (b : ℕ) → b < n → (y : Bool) → eqb a b ≡ y → getD (set words a (withBit (getD words a 0) i)) b 0 ≡ wordOf 64 (λ j. p b j || (y && eqb i j))
+    put : (b : ℕ) → b < n → (y : Bool) → eqb a b ≡ y → getD (set words a (withBit 64 (getD words a 0) i)) b 0 ≡ wordOf 64 (λ j. p b j || (y && eqb i j))
     put b l true e =
-        subst (λ (x : ℕ). getD (set words a (withBit (getD words a 0) i)) x 0 ≡ wordOf 64 (λ j. p x j || (true && eqb i j))) (eqb-true a b e) here
+        subst (λ (x : ℕ). getD (set words a (withBit 64 (getD words a 0) i)) x 0 ≡ wordOf 64 (λ j. p x j || (true && eqb i j))) (eqb-true a b e) here
     put b l false e =
-        getD-set-other words a b (withBit (getD words a 0) i) 0 (λ q. eqb-false a b e (sym q))
+        getD-set-other words a b (withBit 64 (getD words a 0) i) 0 (λ q. eqb-false a b e (sym q))
         ∙ w .word b l
         ∙ word-cong 64 (p b) (λ j. p b j || (false && eqb i j)) (λ j m. sym (or-false (p b j)))

@@ -40,13 +40,13 @@ module _ (hops : ℕ) (route frames : List ℕ) (old : List ℕ) where
       nothing false l i = refl
 
   pub one-hop : (j : ℕ) (words : List ℕ) → Marking j words → j < hops
-      → (w : ℕ) → w ≡ withBit (getD words (getD route j 0) 0) (getD frames j 0) → Marking (j + 1) (set words (getD route j 0) w)
+      → (w : ℕ) → w ≡ withBit 64 (getD words (getD route j 0) 0) (getD frames j 0) → Marking (j + 1) (set words (getD route j 0) w)
   one-hop j words m h w e =
       subst (λ (x : ℕ). Marking (j + 1) (set words (getD route j 0) x)) (sym e)
       record {
         within = omega arith;
         arrays = m .arrays;
-        long = length-set words l (withBit (getD words l 0) i) ∙ m .long;
+        long = length-set words l (withBit 64 (getD words l 0) i) ∙ m .long;
         marked = λ p u. words-same 32 _ (λ b k. (p b k || names rs fs b k) || (eqb l b && eqb i k)) (λ b k. p b k || names (firsts (j + 1) route 0) (firsts (j + 1) frames 0) b k)
             (λ b k hb hk. joined (p b k) b k) (words-put 32 words (λ b k. p b k || names rs fs b k) (m .marked p u) l i (m .arrays .link j h));
       }

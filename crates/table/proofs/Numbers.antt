@@ -56,7 +56,7 @@ same-parts n a b h = go (eqb (64 * a + b) n) refl
 
 -- the bit of one number more
 pub number-put : (places : List Place) (i : ℕ) (seen : List ℕ) → Words 1024 seen (seenIn places i) → (n : ℕ) → n ≡ getD places i noPlace .number → n < 65536
-    → (x : ℕ) → x ≡ withBit (getD seen (n / 64) 0) (n % 64) → Words 1024 (set seen (n / 64) x) (seenIn places (i + 1))
+    → (x : ℕ) → x ≡ withBit 64 (getD seen (n / 64) 0) (n % 64) → Words 1024 (set seen (n / 64) x) (seenIn places (i + 1))
 unfolding seenIn
 number-put places i seen w n e h x ex =
     subst (λ (y : ℕ). Words 1024 (set seen (n / 64) y) (seenIn places (i + 1))) (sym ex)

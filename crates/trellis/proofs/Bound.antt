@@ -7,9 +7,9 @@ use native.Mathlib.Nat.{le-trans}
 use native.Mathlib.Omega.{arith}
 use lib.ListN.{getD}
 use Rattle.trellis.specs.Trellis.{Reach, never, after, costOf, Stage, Trellis, entry, _▸_, width, Leads, total}
-use Rattle.trellis.specs.Count.{oneIf, countBelow}
-use Rattle.trellis.specs.Considered.{ends, considered}
-use Rattle.trellis.proofs.Count.{sum-le, sum-bound, and-right-le}
+use Rattle.lists.specs.Count.{oneIf, countBelow}
+use Rattle.trellis.specs.Considered.{endsPath, considered}
+use Rattle.lists.proofs.Count.{sum-le, sum-bound, and-right-le}
 use Rattle.trellis.proofs.Survivor.{row, back}
 use Rattle.trellis.proofs.Optimal.{Survives, survives}
 
@@ -19,8 +19,8 @@ pub step-bound : (t : Trellis) (st : Stage) (w : ℕ) → ((k : ℕ) → k < wid
 step-bound t st w h =
     omega (
       arith,
-      sum-bound (width t) w (λ k. countBelow (st .size) (λ i. ends t k && st .allowed k i))
-          (λ k l. le-trans (sum-le (st .size) (λ i. oneIf (ends t k && st .allowed k i)) (λ i. oneIf (st .allowed k i)) (λ i m. and-right-le (ends t k) (st .allowed k i))) (h k l)),
+      sum-bound (width t) w (λ k. countBelow (st .size) (λ i. endsPath t k && st .allowed k i))
+          (λ k l. le-trans (sum-le (st .size) (λ i. oneIf (endsPath t k && st .allowed k i)) (λ i. oneIf (st .allowed k i)) (λ i m. and-right-le (endsPath t k) (st .allowed k i))) (h k l)),
     )
 
 -- no path costs more than b

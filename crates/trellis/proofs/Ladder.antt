@@ -4,8 +4,7 @@ use mathlib.Core.List.{List, [], _∷_, _++_}
 use Prim.Native.Nat.{ℕ, zero, suc, _<_}
 use native.Mathlib.Omega.{arith}
 use lib.ListN.{getD, length}
-use Rattle.trellis.specs.Trellis.{Stage, Trellis, _▸_}
-use Rattle.trellis.specs.Walk.{grow}
+use Rattle.trellis.specs.Trellis.{Stage, Trellis, _▸_, grow}
 use Rattle.trellis.proofs.Survivor.{tab}
 
 -- t with the first n of the stages f 0, f 1, ..

@@ -1,17 +1,17 @@
 -- Survivor search gives the least of the list of all paths: the answer that the rules ask for. Assumes nothing.
 use mathlib.Core.Path.{_≡_, refl, sym, _∙_, ap₂, subst}
-use mathlib.Core.Bool.{Bool, true, false}
+use mathlib.Core.Bool.{Bool, true, false, cond}
 use mathlib.Core.List.{List, [], _∷_, reverse-reverse, List·Memᴰ, List·Memᴰ·head, List·Memᴰ·tail, List·Memᴰ·cases-cons, List·Memᴰ·not-nil}
 use mathlib.Core.Logic.{_⊎_, inl, inr, ⊎-elim}
 use Prim.Native.Nat.{ℕ, _+_}
 use native.Mathlib.Omega.{arith}
 use lib.ListN.{getD, length}
-use Rattle.trellis.specs.Order.{Precedes, precedes}
+use Rattle.lists.specs.Order.{Precedes, precedes}
 use Rattle.trellis.specs.Trellis.{Reach, never, after, Trellis, entry, _▸_, Leads, total, behind, key, IsPath, pathKey}
 use Rattle.trellis.specs.Paths.{reached, allPaths}
-use Rattle.trellis.specs.Considered.{ends, considered}
-use Rattle.trellis.specs.Answer.{blocked, pick, leastBy, answerFrom, answer, IsAnswer}
-use Rattle.trellis.proofs.Order.{precedes-refl, precedes-trans, test-precedes, test-follows}
+use Rattle.trellis.specs.Considered.{endsPath, considered}
+use Rattle.trellis.specs.Answer.{blocked, leastBy, answerFrom, answer, IsAnswer, AnswerRight}
+use Rattle.lists.proofs.Order.{precedes-refl, precedes-trans, test-precedes, test-follows}
 use Rattle.trellis.proofs.Paths.{path-below, path-listed, listed-path, ends-path, path-ends}
 use Rattle.trellis.proofs.Survivor.{Offer, none, offer, Best, nobody, best, row, back, lastOffer, final, scanned, answerOf, survivor}
 use Rattle.trellis.proofs.Select.{IsBest, is-best, offer-not-none}
@@ -19,10 +19,10 @@ use Rattle.trellis.proofs.Optimal.{LeastTo, Survives, survives, length-
 use Rattle.trellis.proofs.Only.{answer-only}
 
 -- the row tells which nodes some path ends in
-row-ends : (t : Trellis) (k : ℕ) → reached (getD (row t) k never) ≡ ends t k
-row-ends t k = go (getD (row t) k never) (survives t k) (ends t k) refl
+row-ends : (t : Trellis) (k : ℕ) → reached (getD (row t) k never) ≡ endsPath t k
+row-ends t k = go (getD (row t) k never) (survives t k) (endsPath t k) refl
   where
-    go : (x : Reach) → Survives t k (back t k) x → (b : Bool) → ends t k ≡ b → reached x ≡ b
+    go : (x : Reach) → Survives t k (back t k) x → (b : Bool) → endsPath t k ≡ b → reached x ≡ b
     go never s false e = refl
     go never s true e = let w = ends-path t k e in absurd (s (w .0) (w .1))
     go (after c) s b e = sym (path-ends t k (back t k) (s .path)) ∙ e
@@ -87,41 +87,41 @@ survivor-right t = closing t (final t) (is-best (λ i. lastOffer (getD (row t) i
 
 -- the least of a list is in it, and no member comes before it
 module _ (key : List ℕ → List ℕ) where
-  picked-in : (b : Bool) (x y : List ℕ) (l : List (List ℕ)) (z : List ℕ) → List·Memᴰ z (pick b x y ∷ l) → List·Memᴰ z (x ∷ y ∷ l)
+  picked-in : (b : Bool) (x y : List ℕ) (l : List (List ℕ)) (z : List ℕ) → List·Memᴰ z (cond b x y ∷ l) → List·Memᴰ z (x ∷ y ∷ l)
   picked-in b x y l z m = ⊎-elim (λ e. go b e) (λ r. List·Memᴰ·tail (List·Memᴰ·tail r)) (List·Memᴰ·cases-cons m)
     where
-      go : (b : Bool) → z ≡ pick b x y → List·Memᴰ z (x ∷ y ∷ l)
+      go : (b : Bool) → z ≡ cond b x y → List·Memᴰ z (x ∷ y ∷ l)
       go true e = List·Memᴰ·head e
       go false e = List·Memᴰ·tail (List·Memᴰ·head e)
 
   least-in : (x : List ℕ) (l : List (List ℕ)) → List·Memᴰ (leastBy key x l) (x ∷ l)
   least-in x [] = List·Memᴰ·head refl
-  least-in x (y ∷ l) = picked-in (precedes (key x) (key y)) x y l (leastBy key (pick (precedes (key x) (key y)) x y) l) (least-in (pick (precedes (key x) (key y)) x y) l)
+  least-in x (y ∷ l) = picked-in (precedes (key x) (key y)) x y l (leastBy key (cond (precedes (key x) (key y)) x y) l) (least-in (cond (precedes (key x) (key y)) x y) l)
 
-  pick-first : (x y : List ℕ) → Precedes (key (pick (precedes (key x) (key y)) x y)) (key x) × Precedes (key (pick (precedes (key x) (key y)) x y)) (key y)
-  pick-first x y = go (precedes (key x) (key y)) refl
+  cond-first : (x y : List ℕ) → Precedes (key (cond (precedes (key x) (key y)) x y)) (key x) × Precedes (key (cond (precedes (key x) (key y)) x y)) (key y)
+  cond-first x y = go (precedes (key x) (key y)) refl
     where
-      go : (b : Bool) → precedes (key x) (key y) ≡ b → Precedes (key (pick b x y)) (key x) × Precedes (key (pick b x y)) (key y)
+      go : (b : Bool) → precedes (key x) (key y) ≡ b → Precedes (key (cond b x y)) (key x) × Precedes (key (cond b x y)) (key y)
       go true e = (precedes-refl (key x), test-precedes (key x) (key y) e)
       go false e = (test-follows (key x) (key y) e, precedes-refl (key y))
 
   least-first : (x : List ℕ) (l : List (List ℕ)) (z : List ℕ) → List·Memᴰ z (x ∷ l) → Precedes (key (leastBy key x l)) (key z)
   least-first x [] z m = ⊎-elim (λ e. rw e (precedes-refl (key x))) (λ r. absurd (List·Memᴰ·not-nil r)) (List·Memᴰ·cases-cons m)
   least-first x (y ∷ l) z m =
-      let w : List ℕ = pick (precedes (key x) (key y)) x y in
+      let w : List ℕ = cond (precedes (key x) (key y)) x y in
       let f : Precedes (key (leastBy key w l)) (key w) = least-first w l w (List·Memᴰ·head refl) in
-      ⊎-elim (λ e. rw e (precedes-trans (key (leastBy key w l)) (key w) (key x) f (pick-first x y .0)))
-      (λ r. ⊎-elim (λ e. rw e (precedes-trans (key (leastBy key w l)) (key w) (key y) f (pick-first x y .1)))
+      ⊎-elim (λ e. rw e (precedes-trans (key (leastBy key w l)) (key w) (key x) f (cond-first x y .0)))
+      (λ r. ⊎-elim (λ e. rw e (precedes-trans (key (leastBy key w l)) (key w) (key y) f (cond-first x y .1)))
       (λ s. least-first w l z (List·Memᴰ·tail s)) (List·Memᴰ·cases-cons r)) (List·Memᴰ·cases-cons m)
 
 from-list : (t : Trellis) (l : List (List ℕ)) → ((p : List ℕ) → IsPath t p → List·Memᴰ p l) → ((p : List ℕ) → List·Memᴰ p l → IsPath t p) → IsAnswer t (answerFrom t l)
-from-list t [] all some = (λ p h. List·Memᴰ·not-nil (all p h), refl)
-from-list t (p ∷ l) all some =
+from-list t [] all listed = (λ p h. List·Memᴰ·not-nil (all p h), refl)
+from-list t (p ∷ l) all listed =
     rw (reverse-reverse (leastBy (pathKey t) p l))
-    (record { path = some (leastBy (pathKey t) p l) (least-in (pathKey t) p l); first = λ q h. least-first (pathKey t) p l q (all q h) }, refl, refl)
+    (record { path = listed (leastBy (pathKey t) p l) (least-in (pathKey t) p l); first = λ q h. least-first (pathKey t) p l q (all q h) }, refl, refl)
 
 -- THE RULE'S ANSWER is the least path with its cost and the count, or blocked where there is no path
-pub answer-right : (t : Trellis) → IsAnswer t (answer t)
+pub answer-right : AnswerRight
 answer-right t = from-list t (allPaths t) (λ p h. path-listed t p h) (λ p m. listed-path t p m)
 
 -- SURVIVOR SEARCH GIVES THE RULE'S ANSWER

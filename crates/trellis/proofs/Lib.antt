@@ -1,5 +1,3 @@
-pub mod Count
-pub mod Order
 pub mod Paths
 pub mod Survivor
 pub mod Select
@@ -7,6 +5,6 @@ pub mod Optimal
 pub mod Only
 pub mod Least
 pub mod Bound
-pub mod Walk
+pub mod Forwards
 pub mod Ladder
 pub mod Parts

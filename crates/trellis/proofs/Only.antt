@@ -3,8 +3,8 @@ use mathlib.Core.Path.{_≡_, refl, sym, _∙_, ap, ap₂}
 use mathlib.Core.List.{List, [], _∷_, reverse, reverse-reverse}
 use Prim.Native.Nat.{ℕ, _≤_}
 use Rattle.trellis.specs.Trellis.{Trellis, entry, _▸_, Leads, total, behind, IsPath, pathCost, pathKey, Least}
-use Rattle.trellis.specs.Answer.{Answer, found, blocked, IsAnswer}
-use Rattle.trellis.proofs.Order.{precedes-antisym, precedes-head}
+use Rattle.trellis.specs.Answer.{Answer, found, blocked, IsAnswer, AnswerOnly}
+use Rattle.lists.proofs.Order.{precedes-antisym, precedes-head}
 
 -- a path is known by its key
 same-before : (t : Trellis) (i j : ℕ) (p q : List ℕ) → Leads t i p → Leads t j q → behind t i p ≡ behind t j q → p ≡ q
@@ -32,7 +32,7 @@ least-only t p q a b =
     same-path t p q (a .path) (b .path) (precedes-antisym (pathKey t p) (pathKey t q) (a .first q (b .path)) (b .first p (a .path)))
 
 -- THE RULE HAS ONE ANSWER
-pub answer-only : (t : Trellis) (a b : Answer) → IsAnswer t a → IsAnswer t b → a ≡ b
+pub answer-only : AnswerOnly
 answer-only t (found c n p) (found c′ n′ p′) h l =
     let e : p ≡ p′ = sym (reverse-reverse p) ∙ ap reverse (least-only t (reverse p) (reverse p′) (h .0) (l .0)) ∙ reverse-reverse p′ in
     cc (h .1, l .1, h .2, l .2)

@@ -9,9 +9,9 @@ use native.Mathlib.Omega.{arith}
 use native.Mathlib.Decide.{decLt}
 use lib.ListN.{getD, length, length-append, List·getD-eq-default, List·getD-append}
 use lib.Seq.{getD-at}
-use Rattle.trellis.specs.Order.{Precedes}
+use Rattle.lists.specs.Order.{Precedes}
 use Rattle.trellis.specs.Trellis.{Reach, never, after, Stage, Trellis, entry, _▸_, width, Leads, total, behind, key}
-use Rattle.trellis.proofs.Order.{precedes-refl, precedes-trans, precedes-add, precedes-put}
+use Rattle.lists.proofs.Order.{precedes-refl, precedes-trans, precedes-add, precedes-put}
 use Rattle.trellis.proofs.Paths.{path-below}
 use Rattle.trellis.proofs.Survivor.{tab, Offer, none, offer, Best, nobody, best, offerIf, offerOf, reachOf, nodeOf, into, row, back}
 use Rattle.trellis.proofs.Select.{IsBest, is-best, offer-not-none}

@@ -5,10 +5,9 @@ use Prim.Native.Nat.{ℕ, _+_}
 use native.Mathlib.Omega.{arith}
 use lib.ListN.{getD, length}
 use lib.Seq.{ext-getD}
-use Rattle.trellis.specs.Trellis.{Reach, never, Stage, Trellis, entry, _▸_}
+use Rattle.trellis.specs.Trellis.{Reach, never, Stage, Trellis, entry, _▸_, grow}
 use Rattle.trellis.specs.Considered.{considered}
 use Rattle.trellis.specs.Answer.{Answer, found, blocked, answer}
-use Rattle.trellis.specs.Walk.{grow}
 use Rattle.trellis.proofs.Survivor.{tab, Best, nobody, best, bestOf, nodeOf, into, row, back, lastOffer, final, scanned, answerOf, survivor}
 use Rattle.trellis.proofs.Optimal.{length-tab, tab-at}
 use Rattle.trellis.proofs.Least.{scanned-right, survivor-least}

@@ -1,5 +1,6 @@
--- The list of all paths has each path, nothing else, and nothing twice; and `ends` says where paths end. Assumes nothing.
+-- The list of all paths has each path, nothing else, and nothing twice; and `endsPath` says where paths end. Assumes nothing.
 use mathlib.Core.Path.{_≡_, refl, sym, _∙_, ap}
+use Rattle.lists.specs.Once.{EachOnce}
 use mathlib.Core.Bool.{Bool, true, false, _&&_}
 use mathlib.Core.List.{List, [], _∷_, _++_, map, List·Memᴰ, List·Memᴰ·head, List·Memᴰ·tail, Memᴰ·append-left, Memᴰ·append-right, List·Memᴰ·append-cases, List·Memᴰ·eq-of-singleton, List·Memᴰ·not-nil, Memᴰ·map, Memᴰ·of-map, Memᴰ·cast, head-eq-of-cons-eq, tail-eq-of-cons-eq}
 use mathlib.Core.Logic.{_⊎_, ⊎-elim}
@@ -9,9 +10,9 @@ use native.Mathlib.Omega.{arith}
 use lib.Dec.{ltb}
 use borrow.Author.Tests.{ltb-true, lt-ltb}
 use Rattle.trellis.specs.Trellis.{Reach, never, after, Trellis, entry, _▸_, width, Leads, IsPath}
-use Rattle.trellis.specs.Paths.{reached, when, gather, pathsTo, allPaths, EachOnce}
-use Rattle.trellis.specs.Considered.{some, ends}
-use Rattle.trellis.proofs.Count.{and-true, true-and}
+use Rattle.trellis.specs.Paths.{reached, listIf, gather, pathsTo, allPaths, ListsAll, AllPathsListed}
+use Rattle.trellis.specs.Considered.{hasMember, endsPath}
+use Rattle.lists.proofs.Count.{and-both, both-and}
 
 pub reached-some : (x : Reach) → reached x ≡ true → (c : ℕ) × (x ≡ after c)
 reached-some never e = absurd (let z : _≡_ {A = ℕ} 0 1 = cc in omega arith)
@@ -25,12 +26,12 @@ path-below (t ▸ st) i [] h = absurd h
 path-below (t ▸ st) i (k ∷ p) h = h .0
 
 -- members
-when-in {ℓ} : {A : Type ℓ} {x : A} (b : Bool) (l : List A) → b ≡ true → List·Memᴰ x l → List·Memᴰ x (when b l)
-when-in b l e m = rw e m
+listed-if-in {ℓ} : {A : Type ℓ} {x : A} (b : Bool) (l : List A) → b ≡ true → List·Memᴰ x l → List·Memᴰ x (listIf b l)
+listed-if-in b l e m = rw e m
 
-when-of {ℓ} : {A : Type ℓ} {x : A} (b : Bool) (l : List A) → List·Memᴰ x (when b l) → (b ≡ true) × List·Memᴰ x l
-when-of true l m = (refl, m)
-when-of false l m = absurd (List·Memᴰ·not-nil m)
+listed-if-of {ℓ} : {A : Type ℓ} {x : A} (b : Bool) (l : List A) → List·Memᴰ x (listIf b l) → (b ≡ true) × List·Memᴰ x l
+listed-if-of true l m = (refl, m)
+listed-if-of false l m = absurd (List·Memᴰ·not-nil m)
 
 gather-in {ℓ} : {A : Type ℓ} {x : A} (n : ℕ) (g : ℕ → List A) (k : ℕ) → k < n → List·Memᴰ x (g k) → List·Memᴰ x (gather n g)
 gather-in zero g k h m = absurd (not-suc-le-zero h)
@@ -51,26 +52,26 @@ gather-of (suc n) g m =
 -- every listed one is a path, and every path is listed
 pub listed-leads : (t : Trellis) (i : ℕ) (p : List ℕ) → List·Memᴰ p (pathsTo t i) → Leads t i p
 listed-leads (entry n s) i p m =
-    let w = when-of (ltb i n && reached (s i)) ([] ∷ []) m in
+    let w = listed-if-of (ltb i n && reached (s i)) ([] ∷ []) m in
     let e = List·Memᴰ·eq-of-singleton (w .1) in
-    let v = and-true (ltb i n) (reached (s i)) (w .0) in
+    let v = and-both (ltb i n) (reached (s i)) (w .0) in
     rw e (ltb-true i n (v .0), reached-some (s i) (v .1))
 listed-leads (t ▸ st) i p m =
-    let w = when-of (ltb i (st .size)) (gather (width t) (λ k. when (st .allowed k i) (map (λ p. k ∷ p) (pathsTo t k)))) m in
-    let v = gather-of (width t) (λ k. when (st .allowed k i) (map (λ p. k ∷ p) (pathsTo t k))) (w .1) in
-    let u = when-of (st .allowed (v .place) i) (map (λ p. v .place ∷ p) (pathsTo t (v .place))) (v .there) in
+    let w = listed-if-of (ltb i (st .size)) (gather (width t) (λ k. listIf (st .allowed k i) (map (λ p. k ∷ p) (pathsTo t k)))) m in
+    let v = gather-of (width t) (λ k. listIf (st .allowed k i) (map (λ p. k ∷ p) (pathsTo t k))) (w .1) in
+    let u = listed-if-of (st .allowed (v .place) i) (map (λ p. v .place ∷ p) (pathsTo t (v .place))) (v .there) in
     let q = Memᴰ·of-map (λ p. v .place ∷ p) (pathsTo t (v .place)) (u .1) in
     rw (← q .2) (ltb-true i (st .size) (w .0), u .0, listed-leads t (v .place) (q .0) (q .1))
 
 pub leads-listed : (t : Trellis) (i : ℕ) (p : List ℕ) → Leads t i p → List·Memᴰ p (pathsTo t i)
 leads-listed (entry n s) i [] h =
-    when-in (ltb i n && reached (s i)) ([] ∷ []) (true-and (ltb i n) (reached (s i)) (lt-ltb i n (h .0)) (ap reached (h .1 .1))) (List·Memᴰ·head refl)
+    listed-if-in (ltb i n && reached (s i)) ([] ∷ []) (both-and (ltb i n) (reached (s i)) (lt-ltb i n (h .0)) (ap reached (h .1 .1))) (List·Memᴰ·head refl)
 leads-listed (entry n s) i (k ∷ p) h = absurd h
 leads-listed (t ▸ st) i [] h = absurd h
 leads-listed (t ▸ st) i (k ∷ p) h =
-    when-in (ltb i (st .size)) (gather (width t) (λ k. when (st .allowed k i) (map (λ p. k ∷ p) (pathsTo t k)))) (lt-ltb i (st .size) (h .0))
-    (gather-in (width t) (λ k. when (st .allowed k i) (map (λ p. k ∷ p) (pathsTo t k))) k (path-below t k p (h .2))
-    (when-in (st .allowed k i) (map (λ p. k ∷ p) (pathsTo t k)) (h .1) (Memᴰ·map (λ p. k ∷ p) (leads-listed t k p (h .2)))))
+    listed-if-in (ltb i (st .size)) (gather (width t) (λ k. listIf (st .allowed k i) (map (λ p. k ∷ p) (pathsTo t k)))) (lt-ltb i (st .size) (h .0))
+    (gather-in (width t) (λ k. listIf (st .allowed k i) (map (λ p. k ∷ p) (pathsTo t k))) k (path-below t k p (h .2))
+    (listed-if-in (st .allowed k i) (map (λ p. k ∷ p) (pathsTo t k)) (h .1) (Memᴰ·map (λ p. k ∷ p) (leads-listed t k p (h .2)))))
 
 -- each once
 once-append {ℓ} : {A : Type ℓ} (xs ys : List A) → EachOnce xs → EachOnce ys → ((x : A) → List·Memᴰ x xs → List·Memᴰ x ys → ⊥) → EachOnce (xs ++ ys)
@@ -87,9 +88,9 @@ once-gather (suc n) g o d =
     once-append (gather n g) (g n) (once-gather n g o d) (o n)
     (λ x l r. let w = gather-of n g l in let e : w .place ≡ n = d (w .place) n x (w .there) r in omega (arith, w .below))
 
-once-when {ℓ} : {A : Type ℓ} (b : Bool) (l : List A) → EachOnce l → EachOnce (when b l)
-once-when true l o = o
-once-when false l o = tt
+once-if {ℓ} : {A : Type ℓ} (b : Bool) (l : List A) → EachOnce l → EachOnce (listIf b l)
+once-if true l o = o
+once-if false l o = tt
 
 once-map : (k : ℕ) (l : List (List ℕ)) → EachOnce l → EachOnce (map (λ p. k ∷ p) l)
 once-map k [] o = tt
@@ -104,16 +105,16 @@ same-head j k ls ms x a b =
     head-eq-of-cons-eq (u .2 ∙ sym (v .2))
 
 pub paths-once : (t : Trellis) (i : ℕ) → EachOnce (pathsTo t i)
-paths-once (entry n s) i = once-when (ltb i n && reached (s i)) ([] ∷ []) (λ m. List·Memᴰ·not-nil m, tt)
+paths-once (entry n s) i = once-if (ltb i n && reached (s i)) ([] ∷ []) (λ m. List·Memᴰ·not-nil m, tt)
 paths-once (t ▸ st) i =
-    once-when (ltb i (st .size)) (gather (width t) (λ k. when (st .allowed k i) (map (λ p. k ∷ p) (pathsTo t k))))
-    (once-gather (width t) (λ k. when (st .allowed k i) (map (λ p. k ∷ p) (pathsTo t k)))
-    (λ k. once-when (st .allowed k i) (map (λ p. k ∷ p) (pathsTo t k)) (once-map k (pathsTo t k) (paths-once t k)))
+    once-if (ltb i (st .size)) (gather (width t) (λ k. listIf (st .allowed k i) (map (λ p. k ∷ p) (pathsTo t k))))
+    (once-gather (width t) (λ k. listIf (st .allowed k i) (map (λ p. k ∷ p) (pathsTo t k)))
+    (λ k. once-if (st .allowed k i) (map (λ p. k ∷ p) (pathsTo t k)) (once-map k (pathsTo t k) (paths-once t k)))
     (λ j k x a b. same-head j k (pathsTo t j) (pathsTo t k) x
-    (when-of (st .allowed j i) (map (λ p. j ∷ p) (pathsTo t j)) a .1)
-    (when-of (st .allowed k i) (map (λ p. k ∷ p) (pathsTo t k)) b .1)))
+    (listed-if-of (st .allowed j i) (map (λ p. j ∷ p) (pathsTo t j)) a .1)
+    (listed-if-of (st .allowed k i) (map (λ p. k ∷ p) (pathsTo t k)) b .1)))
 
--- THE LIST OF ALL PATHS has each path, nothing else, and nothing twice
+-- each path once
 pub all-once : (t : Trellis) → EachOnce (allPaths t)
 all-once t =
     once-gather (width t) (λ i. map (λ p. i ∷ p) (pathsTo t i)) (λ i. once-map i (pathsTo t i) (paths-once t i))
@@ -130,17 +131,21 @@ listed-path t p m =
     let q = Memᴰ·of-map (λ p. w .place ∷ p) (pathsTo t (w .place)) (w .there) in
     rw (← q .2) (listed-leads t (w .place) (q .0) (q .1))
 
--- `ends` says whether a path ends in the node
-some-first : (l : List (List ℕ)) → some l ≡ true → (p : List ℕ) × List·Memᴰ p l
+-- `endsPath` says whether a path ends in the node
+some-first : (l : List (List ℕ)) → hasMember l ≡ true → (p : List ℕ) × List·Memᴰ p l
 some-first [] e = absurd (let z : _≡_ {A = ℕ} 0 1 = cc in omega arith)
 some-first (p ∷ l) e = (p, List·Memᴰ·head refl)
 
-member-some : (l : List (List ℕ)) (p : List ℕ) → List·Memᴰ p l → some l ≡ true
+member-some : (l : List (List ℕ)) (p : List ℕ) → List·Memᴰ p l → hasMember l ≡ true
 member-some [] p m = absurd (List·Memᴰ·not-nil m)
 member-some (q ∷ l) p m = refl
 
-pub ends-path : (t : Trellis) (i : ℕ) → ends t i ≡ true → (p : List ℕ) × Leads t i p
+pub ends-path : (t : Trellis) (i : ℕ) → endsPath t i ≡ true → (p : List ℕ) × Leads t i p
 ends-path t i e = let w = some-first (pathsTo t i) e in (w .0, listed-leads t i (w .0) (w .1))
 
-pub path-ends : (t : Trellis) (i : ℕ) (p : List ℕ) → Leads t i p → ends t i ≡ true
+pub path-ends : (t : Trellis) (i : ℕ) (p : List ℕ) → Leads t i p → endsPath t i ≡ true
 path-ends t i p h = member-some (pathsTo t i) p (leads-listed t i p h)
+
+-- THE LIST OF ALL PATHS
+pub all-listed : AllPathsListed
+all-listed t = record { listed = λ p. (listed-path t p, path-listed t p); once = all-once t }

@@ -1,6 +1,6 @@
 -- The best offer of a run of nodes is least by cost, rank and node, and there is no other. Assumes nothing.
 use mathlib.Core.Path.{_≡_, refl, sym, _∙_, ap}
-use mathlib.Core.Bool.{Bool, true, false, _&&_}
+use mathlib.Core.Bool.{Bool, true, false, _&&_, cond}
 use mathlib.Core.List.{List, [], _∷_}
 use mathlib.Core.Logic.{_⊎_, inl, inr}
 use Prim.Native.Nat.{ℕ, zero, suc, _<_, _≤_}
@@ -8,9 +8,8 @@ use native.Mathlib.Nat.{eq-or-lt-of-le, le-of-suc-le-suc, not-suc-le-zero}
 use native.Mathlib.Omega.{arith}
 use lib.Dec.{ltb, eqb}
 use borrow.Author.Tests.{ltb-true, ltb-false, eqb-true, eqb-false}
-use Rattle.trellis.specs.Order.{Precedes}
-use Rattle.trellis.specs.Answer.{pick}
-use Rattle.trellis.proofs.Order.{precedes-trans, precedes-antisym}
+use Rattle.lists.specs.Order.{Precedes}
+use Rattle.lists.proofs.Order.{precedes-trans, precedes-antisym}
 use Rattle.trellis.proofs.Survivor.{Offer, none, offer, Best, nobody, best, better, bestOf}
 
 -- b is the best of the offers of the nodes below n
@@ -78,7 +77,7 @@ module _ (f : ℕ → Offer) (n : ℕ) where
 
   -- the tests decide as the order does
   decide : (c₀ r₀ k₀ c r : ℕ) → f n ≡ offer c r → IsBest f n (best c₀ r₀ k₀)
-      → IsBest f (suc n) (pick (ltb c c₀) (best c r n) (pick (eqb c c₀ && ltb r r₀) (best c r n) (best c₀ r₀ k₀)))
+      → IsBest f (suc n) (cond (ltb c c₀) (best c r n) (cond (eqb c c₀ && ltb r r₀) (best c r n) (best c₀ r₀ k₀)))
   decide c₀ r₀ k₀ c r e h = go (ltb c c₀) refl (eqb c c₀) refl (ltb r r₀) refl
     where
       older : c₀ ≤ c → r₀ ≤ r → Precedes (c₀ ∷ r₀ ∷ k₀ ∷ []) (c ∷ r ∷ n ∷ [])
@@ -90,7 +89,7 @@ module _ (f : ℕ → Offer) (n : ℕ) where
           step (inl x) (inl y) = inr (x, inr (y, inl (h .0)))
 
       go : (t : Bool) → ltb c c₀ ≡ t → (u : Bool) → eqb c c₀ ≡ u → (v : Bool) → ltb r r₀ ≡ v
-          → IsBest f (suc n) (pick t (best c r n) (pick (u && v) (best c r n) (best c₀ r₀ k₀)))
+          → IsBest f (suc n) (cond t (best c r n) (cond (u && v) (best c r n) (best c₀ r₀ k₀)))
       go true p u q v s = take-new c₀ r₀ k₀ c r e h (inl (ltb-true c c₀ p))
       go false p true q true s = take-new c₀ r₀ k₀ c r e h (inr (eqb-true c c₀ q, inl (ltb-true r r₀ s)))
       go false p true q false s = keep-old c₀ r₀ k₀ c r e h (older (ltb-false c c₀ p) (ltb-false r r₀ s))

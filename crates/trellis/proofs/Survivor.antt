@@ -1,13 +1,13 @@
 -- Survivor search (source document 000): for each stage the least cost to each of its nodes, from that of the stage before. Assumes nothing.
-use mathlib.Core.Bool.{Bool, true, false, _&&_}
+use mathlib.Core.Bool.{Bool, true, false, _&&_, cond}
 use mathlib.Core.List.{List, [], _∷_, _++_, reverse}
 use Prim.Native.Nat.{ℕ, zero, suc, _+_}
 use lib.Dec.{ltb, eqb}
 use lib.ListN.{getD, length}
 use Rattle.trellis.specs.Trellis.{Reach, never, after, Stage, Trellis, entry, _▸_}
-use Rattle.trellis.specs.Count.{sumBelow, countBelow}
+use Rattle.lists.specs.Count.{sumBelow, countBelow}
 use Rattle.trellis.specs.Paths.{reached}
-use Rattle.trellis.specs.Answer.{Answer, found, blocked, pick}
+use Rattle.trellis.specs.Answer.{Answer, found, blocked}
 
 -- the table of f at the numbers below n
 abbrev pub tab {ℓ} : {A : Type ℓ} → ℕ → (ℕ → A) → List A
@@ -29,7 +29,7 @@ abbrev pub better : Best → Offer → ℕ → Best
 better b none k = b
 better nobody (offer c r) k = best c r k
 better (best c₀ r₀ k₀) (offer c r) k =
-    pick (ltb c c₀) (best c r k) (pick (eqb c c₀ && ltb r r₀) (best c r k) (best c₀ r₀ k₀))
+    cond (ltb c c₀) (best c r k) (cond (eqb c c₀ && ltb r r₀) (best c r k) (best c₀ r₀ k₀))
 
 -- the best of the offers of the nodes below n
 abbrev pub bestOf : (ℕ → Offer) → ℕ → Best

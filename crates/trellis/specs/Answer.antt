@@ -1,9 +1,9 @@
 -- The answer that the rules ask for: the least of the list of all paths, with no search in it. Assumes nothing.
 use mathlib.Core.Path.{_≡_}
-use mathlib.Core.Bool.{Bool, true, false}
+use mathlib.Core.Bool.{Bool, true, false, cond}
 use mathlib.Core.List.{List, [], _∷_, reverse}
 use Prim.Native.Nat.{ℕ}
-use Rattle.trellis.specs.Order.{precedes}
+use Rattle.lists.specs.Order.{precedes}
 use Rattle.trellis.specs.Trellis.{Trellis, IsPath, pathCost, pathKey, Least}
 use Rattle.trellis.specs.Paths.{allPaths}
 use Rattle.trellis.specs.Considered.{considered}
@@ -18,14 +18,10 @@ abbrev pub nodesOf : Answer → List ℕ
 nodesOf (found c n nodes) = nodes
 nodesOf (blocked n) = []
 
-abbrev pub pick {ℓ} : {A : Type ℓ} → Bool → A → A → A
-pick true x y = x
-pick false x y = y
-
 -- the least of x and the members of a list, by their keys
 abbrev pub leastBy : (List ℕ → List ℕ) → List ℕ → List (List ℕ) → List ℕ
 leastBy key x [] = x
-leastBy key x (y ∷ l) = leastBy key (pick (precedes (key x) (key y)) x y) l
+leastBy key x (y ∷ l) = leastBy key (cond (precedes (key x) (key y)) x y) l
 
 abbrev pub answerFrom : Trellis → List (List ℕ) → Answer
 answerFrom t [] = blocked (considered t)
@@ -39,3 +35,10 @@ answer t = answerFrom t (allPaths t)
 abbrev pub IsAnswer : Trellis → Answer → Type 0
 IsAnswer t (found c n nodes) = Least t (reverse nodes) × (pathCost t (reverse nodes) ≡ c) × (n ≡ considered t)
 IsAnswer t (blocked n) = ((p : List ℕ) → IsPath t p → ⊥) × (n ≡ considered t)
+
+-- THE ANSWER IS RIGHT, AND THERE IS NO OTHER
+abbrev pub AnswerRight : Type 0
+AnswerRight = (t : Trellis) → IsAnswer t (answer t)
+
+abbrev pub AnswerOnly : Type 0
+AnswerOnly = (t : Trellis) (a b : Answer) → IsAnswer t a → IsAnswer t b → a ≡ b

@@ -1,18 +1,20 @@
 -- The list of all paths of a trellis. Assumes nothing.
 use mathlib.Core.Bool.{Bool, true, false, _&&_}
 use mathlib.Core.List.{List, [], _∷_, _++_, map, List·Memᴰ}
+use mathlib.Core.Logic.{_↔_}
 use Prim.Native.Nat.{ℕ, zero, suc}
 use lib.Dec.{ltb}
-use Rattle.trellis.specs.Trellis.{Reach, never, after, Trellis, entry, _▸_, width}
+use Rattle.lists.specs.Once.{EachOnce}
+use Rattle.trellis.specs.Trellis.{Reach, never, after, Trellis, entry, _▸_, width, IsPath}
 
 abbrev pub reached : Reach → Bool
 reached never = false
 reached (after c) = true
 
 -- a list where a test passes, and none where it fails
-abbrev pub when {ℓ} : {A : Type ℓ} → Bool → List A → List A
-when true l = l
-when false l = []
+abbrev pub listIf {ℓ} : {A : Type ℓ} → Bool → List A → List A
+listIf true l = l
+listIf false l = []
 
 -- the lists of the numbers below n, one after the other
 abbrev pub gather {ℓ} : {A : Type ℓ} → ℕ → (ℕ → List A) → List A
@@ -21,14 +23,17 @@ gather (suc n) g = gather n g ++ g n
 
 -- the paths to the node i, as the nodes before it, the latest first
 abbrev pub pathsTo : Trellis → ℕ → List (List ℕ)
-pathsTo (entry n s) i = when (ltb i n && reached (s i)) ([] ∷ [])
-pathsTo (t ▸ st) i = when (ltb i (st .size)) (gather (width t) (λ k. when (st .allowed k i) (map (λ p. k ∷ p) (pathsTo t k))))
+pathsTo (entry n s) i = listIf (ltb i n && reached (s i)) ([] ∷ [])
+pathsTo (t ▸ st) i = listIf (ltb i (st .size)) (gather (width t) (λ k. listIf (st .allowed k i) (map (λ p. k ∷ p) (pathsTo t k))))
 
 -- all paths, each as the list of its nodes, the latest first
 abbrev pub allPaths : Trellis → List (List ℕ)
 allPaths t = gather (width t) (λ i. map (λ p. i ∷ p) (pathsTo t i))
 
--- no member of the list stands in it twice
-abbrev pub EachOnce {ℓ} : {A : Type ℓ} → List A → Type ℓ
-EachOnce [] = Unit
-EachOnce (x ∷ xs) = (List·Memᴰ x xs → ⊥) × EachOnce xs
+-- THE LIST OF ALL PATHS has each path, nothing else, and nothing twice
+pub record ListsAll (t : Trellis) : Type 0 where
+  pub listed : (p : List ℕ) → List·Memᴰ p (allPaths t) ↔ IsPath t p
+  pub once : EachOnce (allPaths t)
+
+abbrev pub AllPathsListed : Type 0
+AllPathsListed = (t : Trellis) → ListsAll t

@@ -3,7 +3,7 @@ use mathlib.Core.Path.{_≡_}
 use mathlib.Core.Bool.{Bool, true}
 use mathlib.Core.List.{List, [], _∷_}
 use Prim.Native.Nat.{ℕ, _+_, _<_}
-use Rattle.trellis.specs.Order.{Precedes}
+use Rattle.lists.specs.Order.{Precedes}
 
 -- what a node costs to come to: nothing leads there, or so much
 pub data Reach : Type 0 where
@@ -23,6 +23,11 @@ infixl 20 _▸_
 pub data Trellis : Type 0 where
   entry : (size : ℕ) (start : ℕ → Reach) → Trellis
   _▸_ : Trellis → Stage → Trellis
+
+-- the trellis with more stages, the first of them first
+abbrev pub grow : Trellis → List Stage → Trellis
+grow t [] = t
+grow t (st ∷ sts) = grow (t ▸ st) sts
 
 -- the number of nodes of the last stage
 abbrev pub width : Trellis → ℕ

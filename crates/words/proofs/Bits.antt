@@ -10,7 +10,7 @@ use lib.Dec.{eqb, lit<}
 use lib.Pow.{pow-pos, pow-mono, pow-lt, field, mod-mod-pow}
 use lib.Bits.{bitAnd, bitOr, and-shr, or-shr, and-mod, or-mod}
 use borrow.Author.Tests.{eq-eqb, ne-eqb}
-use Rattle.trellis.specs.Count.{oneIf}
+use Rattle.lists.specs.Count.{oneIf}
 use Rattle.words.specs.Word.{bitOf}
 
 -- a binary digit and the test that it is 1 say the same

@@ -23,26 +23,26 @@ unfolding onesBelow
 bit-ones K i = bit-word K (λ j. true) i ∙ and-true (ltb i K)
 
 -- setting bit i changes no other
-pub bit-with : (w i : ℕ) → w < 2 ^ 64 → i < 64 → (j : ℕ) → bitOf (withBit w i) j ≡ (bitOf w j || eqb j i)
+pub bit-with : (m w i : ℕ) → w < 2 ^ m → i < m → (j : ℕ) → bitOf (withBit m w i) j ≡ (bitOf w j || eqb j i)
 unfolding withBit
-bit-with w i h l = bit-within 64 (λ j. bitOf w j || eqb j i) (λ j g. rw (bit-high 64 w j h g) (ne-eqb j i (λ e. omega arith)))
+bit-with m w i h l = bit-within m (λ j. bitOf w j || eqb j i) (λ j g. rw (bit-high m w j h g) (ne-eqb j i (λ e. omega arith)))
 
 -- clearing bit i changes no other
-pub bit-without : (w i : ℕ) → w < 2 ^ 64 → (j : ℕ) → bitOf (withoutBit w i) j ≡ (bitOf w j && not (eqb j i))
+pub bit-without : (m w i : ℕ) → w < 2 ^ m → (j : ℕ) → bitOf (withoutBit m w i) j ≡ (bitOf w j && not (eqb j i))
 unfolding withoutBit
-bit-without w i h = bit-within 64 (λ j. bitOf w j && not (eqb j i)) (λ j g. rw (bit-high 64 w j h g))
+bit-without m w i h = bit-within m (λ j. bitOf w j && not (eqb j i)) (λ j g. rw (bit-high m w j h g))
 
 -- "bit i stands for a free frame i", and none at K or above
 pub bit-free : (K closed held i : ℕ) → bitOf (freeWord K closed held) i ≡ (ltb i K && freeAt closed held i)
 unfolding freeWord
 bit-free K closed held i = bit-word K (freeAt closed held) i
 
--- a word of m bits is one of m bits with bit i too
-pub with-lt : (m w i : ℕ) → m ≤ 64 → w < 2 ^ m → i < m → withBit w i < 2 ^ m
+-- a word of n bits is one of n bits with bit i too, whatever the width m
+pub with-lt : (m n w i : ℕ) → n ≤ m → w < 2 ^ n → i < n → withBit m w i < 2 ^ n
 unfolding withBit
-with-lt m w i k h l = word-below 64 m (withBit w i) (word-lt 64 (λ j. bitOf w j || eqb j i)) k none
+with-lt m n w i k h l = word-below m n (withBit m w i) (word-lt m (λ j. bitOf w j || eqb j i)) k none
   where
-    none : (j : ℕ) → m ≤ j → bitOf (withBit w i) j ≡ false
+    none : (j : ℕ) → n ≤ j → bitOf (withBit m w i) j ≡ false
     none j g =
         let e : j ≡ i → ⊥ = λ q. omega arith in
-        bit-with w i (lt-of-lt-of-le h (pow-mono k)) (omega arith) j ∙ rw (bit-high m w j h g, ne-eqb j i e)
+        bit-with m w i (lt-of-lt-of-le h (pow-mono k)) (omega arith) j ∙ rw (bit-high n w j h g, ne-eqb j i e)

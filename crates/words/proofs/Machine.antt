@@ -8,7 +8,7 @@ use lib.Dec.{eqb, ltb}
 use lib.Bits.{bitAnd, bitOr, and-le-l, or-lt}
 use lib.Pow.{pow-lt, ones-lt, ones-split, high}
 use borrow.Author.Tests.{lt-ltb}
-use Rattle.trellis.specs.Count.{oneIf}
+use Rattle.lists.specs.Count.{oneIf}
 use Rattle.words.specs.Word.{bitOf, wordOf, onesBelow, freeAt, freeWord}
 use Rattle.words.proofs.Bits.{bit-pow, bit-and, bit-or}
 use Rattle.words.proofs.Words.{bit-word, word-only, word-self}

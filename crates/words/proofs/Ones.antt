@@ -4,9 +4,9 @@ use mathlib.Core.Bool.{Bool, true, false}
 use Prim.Native.Nat.{ℕ, zero, suc, _*_, _^_, _<_}
 use native.Mathlib.Nat.{add-comm}
 use lib.Count.{ones, onesIn, ones-cat}
-use Rattle.trellis.specs.Count.{oneIf, countBelow}
-use Rattle.trellis.proofs.Count.{sum-cong}
-use Rattle.words.specs.Word.{bitOf, wordOf, freeAt, freeWord, freeFrames}
+use Rattle.lists.specs.Count.{oneIf, countBelow}
+use Rattle.lists.proofs.Count.{sum-cong}
+use Rattle.words.specs.Word.{bitOf, wordOf, freeAt, freeWord, freeFrames, OnesCounted}
 use Rattle.words.proofs.Words.{word-lt, bit-below, word-self}
 
 -- a binary digit is its own count of ones
@@ -24,7 +24,7 @@ count-word (suc n) f =
     (add-comm (oneIf (f n)) (countBelow n f))
 
 -- THE COUNT OF ONES IS THE FRAMES COUNTED ONE BY ONE
-pub count-ones : (K w : ℕ) → w < 2 ^ K → ones w ≡ freeFrames K w
+pub count-ones : OnesCounted
 unfolding freeFrames
 count-ones K w h = ap ones (word-self K w h) ∙ count-word K (bitOf w)
 

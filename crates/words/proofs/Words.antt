@@ -10,9 +10,9 @@ use native.Mathlib.Omega.{arith}
 use lib.Dec.{ltb}
 use lib.Pow.{pow-pos, pow-mono, shr-lt}
 use borrow.Author.Tests.{lt-ltb, le-ltb}
-use Rattle.trellis.specs.Count.{oneIf}
-use Rattle.trellis.proofs.Count.{one-le}
-use Rattle.words.specs.Word.{bitOf, wordOf}
+use Rattle.lists.specs.Count.{oneIf}
+use Rattle.lists.proofs.Count.{one-le}
+use Rattle.words.specs.Word.{bitOf, wordOf, WordBits, WordOnly}
 use Rattle.words.proofs.Bits.{one-test, bit-digit, bit-high, bit-mod}
 
 -- a word of K frames is below 2 ^ K
@@ -50,7 +50,7 @@ bit-within K f none i = go (decLt i K)
     go (no n) = let g : K ≤ i = omega arith in bit-high K (wordOf K f) i (word-lt K f) g ∙ sym (none i g)
 
 -- THE BITS OF A WORD
-pub bit-word : (K : ℕ) (f : ℕ → Bool) (i : ℕ) → bitOf (wordOf K f) i ≡ (ltb i K && f i)
+pub bit-word : WordBits
 bit-word K f i = go (decLt i K)
   where
     go : Dec (i < K) → bitOf (wordOf K f) i ≡ (ltb i K && f i)
@@ -58,7 +58,7 @@ bit-word K f i = go (decLt i K)
     go (no n) = let g : K ≤ i = omega arith in rw (le-ltb i K g) (bit-high K (wordOf K f) i (word-lt K f) g)
 
 -- A NUMBER BELOW 2 ^ K IS THE WORD OF ITS BITS
-pub word-only : (K w : ℕ) (f : ℕ → Bool) → w < 2 ^ K → ((i : ℕ) → i < K → bitOf w i ≡ f i) → w ≡ wordOf K f
+pub word-only : WordOnly
 unfolding wordOf
 word-only zero w f h same = omega arith
 word-only (suc n) w f h same =

@@ -4,8 +4,9 @@ use mathlib.Core.Bool.{Bool, true, not, _&&_, _||_}
 use mathlib.Core.List.{List}
 use Prim.Native.Nat.{ℕ, zero, suc, _+_, _*_, _/_, _%_, _^_, _<_}
 use lib.ListN.{length, getD}
-use lib.Dec.{eqb}
-use Rattle.trellis.specs.Count.{oneIf, countBelow}
+use lib.Count.{ones}
+use lib.Dec.{eqb, ltb}
+use Rattle.lists.specs.Count.{oneIf, countBelow}
 
 -- bit i of a word: "one bit of 64 per frame, bit i for frame i"
 unfoldable pub bitOf : ℕ → ℕ → Bool
@@ -20,13 +21,13 @@ wordOf (suc n) f = wordOf n f + oneIf (f n) * 2 ^ n
 unfoldable pub onesBelow : ℕ → ℕ
 onesBelow K = wordOf K (λ i. true)
 
--- the word w of 64 bits, with bit i
-unfoldable pub withBit : ℕ → ℕ → ℕ
-withBit w i = wordOf 64 (λ j. bitOf w j || eqb j i)
+-- the word w of m bits, with bit i
+unfoldable pub withBit : ℕ → ℕ → ℕ → ℕ
+withBit m w i = wordOf m (λ j. bitOf w j || eqb j i)
 
--- the word w of 64 bits, without bit i
-unfoldable pub withoutBit : ℕ → ℕ → ℕ
-withoutBit w i = wordOf 64 (λ j. bitOf w j && not (eqb j i))
+-- the word w of m bits, without bit i
+unfoldable pub withoutBit : ℕ → ℕ → ℕ → ℕ
+withoutBit m w i = wordOf m (λ j. bitOf w j && not (eqb j i))
 
 -- "A frame is free when it is neither closed nor held by a live session", of the words of closed and of held frames
 unfoldable pub freeAt : ℕ → ℕ → ℕ → Bool
@@ -44,3 +45,14 @@ freeFrames K w = countBelow K (bitOf w)
 pub record Words (n : ℕ) (words : List ℕ) (p : ℕ → ℕ → Bool) : Type 0 where
   pub long : length words ≡ n
   pub word : (a : ℕ) → a < n → getD words a 0 ≡ wordOf 64 (p a)
+
+-- "a fact about words of frames is shown for all K together": the bits of a word of K frames, and the only word that has them
+abbrev pub WordBits : Type 0
+WordBits = (K : ℕ) (f : ℕ → Bool) (i : ℕ) → bitOf (wordOf K f) i ≡ (ltb i K && f i)
+
+abbrev pub WordOnly : Type 0
+WordOnly = (K w : ℕ) (f : ℕ → Bool) → w < 2 ^ K → ((i : ℕ) → i < K → bitOf w i ≡ f i) → w ≡ wordOf K f
+
+-- "counted by the count of ones, equal to counting frames one by one"
+abbrev pub OnesCounted : Type 0
+OnesCounted = (K w : ℕ) → w < 2 ^ K → ones w ≡ freeFrames K w

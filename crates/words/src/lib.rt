@@ -1,8 +1,8 @@
 // Words of frames: bit i of a word stands for frame i.
-// Check 7 guarantees each `requires`: K, here `frames`, is from 1 to 64, and a frame number is below K.
+// What is required, callers show: of a link by check 7, K, here `frames`, being from 1 to 64 and a frame number below K; a word that isn't one of frames has its bits below 64 too.
 ghost use mathlib.Core.Path.{_≡_};
 ghost use Prim.Native.Nat.{_≤_, _<_};
-ghost use Rattle.trellis.specs.Count.{countBelow};
+ghost use Rattle.lists.specs.Count.{countBelow};
 ghost use Rattle.words.specs.Word.{bitOf, onesBelow, withBit, withoutBit, freeAt, freeWord};
 
 // Whether bit i of a word stands.
@@ -24,7 +24,7 @@ pub fn ones_below(frames: u16) -> u64
 // The word with bit i.
 pub fn set_bit(word: u64, i: u16) -> u64
     requires { ⌜ i < 64 ⌝ }
-    ensures { λ r. ⌜ r ≡ withBit word i ⌝ }
+    ensures { λ r. ⌜ r ≡ withBit 64 word i ⌝ }
 {
     word | (1 << i)
 }
@@ -32,7 +32,7 @@ pub fn set_bit(word: u64, i: u16) -> u64
 // The word without bit i.
 pub fn clear_bit(word: u64, i: u16) -> u64
     requires { ⌜ i < 64 ⌝ }
-    ensures { λ r. ⌜ r ≡ withoutBit word i ⌝ }
+    ensures { λ r. ⌜ r ≡ withoutBit 64 word i ⌝ }
 {
     word & !(1 << i)
 }

@@ -5,7 +5,7 @@ use Prim.Native.Nat.{ℕ, _+_, _-_, _%_, _<_, _≤_}
 use native.Mathlib.Nat.{mod-lt, mod-eq-of-lt, add-zero, mul-le-mul-right}
 use native.Mathlib.Omega.{arith}
 use Rattle.trellis.specs.Trellis.{after}
-use Rattle.trellis.proofs.Count.{count-le}
+use Rattle.lists.proofs.Count.{count-le}
 use Rattle.words.specs.Word.{bitOf}
 use Rattle.forwarding.specs.Forwarding.{reference}
 use Rattle.forwarding.proofs.Holds.{reference-lt}

@@ -8,8 +8,8 @@ use native.Mathlib.Omega.{arith}
 use lib.Dec.{ltb, eqb}
 use lib.Arith.{lt-of-le-ne}
 use borrow.Author.Tests.{ltb-true, ltb-false, eqb-true, eqb-false}
-use Rattle.trellis.specs.Order.{Precedes, precedes}
-use Rattle.trellis.proofs.Count.{and-true, or-false}
+use Rattle.lists.specs.Order.{Precedes, precedes}
+use Rattle.lists.proofs.Count.{and-both, or-neither}
 
 pub precedes-refl : (xs : List ℕ) → Precedes xs xs
 precedes-refl [] = tt
@@ -57,14 +57,14 @@ test-precedes [] ys e = tt
 test-precedes (x ∷ xs) [] e = absurd (let z : _≡_ {A = ℕ} 0 1 = cc in omega arith)
 test-precedes (x ∷ xs) (y ∷ ys) e =
     ⊎-elim (λ a. inl (ltb-true x y a))
-    (λ b. let u = and-true (eqb x y) (precedes xs ys) b in inr (eqb-true x y (u .0), test-precedes xs ys (u .1)))
+    (λ b. let u = and-both (eqb x y) (precedes xs ys) b in inr (eqb-true x y (u .0), test-precedes xs ys (u .1)))
     (or-cases (ltb x y) (eqb x y && precedes xs ys) e)
 
 pub test-follows : (xs ys : List ℕ) → precedes xs ys ≡ false → Precedes ys xs
 test-follows [] ys e = absurd (let z : _≡_ {A = ℕ} 0 1 = cc in omega arith)
 test-follows (x ∷ xs) [] e = tt
 test-follows (x ∷ xs) (y ∷ ys) e =
-    let u = or-false (ltb x y) (eqb x y && precedes xs ys) e in
+    let u = or-neither (ltb x y) (eqb x y && precedes xs ys) e in
     go (eqb x y) refl (ltb-false x y (u .0)) (u .1) (λ q. test-follows xs ys q)
   where
     go : (b : Bool) → eqb x y ≡ b → y ≤ x → b && precedes xs ys ≡ false → (precedes xs ys ≡ false → Precedes ys xs) → Precedes (y ∷ ys) (x ∷ xs)

@@ -5,7 +5,7 @@ use mathlib.Core.Logic.{⊎-elim}
 use Prim.Native.Nat.{ℕ, zero, suc, _+_, _*_, _<_, _≤_}
 use native.Mathlib.Nat.{add-zero, add-suc, eq-or-lt-of-le, le-of-suc-le-suc}
 use native.Mathlib.Omega.{arith}
-use Rattle.trellis.specs.Count.{oneIf, sumBelow, countBelow}
+use Rattle.lists.specs.Count.{oneIf, sumBelow, countBelow}
 
 -- sums
 pub sum-cong : (n : ℕ) (f g : ℕ → ℕ) → ((k : ℕ) → k < n → f k ≡ g k) → sumBelow n f ≡ sumBelow n g
@@ -49,16 +49,16 @@ pub count-le : (n : ℕ) (f : ℕ → Bool) → countBelow n f ≤ n
 count-le n f = omega (arith, sum-bound n 1 (λ k. oneIf (f k)) (λ k l. one-le (f k)))
 
 -- tests
-pub and-true : (a b : Bool) → a && b ≡ true → (a ≡ true) × (b ≡ true)
-and-true true b e = (refl, e)
-and-true false b e = absurd (let z : _≡_ {A = ℕ} 0 1 = cc in omega arith)
+pub and-both : (a b : Bool) → a && b ≡ true → (a ≡ true) × (b ≡ true)
+and-both true b e = (refl, e)
+and-both false b e = absurd (let z : _≡_ {A = ℕ} 0 1 = cc in omega arith)
 
-pub or-false : (a b : Bool) → a || b ≡ false → (a ≡ false) × (b ≡ false)
-or-false true b e = absurd (let z : _≡_ {A = ℕ} 0 1 = cc in omega arith)
-or-false false b e = (refl, e)
+pub or-neither : (a b : Bool) → a || b ≡ false → (a ≡ false) × (b ≡ false)
+or-neither true b e = absurd (let z : _≡_ {A = ℕ} 0 1 = cc in omega arith)
+or-neither false b e = (refl, e)
 
-pub true-and : (a b : Bool) → a ≡ true → b ≡ true → a && b ≡ true
-true-and a b p q = rw (p, q)
+pub both-and : (a b : Bool) → a ≡ true → b ≡ true → a && b ≡ true
+both-and a b p q = rw (p, q)
 
 pub and-left-le : (a b : Bool) → oneIf (a && b) ≤ oneIf a
 and-left-le true b = one-le b

@@ -1,0 +1,37 @@
+-- What the reference frame is where rates are equal and where they change, and that it waits for the whole frame (W-201). Assumes nothing.
+use mathlib.Core.Path.{_≡_}
+use Prim.Native.Nat.{ℕ, _+_, _-_, _*_, _/_, _<_, _≤_}
+use Rattle.forwarding.specs.declared.Hop.{Hop}
+use Rattle.forwarding.specs.Forwarding.{reference, referenceInto, holdInto, frameTime}
+use Rattle.forwarding.specs.Hops.{HopReady}
+
+-- F-i of source document 002, equal rates: the frame of the same number
+abbrev pub SameRate : Type 0
+SameRate = (k K : ℕ) → 0 < K → reference k K K ≡ k
+
+-- W-201 in the place of F-ii, from slow to fast: the last of the m frames that the frame covers
+abbrev pub ToFaster : Type 0
+ToFaster = (k m K′ : ℕ) → 0 < K′ → 0 < m → reference k (m * K′) K′ ≡ (k + 1) * m - 1
+
+-- F-iii, from fast to slow: the frame that covers it
+abbrev pub ToSlower : Type 0
+ToSlower = (k m K : ℕ) → 0 < K → reference k K (m * K) ≡ k / m
+
+-- "slow to fast moves later": document 01 named the first of the m frames
+abbrev pub ToFasterLater : Type 0
+ToFasterLater = (k m K′ : ℕ) → 0 < K′ → 1 < m → k * m < reference k (m * K′) K′
+
+-- NO REFERENCE FRAME COMES EARLIER than by document 01, whatever the rates
+abbrev pub NeverEarlier : Type 0
+NeverEarlier = (k K K′ : ℕ) → 0 < K → 0 < K′ → k * K / K′ ≤ reference k K K′
+
+-- "The new switches send nothing of a frame before its last bit has arrived": frame k of the hop g ends at tick (k + 1) × T / K', and
+-- whatever frame i of the hop h after it the hold leads to begins no earlier
+abbrev pub WholeFrame : Type 0
+WholeFrame = (T : ℕ) (g h : Hop) (k : ℕ) → HopReady T g → HopReady T h → (i : ℕ)
+    → (k + 1) * frameTime T (g .frames) ≤ (referenceInto g h k + holdInto g h k i) * frameTime T (h .frames)
+
+-- and the reference frame is the first that will do: when it begins, the last bit has not arrived
+abbrev pub NotYetWhole : Type 0
+NotYetWhole = (T : ℕ) (g h : Hop) (k : ℕ) → HopReady T g → HopReady T h → 0 < T
+    → referenceInto g h k * frameTime T (h .frames) < (k + 1) * frameTime T (g .frames)

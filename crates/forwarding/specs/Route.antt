@@ -1,0 +1,58 @@
+-- A route as a trellis: a stage for each hop, a node for each frame; its schedules are the paths. Assumes nothing.
+use mathlib.Core.Bool.{Bool, true, false, _&&_}
+use mathlib.Core.List.{List, [], _∷_}
+use Prim.Native.Nat.{ℕ}
+use lib.Dec.{ltb}
+use Rattle.trellis.specs.Trellis.{Reach, never, after, Stage, Trellis, entry, grow}
+use Rattle.trellis.specs.Considered.{considered}
+use Rattle.trellis.specs.Answer.{Answer, answer}
+use Rattle.trellis.specs.Forwards.{ArePaths}
+use Rattle.forwarding.specs.declared.Hop.{Hop}
+use Rattle.forwarding.specs.Forwarding.{isFree, holdInto, isAllowed, delay}
+use Rattle.forwarding.specs.Schedule.{IsSchedule, scheduleDelay, scheduleKey, CountOf}
+
+-- hop 0: a free frame is begun at, at no delay
+abbrev pub startIf : Bool → Reach
+startIf true = after 0
+startIf false = never
+
+abbrev pub starts : Hop → ℕ → Reach
+starts h i = startIf (ltb i (h .frames) && isFree h i)
+
+-- the hop h after the hop g: a step for each allowed transition, the smaller hold first among equal costs; `cost` is what a hold costs
+abbrev pub stageOf : (ℕ → ℕ) → Hop → Hop → Stage
+stageOf cost g h = record {
+  size = h .frames;
+  allowed = λ k i. isAllowed g h k i;
+  cost = λ k i. cost (holdInto g h k i);
+  rank = λ k i. holdInto g h k i;
+}
+
+-- a hold costs its delay in ticks
+abbrev pub stage : ℕ → Hop → Hop → Stage
+stage T g h = stageOf (delay T (h .frames)) g h
+
+-- the hops after the hop g
+abbrev pub stages : ℕ → Hop → List Hop → List Stage
+stages T g [] = []
+stages T g (h ∷ hs) = stage T g h ∷ stages T h hs
+
+-- a route has a link at least (refusal 12), so none is a trellis without nodes
+abbrev pub routeTrellis : ℕ → List Hop → Trellis
+routeTrellis T [] = entry 0 (λ i. never)
+routeTrellis T (h ∷ hs) = grow (entry (h .frames) (starts h)) (stages T h hs)
+
+-- THE SCHEDULES OF A ROUTE ARE THE PATHS OF ITS TRELLIS, with their delays and their keys
+abbrev pub SchedulesArePaths : Type 0
+SchedulesArePaths = (T : ℕ) (hops : List Hop) → ArePaths (routeTrellis T hops) (IsSchedule hops) (scheduleDelay T hops) (scheduleKey T hops)
+
+-- the count of transitions considered, and that it is their number
+abbrev pub transitions : ℕ → List Hop → ℕ
+transitions T hops = considered (routeTrellis T hops)
+
+abbrev pub TransitionsCounted : Type 0
+TransitionsCounted = (T : ℕ) (hops : List Hop) → CountOf hops (transitions T hops)
+
+-- the answer of a route over its free frames; what it is: `specs/Answers`
+unfoldable pub routeAnswer : ℕ → List Hop → Answer
+routeAnswer T hops = answer (routeTrellis T hops)
