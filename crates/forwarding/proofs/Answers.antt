@@ -1,46 +1,66 @@
 -- The answer of a route in document 01's words. Assumes nothing.
 use mathlib.Core.Path.{_≡_, refl, sym, subst}
-use mathlib.Core.Bool.{true, false≢true}
 use mathlib.Core.List.{List, [], _∷_}
-use Prim.Native.Nat.{ℕ}
+use Prim.Native.Nat.{ℕ, _≤_}
 use native.Mathlib.Omega.{arith}
-use Rattle.trellis.specs.Answer.{Answer, found, blocked}
-use Rattle.trellis.proofs.Walk.{answer-answers, answers-only, walk-least-cost, walks-walk, walk-walks}
+use Rattle.lists.specs.Order.{Precedes}
+use Rattle.lists.proofs.Order.{precedes-head}
+use Rattle.trellis.specs.Answer.{Answer, found, blocked, answer}
+use Rattle.trellis.proofs.Forwards.{Reads, answer-reads, reads-only}
 use Rattle.forwarding.specs.declared.Hop.{Hop}
-use Rattle.forwarding.specs.Schedule.{starts, stages, IsSchedule, isSchedule, transitions, routeAnswer, RouteAnswer, Given}
+use Rattle.forwarding.specs.Schedule.{IsSchedule, scheduleDelay, scheduleKey, goingBack, LeastSchedule}
+use Rattle.forwarding.specs.Route.{routeTrellis, transitions, routeAnswer}
+use Rattle.forwarding.specs.Answers.{RouteAnswer, AnswerRules, AnswerUnique, FoundGiven, BlockedNone, NoneBlocked}
+use Rattle.forwarding.proofs.Schedules.{schedules-paths}
+
+module _ (T : ℕ) (hops : List Hop) where
+  -- what an answer says of the paths of the trellis, and of schedules
+  abbrev Said : Answer → Type 0
+  Said = Reads (routeTrellis T hops) (IsSchedule hops) (scheduleDelay T hops) (scheduleKey T hops) (schedules-paths T hops)
+
+  said-answer : (a : Answer) → Said a → RouteAnswer T hops a
+  said-answer (found d n fs) s = (record { schedule = s .0 .0; first = s .0 .1 }, s .1, s .2)
+  said-answer (blocked n) s = s
+
+  answer-said : (a : Answer) → RouteAnswer T hops a → Said a
+  answer-said (found d n fs) r = ((r .0 .schedule, r .0 .first), r .1, r .2)
+  answer-said (blocked n) r = r
 
 -- THE ANSWER IS THE LEAST SCHEDULE, ties as written, or blocked where there is none; and it is the only one
-pub answer-rules : (T : ℕ) (h : Hop) (hs : List Hop) → RouteAnswer T (h ∷ hs) (routeAnswer T (h ∷ hs))
+pub answer-rules : AnswerRules
 unfolding routeAnswer
-answer-rules T h hs = answer-answers (h .frames) (starts h) (stages T (h .frames) hs)
+answer-rules T hops =
+    said-answer T hops (answer (routeTrellis T hops))
+    (answer-reads (routeTrellis T hops) (IsSchedule hops) (scheduleDelay T hops) (scheduleKey T hops) (schedules-paths T hops))
 
-pub answer-unique : (T : ℕ) (h : Hop) (hs : List Hop) (a : Answer) → RouteAnswer T (h ∷ hs) a → a ≡ routeAnswer T (h ∷ hs)
+pub answer-unique : AnswerUnique
 unfolding routeAnswer
-answer-unique T h hs a r = answers-only (h .frames) (starts h) (stages T (h .frames) hs) a r
+answer-unique T hops a r =
+    reads-only (routeTrellis T hops) (IsSchedule hops) (scheduleDelay T hops) (scheduleKey T hops) (schedules-paths T hops) a (answer-said T hops a r)
+
+-- the first of all has the least delay
+first-delay : (T : ℕ) (hops : List Hop) (fs gs : List ℕ) → IsSchedule hops fs → IsSchedule hops gs → Precedes (scheduleKey T hops fs) (scheduleKey T hops gs)
+    → scheduleDelay T hops fs ≤ scheduleDelay T hops gs
+first-delay T [] fs gs s t p = absurd s
+first-delay T (h ∷ hs) [] gs s t p = absurd s
+first-delay T (h ∷ hs) (k ∷ is) [] s t p = absurd t
+first-delay T (h ∷ hs) (k ∷ is) (j ∷ js) s t p =
+    precedes-head (scheduleDelay T (h ∷ hs) (k ∷ is)) (scheduleDelay T (h ∷ hs) (j ∷ js)) (goingBack h k hs is) (goingBack h j hs js) p
 
 -- A SCHEDULE THAT IS FOUND IS LEAST: every other has at least its delay
-pub found-given : (T : ℕ) (h : Hop) (hs : List Hop) (d n : ℕ) (fs : List ℕ) → routeAnswer T (h ∷ hs) ≡ found d n fs → Given T (h ∷ hs) d n fs
-found-given T h hs d n fs e =
-    let a : RouteAnswer T (h ∷ hs) (found d n fs) = subst (RouteAnswer T (h ∷ hs)) e (answer-rules T h hs) in
+pub found-given : FoundGiven
+found-given T hops d n fs e =
+    let a : RouteAnswer T hops (found d n fs) = subst (RouteAnswer T hops) e (answer-rules T hops) in
     record {
-      schedule = a .0 .walk;
+      schedule = a .0 .schedule;
       delay-is = a .1;
       count-is = a .2;
-      least = λ gs s. omega (arith, walk-least-cost (h .frames) (starts h) (stages T (h .frames) hs) fs gs (a .0) s, a .1);
+      least = λ gs s. omega (arith, first-delay T hops fs gs (a .0 .schedule) s (a .0 .first gs s), a .1);
     }
 
 -- BLOCKED EXACTLY WHEN THERE IS NO SCHEDULE
-pub blocked-none : (T : ℕ) (h : Hop) (hs : List Hop) (n : ℕ) → routeAnswer T (h ∷ hs) ≡ blocked n → (fs : List ℕ) → IsSchedule T (h ∷ hs) fs → ⊥
-blocked-none T h hs n e = subst (RouteAnswer T (h ∷ hs)) e (answer-rules T h hs) .0
+pub blocked-none : BlockedNone
+blocked-none T hops n e = subst (RouteAnswer T hops) e (answer-rules T hops) .0
 
-pub none-blocked : (T : ℕ) (h : Hop) (hs : List Hop) → ((fs : List ℕ) → IsSchedule T (h ∷ hs) fs → ⊥) → routeAnswer T (h ∷ hs) ≡ blocked (transitions T (h ∷ hs))
-none-blocked T h hs none = sym (answer-unique T h hs (blocked (transitions T (h ∷ hs))) (none, refl))
-
--- the test of a schedule tells schedules
-pub told-schedule : (T : ℕ) (hops : List Hop) (fs : List ℕ) → isSchedule T hops fs ≡ true → IsSchedule T hops fs
-told-schedule T [] fs e = absurd (false≢true e)
-told-schedule T (h ∷ hs) fs e = walks-walk (h .frames) (starts h) (stages T (h .frames) hs) fs e
-
-pub schedule-told : (T : ℕ) (hops : List Hop) (fs : List ℕ) → IsSchedule T hops fs → isSchedule T hops fs ≡ true
-schedule-told T [] fs s = absurd s
-schedule-told T (h ∷ hs) fs s = walk-walks (h .frames) (starts h) (stages T (h .frames) hs) fs s
+pub none-blocked : NoneBlocked
+none-blocked T hops none = sym (answer-unique T hops (blocked (transitions T hops)) (none, refl))

@@ -3,19 +3,20 @@ use mathlib.Core.Path.{_≡_, refl, sym, _∙_, ap, subst}
 use mathlib.Core.Bool.{Bool, true, false}
 use mathlib.Core.Logic.{_⊎_, ⊎-elim}
 use Prim.Native.Nat.{ℕ, zero, suc, _+_, _-_, _*_, _%_, _<_, _≤_}
-use native.Mathlib.Nat.{mod-lt, mod-eq-of-lt, mod-self, sub-zero, add-mod-right, mod-eq-sub-mod, mod-add-mod, div-lt-iff-lt-mul, mul-le-mul-right, mul-pos, mul-comm, add-assoc, eq-or-lt-of-le}
+use native.Mathlib.Nat.{mod-lt, mod-eq-of-lt, add-mod-right, mod-eq-sub-mod, mod-add-mod, div-lt-iff-lt-mul, mul-le-mul-right, mul-pos, mul-comm, add-assoc, add-comm, eq-or-lt-of-le}
 use native.Mathlib.Decide.{decLt}
 use native.Mathlib.Omega.{arith}
-use lib.Dec.{leb, ltb}
-use borrow.Author.Tests.{leb-true, leb-false, lt-ltb, le-ltb}
+use lib.Dec.{ltb}
+use borrow.Author.Tests.{ltb-true, ltb-false, lt-ltb, le-ltb}
 use Rattle.lists.specs.Count.{oneIf, sumBelow, countBelow}
 use Rattle.lists.proofs.Count.{sum-cong, sum-split, count-all}
-use Rattle.forwarding.specs.Forwarding.{reference, leastHold, gap, hold}
+use Rattle.forwarding.specs.declared.Hop.{Hop}
+use Rattle.forwarding.specs.Forwarding.{reference, referenceInto, leastHold, gap, hold, holdInto, HoldOnly, choices}
 
--- D leads from the reference frame r to the frame i of a link with K frames, and is one of the K numbers from the least hold on
-pub record Fits (K r i D : ℕ) : Type 0 where
-  pub least : leastHold ≤ D
-  pub most : D < leastHold + K
+-- D leads from the reference frame r to the frame i of a link with K frames, and is one of the K numbers from Y on
+pub record Fits (Y K r i D : ℕ) : Type 0 where
+  pub least : Y ≤ D
+  pub most : D < Y + K
   pub meets : (r + D) % K ≡ i
 
 mod-once : (K n : ℕ) → K ≤ n → n < K + K → n % K ≡ n - K
@@ -55,37 +56,46 @@ gap-only K a i g h l e =
     ]
 
 -- THE HOLD FITS, AND NOTHING ELSE DOES
-pub hold-fits : (K r i : ℕ) → i < K → Fits K r i (hold K r i)
+pub hold-fits : (Y K r i : ℕ) → i < K → Fits Y K r i (hold Y K r i)
 unfolding hold
-hold-fits K r i l =
-    let a : ℕ = (r + leastHold) % K in
-    let p : a < K = mod-lt (r + leastHold) (omega arith) in
+hold-fits Y K r i l =
+    let a : ℕ = (r + Y) % K in
+    let p : a < K = mod-lt (r + Y) (omega arith) in
     record {
       least = omega arith;
       most = omega (arith, gap-lt K a i p);
-      meets = ap (λ (x : ℕ). x % K) (sym (add-assoc r leastHold (gap K a i))) ∙ sym (mod-add-mod (r + leastHold) K (gap K a i)) ∙ gap-meets K a i p l;
+      meets = ap (λ (x : ℕ). x % K) (sym (add-assoc r Y (gap K a i))) ∙ sym (mod-add-mod (r + Y) K (gap K a i)) ∙ gap-meets K a i p l;
     }
 
-pub hold-only : (K r i D : ℕ) → Fits K r i D → D ≡ hold K r i
+pub hold-fitting : (Y K r i D : ℕ) → Fits Y K r i D → D ≡ hold Y K r i
 unfolding hold
-hold-only K r i D d =
-    let a : ℕ = (r + leastHold) % K in
-    let p : a < K = mod-lt (r + leastHold) (omega (arith, d .least, d .most)) in
-    let s : r + leastHold + (D - leastHold) ≡ r + D = omega (arith, d .least) in
+hold-fitting Y K r i D d =
+    let a : ℕ = (r + Y) % K in
+    let p : a < K = mod-lt (r + Y) (omega (arith, d .least, d .most)) in
+    let s : r + Y + (D - Y) ≡ r + D = omega (arith, d .least) in
     omega (
       arith,
       d .least,
-      gap-only K a i (D - leastHold) p (omega (arith, d .least, d .most)) (mod-add-mod (r + leastHold) K (D - leastHold) ∙ ap (λ (x : ℕ). x % K) s ∙ d .meets),
+      gap-only K a i (D - Y) p (omega (arith, d .least, d .most)) (mod-add-mod (r + Y) K (D - Y) ∙ ap (λ (x : ℕ). x % K) s ∙ d .meets),
     )
 
--- in document 01's words: the hold is from 1 to K, and (r + D) mod K = i has no other solution there
-pub hold-range : (K r i : ℕ) → i < K → (1 ≤ hold K r i) × (hold K r i ≤ K) × ((r + hold K r i) % K ≡ i)
-unfolding leastHold
-hold-range K r i l = let f = hold-fits K r i l in (f .least, omega (arith, f .most), f .meets)
+-- of a transition: its hold fits, and nothing else does
+module _ (g h : Hop) (k i : ℕ) where
+  pub into-fits : i < h .frames → Fits (leastHold h) (h .frames) (referenceInto g h k) i (holdInto g h k i)
+  unfolding holdInto
+  into-fits l = hold-fits (leastHold h) (h .frames) (referenceInto g h k) i l
 
-pub hold-unique : (K r i D : ℕ) → 1 ≤ D → D ≤ K → (r + D) % K ≡ i → D ≡ hold K r i
+  pub into-fitting : (D : ℕ) → Fits (leastHold h) (h .frames) (referenceInto g h k) i D → D ≡ holdInto g h k i
+  unfolding holdInto
+  into-fitting D d = hold-fitting (leastHold h) (h .frames) (referenceInto g h k) i D d
+
+-- THE HOLD IS THE ONLY NUMBER THAT FITS, in document 01's words
+pub hold-only : HoldOnly
 unfolding leastHold
-hold-unique K r i D h l e = hold-only K r i D (record { least = h; most = omega arith; meets = e })
+hold-only g h k i l =
+    let f = into-fits g h k i l in
+    (record { least = f .least; most = omega (arith, f .most); meets = f .meets },
+    λ D d. into-fitting g h k i D (record { least = d .least; most = omega (arith, d .most); meets = d .meets }))
 
 -- a reference frame is a frame of the link
 pub reference-lt : (k K K′ : ℕ) → 0 < K → k < K′ → reference k K K′ < K
@@ -94,25 +104,58 @@ reference-lt k K K′ p h =
     let q : 0 < K′ = omega arith in
     div-lt-iff-lt-mul {k = K′} {y = K} q .1 (omega (arith, mul-le-mul-right K h, mul-comm K K′, mul-pos p q))
 
--- the hold by one remainder
-module _ (k K K′ i f : ℕ) (e : f ≡ reference k K K′) (h : k < K′) (l : i < K) where
-  pub reference-in : f < K
-  reference-in = rw e (reference-lt k K K′ (omega arith) h)
+pub reference-in : (g h : Hop) (k : ℕ) → 0 < h .frames → k < g .frames → referenceInto g h k < h .frames
+unfolding referenceInto
+reference-in g h k p l = reference-lt k (h .frames) (g .frames) p l
 
-  pub hold-in : (i + K - (f + 1)) % K < K
-  hold-in = mod-lt (i + K - (f + 1)) (omega arith)
+-- the least hold is within the cycle, and within Z where there is a choice
+pub least-in : (h : Hop) → 0 < h .frames → leastHold h ≤ h .frames
+unfolding leastHold
+least-in h p = p
 
-  pub hold-counted : (i + K - (f + 1)) % K + 1 ≡ hold K (reference k K K′) i
-  unfolding hold gap leastHold
-  hold-counted =
-      rw (← e)
-      (elim (decLt (f + 1) K) [
-        | yes b ↦ rw (mod-eq-of-lt b) (omega arith)
-        | no b ↦
-            let q : f + 1 ≡ K = omega (arith, reference-in) in
-            let a : i + K - (f + 1) ≡ i = omega arith in
-            rw (a, q, mod-self, sub-zero, add-mod-right) (omega arith)
-      ])
+pub least-range : (h : Hop) → leastHold h ≤ h .range + 1
+unfolding leastHold
+least-range h = omega arith
+
+-- the holds from the least on, counted up to Z
+pub choices-range : (h : Hop) → leastHold h + choices h ≡ h .range + 1
+unfolding choices
+choices-range h = omega (arith, least-range h)
+
+pub choices-in : (h : Hop) → h .range ≤ h .frames → choices h ≤ h .frames
+unfolding choices leastHold
+choices-in h l = omega arith
+
+-- the hold by one remainder, from the frame f
+pub gap-counted : (Y K f i : ℕ) → f < K → Y ≤ K → i < K → (i + 2 * K - (f + Y)) % K + Y ≡ hold Y K f i
+unfolding hold
+gap-counted Y K f i p y l =
+    let a : ℕ = (f + Y) % K in
+    elim (decLt (f + Y) K) [
+      | yes b ↦
+          let e : a ≡ f + Y = mod-eq-of-lt b in
+          let w : i + 2 * K - (f + Y) ≡ i + K - a + K = omega (arith, e) in
+          rw (w, add-mod-right) (unfold gap in (add-comm (gap K a i) Y))
+      | no b ↦
+          let e : a ≡ f + Y - K = mod-once K (f + Y) (omega arith) (omega arith) in
+          let w : i + 2 * K - (f + Y) ≡ i + K - a = omega (arith, e) in
+          rw w (unfold gap in (add-comm (gap K a i) Y))
+    ]
+
+-- of a transition, from its reference frame f and the least hold Y
+module _ (g h : Hop) (k i f Y : ℕ) (e : f ≡ referenceInto g h k) (y : Y ≡ leastHold h) (p : k < g .frames) (l : i < h .frames) where
+  pub from-in : f < h .frames
+  from-in = rw e (reference-in g h k (omega arith) p)
+
+  pub from-least : Y ≤ h .frames
+  from-least = rw y (least-in h (omega arith))
+
+  pub hold-in : (i + 2 * h .frames - (f + Y)) % h .frames < h .frames
+  hold-in = mod-lt (i + 2 * h .frames - (f + Y)) (omega arith)
+
+  pub hold-counted : (i + 2 * h .frames - (f + Y)) % h .frames + Y ≡ holdInto g h k i
+  unfolding holdInto
+  hold-counted = gap-counted Y (h .frames) f i from-in from-least l ∙ rw (e, y)
 
 -- a sum over the frames of a link by their gaps is a sum over all gaps
 gap-sum : (K a : ℕ) (G : ℕ → ℕ) → a < K → sumBelow K (λ i. G (gap K a i)) ≡ sumBelow K G
@@ -147,17 +190,17 @@ count-below (suc n) z h =
     (λ l. omega (arith, count-below n z (omega arith), ap oneIf (le-ltb n z (omega arith)))) (eq-or-lt-of-le h)
 
 -- two tests that say the same are equal
-same-test : (a b c d : ℕ) → (a ≤ b → c < d) → (b < a → d ≤ c) → leb a b ≡ ltb c d
-same-test a b c d f g = go (leb a b) refl
+same-test : (a b c d : ℕ) → (a < b → c < d) → (b ≤ a → d ≤ c) → ltb a b ≡ ltb c d
+same-test a b c d f g = go (ltb a b) refl
   where
-    go : (t : Bool) → leb a b ≡ t → t ≡ ltb c d
-    go true e = sym (lt-ltb c d (f (leb-true a b e)))
-    go false e = sym (le-ltb c d (g (leb-false a b e)))
+    go : (t : Bool) → ltb a b ≡ t → t ≡ ltb c d
+    go true e = sym (lt-ltb c d (f (ltb-true a b e)))
+    go false e = sym (le-ltb c d (g (ltb-false a b e)))
 
--- of the frames of a link, as many have a hold of at most Z as there are holds from the least hold to Z
-pub count-holds : (Z K r : ℕ) → 0 < K → Z ≤ K → countBelow K (λ i. leb (hold K r i) Z) ≡ Z
-unfolding hold leastHold
-count-holds Z K r p h =
-    gap-sum K ((r + 1) % K) (λ x. oneIf (leb (1 + x) Z)) (mod-lt (r + 1) p)
-    ∙ sum-cong K (λ x. oneIf (leb (1 + x) Z)) (λ x. oneIf (ltb x Z)) (λ x m. ap oneIf (same-test (1 + x) Z x Z (λ q. omega arith) (λ q. omega arith)))
-    ∙ count-below K Z h
+-- of the frames of a link, as many have a hold below Y + W as there are holds from Y on, W
+pub count-holds : (Y W K r : ℕ) → 0 < K → W ≤ K → countBelow K (λ i. ltb (hold Y K r i) (Y + W)) ≡ W
+unfolding hold
+count-holds Y W K r p h =
+    gap-sum K ((r + Y) % K) (λ x. oneIf (ltb (Y + x) (Y + W))) (mod-lt (r + Y) p)
+    ∙ sum-cong K (λ x. oneIf (ltb (Y + x) (Y + W))) (λ x. oneIf (ltb x W)) (λ x m. ap oneIf (same-test (Y + x) (Y + W) x W (λ q. omega arith) (λ q. omega arith)))
+    ∙ count-below K W h

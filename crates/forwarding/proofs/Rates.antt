@@ -4,20 +4,21 @@ use Prim.Native.Nat.{ℕ, _+_, _-_, _*_, _/_, _<_, _≤_}
 use native.Mathlib.Nat.{div-eq-of-lt-le, div-div-eq-div-mul, div-mul-le-self, lt-div-mul-add, le-div-iff-mul-le, mul-assoc, mul-comm, mul-right-comm, add-mul, zero-mul, one-mul, mul-le-mul-right, mul-lt-mul-of-pos-right, le-of-mul-le-mul-right, lt-of-mul-lt-mul-right}
 use native.Mathlib.Omega.{arith}
 use Rattle.forwarding.specs.declared.Hop.{Hop}
-use Rattle.forwarding.specs.Forwarding.{reference, leastHold, hold, frameTime, holdInto}
-use Rattle.forwarding.specs.Checked.{Passed}
+use Rattle.forwarding.specs.Forwarding.{reference, referenceInto, leastHold, hold, holdInto, frameTime}
+use Rattle.forwarding.specs.Hops.{HopReady}
+use Rattle.forwarding.specs.Rates.{SameRate, ToFaster, ToSlower, ToFasterLater, NeverEarlier, WholeFrame, NotYetWhole}
 use Rattle.forwarding.proofs.Transitions.{cycle-frames}
 
 next-mul : (k K : ℕ) → (k + 1) * K ≡ k * K + K
 next-mul k K = add-mul k 1 K ∙ ap (λ (x : ℕ). k * K + x) (one-mul K)
 
 -- F-i of source document 002, equal rates: the frame of the same number
-pub same-rate : (k K : ℕ) → 0 < K → reference k K K ≡ k
+pub same-rate : SameRate
 unfolding reference
 same-rate k K p = div-eq-of-lt-le K (omega (arith, next-mul k K)) (omega (arith, next-mul k K))
 
 -- W-201 in the place of F-ii, from slow to fast: the last of the m frames that the frame covers
-pub to-faster : (k m K′ : ℕ) → 0 < K′ → 0 < m → reference k (m * K′) K′ ≡ (k + 1) * m - 1
+pub to-faster : ToFaster
 unfolding reference
 to-faster k m K′ p q =
     let r : ℕ = (k + 1) * m - 1 in
@@ -25,7 +26,7 @@ to-faster k m K′ p q =
     ap (λ (x : ℕ). (x - 1) / K′) (sym (mul-assoc (k + 1) m K′) ∙ ap (λ (x : ℕ). x * K′) (sym e)) ∙ same-rate r K′ p
 
 -- F-iii, from fast to slow: the frame that covers it
-pub to-slower : (k m K : ℕ) → 0 < K → reference k K (m * K) ≡ k / m
+pub to-slower : ToSlower
 unfolding reference
 to-slower k m K p =
     ap (λ (x : ℕ). ((k + 1) * K - 1) / x) (mul-comm m K)
@@ -33,18 +34,18 @@ to-slower k m K p =
     ∙ ap (λ (x : ℕ). x / m) (same-rate k K p)
 
 -- "slow to fast moves later": document 01 named the first of the m frames
-pub to-faster-later : (k m K′ : ℕ) → 0 < K′ → 1 < m → k * m < reference k (m * K′) K′
+pub to-faster-later : ToFasterLater
 to-faster-later k m K′ p q = omega (arith, to-faster k m K′ p (omega arith), next-mul k m)
 
 -- NO REFERENCE FRAME COMES EARLIER than by document 01, whatever the rates
-pub never-earlier : (k K K′ : ℕ) → 0 < K → 0 < K′ → k * K / K′ ≤ reference k K K′
+pub never-earlier : NeverEarlier
 unfolding reference
 never-earlier k K K′ p q = le-div-iff-mul-le q .1 (omega (arith, div-mul-le-self (k * K) K′, next-mul k K))
 
 -- two adjacent hops, for a cycle of T ticks: frame k of the first ends at tick (k + 1) × T / K', frame j of the second begins at tick j × T / K
-module _ (T : ℕ) (g h : Hop) (k : ℕ) (pg : Passed T g) (ph : Passed T h) where
+module _ (T : ℕ) (g h : Hop) (k : ℕ) (pg : HopReady T g) (ph : HopReady T h) where
   abbrev r : ℕ
-  r = reference k (h .frames) (g .frames)
+  r = referenceInto g h k
 
   -- how long a frame of the first hop lasts
   abbrev time : ℕ
@@ -57,23 +58,28 @@ module _ (T : ℕ) (g h : Hop) (k : ℕ) (pg : Passed T g) (ph : Passed T h) whe
       ∙ ap (λ (x : ℕ). y * x) (mul-comm (g .frames) time ∙ cycle-frames T (g .frames) (pg .divides) ∙ sym (cycle-frames T (h .frames) (ph .divides)))
       ∙ sym (mul-assoc y (frameTime T (h .frames)) (h .frames))
 
-  -- "The new switches send nothing of a frame before its last bit has arrived": whatever frame i the hold leads to, it begins no earlier
-  pub whole-frame : (i : ℕ)
-      → (k + 1) * frameTime T (g .frames) ≤ (reference k (h .frames) (g .frames) + holdInto (g .frames) h k i) * frameTime T (h .frames)
-  unfolding reference leastHold hold holdInto
-  whole-frame i =
-      let y : ℕ = r + holdInto (g .frames) h k i in
+  begins-after : (i : ℕ) → (k + 1) * time ≤ (r + holdInto g h k i) * frameTime T (h .frames)
+  unfolding reference referenceInto leastHold hold holdInto
+  begins-after i =
+      let y : ℕ = r + holdInto g h k i in
       let later : (r + 1) * g .frames ≤ y * g .frames = mul-le-mul-right (g .frames) (omega arith) in
       let whole : (k + 1) * h .frames ≤ y * g .frames = omega (arith, later, next-mul r (g .frames), lt-div-mul-add {a = (k + 1) * h .frames - 1} (pg .some-frame)) in
       le-of-mul-le-mul-right
       (omega (arith, mul-le-mul-right time whole, y-cycles y, mul-right-comm (k + 1) (h .frames) time))
       (ph .some-frame)
 
-  -- and the reference frame is the first that will do: when it begins, the last bit has not arrived
-  pub not-yet-whole : 0 < T → reference k (h .frames) (g .frames) * frameTime T (h .frames) < (k + 1) * frameTime T (g .frames)
-  unfolding reference
-  not-yet-whole t =
+  begins-before : 0 < T → r * frameTime T (h .frames) < (k + 1) * time
+  unfolding reference referenceInto
+  begins-before t =
       let early : r * g .frames < (k + 1) * h .frames = omega (arith, div-mul-le-self ((k + 1) * h .frames - 1) (g .frames), next-mul k (h .frames), ph .some-frame) in
       let lasts : 0 < time = lt-of-mul-lt-mul-right (g .frames) {m = 0} (omega (arith, zero-mul (g .frames), cycle-frames T (g .frames) (pg .divides), t)) in
       lt-of-mul-lt-mul-right (h .frames)
       (omega (arith, mul-lt-mul-of-pos-right early lasts, y-cycles r, mul-right-comm (k + 1) (h .frames) time))
+
+-- "The new switches send nothing of a frame before its last bit has arrived"
+pub whole-frame : WholeFrame
+whole-frame T g h k pg ph i = begins-after T g h k pg ph i
+
+-- and the reference frame is the first that will do
+pub not-yet-whole : NotYetWhole
+not-yet-whole T g h k pg ph t = begins-before T g h k pg ph t

@@ -4,13 +4,13 @@ use mathlib.Core.List.{List, [], _∷_, map, List·Memᴰ, List·Memᴰ·not-nil
 use mathlib.Core.Logic.{⊎-elim}
 use Rattle.trellis.specs.Answer.{Answer}
 use Rattle.words.specs.Word.{bitOf, wordOf}
-use Rattle.forwarding.specs.Forwarding.{reference, leastHold, gap, hold, delay, isFree, mayHold, holdInto}
-use Rattle.forwarding.specs.Schedule.{routeAnswer}
-use Rattle.forwarding.specs.QuestionFour.{Case, starred}
+use Rattle.forwarding.specs.Forwarding.{reference, referenceInto, leastHold, gap, hold, holdInto, mayHold, isFree, delay}
+use Rattle.forwarding.specs.Route.{routeAnswer}
+use Rattle.forwarding.specs.QuestionFour.{Case, starred, StarredRight}
 
 -- the whole table is computed by the rule
 computed : map (λ (c : Case). routeAnswer 48 (c .route)) starred ≡ map (λ (c : Case). c .expected) starred
-unfolding routeAnswer starred reference leastHold gap hold delay isFree mayHold holdInto bitOf wordOf
+unfolding routeAnswer starred reference referenceInto leastHold gap hold holdInto mayHold isFree delay bitOf wordOf
 computed = refl
 
 same-at : (f g : Case → Answer) (l : List Case) → map f l ≡ map g l → (c : Case) → List·Memᴰ c l → f c ≡ g c
@@ -19,5 +19,5 @@ same-at f g (x ∷ xs) e c m =
     ⊎-elim (λ q. rw q (head-eq-of-cons-eq e)) (same-at f g xs (tail-eq-of-cons-eq e) c) (List·Memᴰ·cases-cons m)
 
 -- THE STARRED CASES: each answer of the table is the rule's
-pub starred-right : (c : Case) → List·Memᴰ c starred → routeAnswer 48 (c .route) ≡ c .expected
+pub starred-right : StarredRight
 starred-right = same-at (λ c. routeAnswer 48 (c .route)) (λ c. c .expected) starred computed

@@ -1,16 +1,18 @@
 -- Laws of a single transition: its hold, its delay in frames' times, and what it is allowed by. Assumes nothing.
 use mathlib.Core.Path.{_≡_, refl, sym, _∙_, ap}
-use mathlib.Core.Bool.{true, _&&_}
-use Prim.Native.Nat.{ℕ, _*_, _/_, _%_, _<_, _≤_}
+use mathlib.Core.Bool.{Bool, true, false}
+use Prim.Native.Nat.{ℕ, _+_, _*_, _/_, _%_, _<_, _≤_}
 use native.Mathlib.Nat.{le-trans, div-le-of-le-mul, mul-le-mul-right, mul-comm, mul-assoc, mul-div-cancel-left, div-add-mod', le-of-eq}
 use native.Mathlib.Omega.{arith}
-use borrow.Author.Tests.{leb-true, le-leb}
+use lib.Dec.{leb, ltb}
+use borrow.Author.Tests.{leb-true, leb-false, le-leb, lt-ltb, le-ltb}
 use Rattle.lists.specs.Count.{oneIf, countBelow}
 use Rattle.lists.proofs.Count.{sum-le, and-both, and-left-le}
 use Rattle.forwarding.specs.declared.Hop.{Hop}
-use Rattle.forwarding.specs.Forwarding.{reference, delay, frameTime, Delayed, isFree, mayHold, holdInto, stage}
-use Rattle.forwarding.specs.Checked.{Passed}
-use Rattle.forwarding.proofs.Holds.{count-holds}
+use Rattle.forwarding.specs.Forwarding.{referenceInto, leastHold, hold, isFree, mayHold, holdInto, isAllowed, choices, delay, frameTime}
+use Rattle.forwarding.specs.Hops.{HopReady}
+use Rattle.forwarding.specs.Inner.{Delayed}
+use Rattle.forwarding.proofs.Holds.{choices-range, choices-in, count-holds}
 
 -- where K divides T, K frames are a cycle
 pub cycle-frames : (T K : ℕ) → T % K ≡ 0 → frameTime T K * K ≡ T
@@ -34,6 +36,14 @@ pub delay-le : (T K D : ℕ) → D ≤ K → delay T K D ≤ T
 unfolding delay
 delay-le T K D h = div-le-of-le-mul K (mul-le-mul-right T h)
 
+-- at most Z, and below Z + 1
+leb-ltb : (a b : ℕ) → leb a b ≡ ltb a (b + 1)
+leb-ltb a b = go (leb a b) refl
+  where
+    go : (t : Bool) → leb a b ≡ t → t ≡ ltb a (b + 1)
+    go true e = sym (lt-ltb a (b + 1) (omega (arith, leb-true a b e)))
+    go false e = sym (le-ltb a (b + 1) (omega (arith, leb-false a b e)))
+
 pub may-hold : (h : Hop) (D : ℕ) → mayHold h D ≡ true → D ≤ h .range
 unfolding mayHold
 may-hold h D e = leb-true D (h .range) e
@@ -42,16 +52,21 @@ pub hold-may : (h : Hop) (D : ℕ) → D ≤ h .range → mayHold h D ≡ true
 unfolding mayHold
 hold-may h D l = le-leb D (h .range) l
 
-pub stage-cap : (T K′ : ℕ) (h : Hop) (k i : ℕ) → Passed T h → stage T K′ h .allowed k i ≡ true → stage T K′ h .cost k i ≤ T
-stage-cap T K′ h k i p a =
-    delay-le T (h .frames) (holdInto K′ h k i)
-    (le-trans (may-hold h (holdInto K′ h k i) (and-both (mayHold h (holdInto K′ h k i)) (isFree h i) a .0)) (p .in-cycle))
+-- a hold within the range is below the least hold and the number of choices together
+pub may-choice : (h : Hop) (D : ℕ) → mayHold h D ≡ ltb D (leastHold h + choices h)
+unfolding mayHold
+may-choice h D = rw (choices-range h) (leb-ltb D (h .range))
 
--- from a frame at most Z frames of the next hop are led to
-pub stage-narrow : (T K′ : ℕ) (h : Hop) (k : ℕ) → Passed T h → countBelow (h .frames) (λ i. stage T K′ h .allowed k i) ≤ h .range
-unfolding mayHold holdInto
-stage-narrow T K′ h k p =
+-- an allowed transition takes a cycle at most
+pub allowed-cap : (T : ℕ) (g h : Hop) (k i : ℕ) → HopReady T h → isAllowed g h k i ≡ true → delay T (h .frames) (holdInto g h k i) ≤ T
+allowed-cap T g h k i p a =
+    delay-le T (h .frames) (holdInto g h k i)
+    (le-trans (may-hold h (holdInto g h k i) (and-both (mayHold h (holdInto g h k i)) (isFree h i) a .0)) (p .in-cycle))
+
+-- from a frame at most as many frames of the next hop are led to as there are holds
+pub allowed-narrow : (T : ℕ) (g h : Hop) (k : ℕ) → HopReady T h → countBelow (h .frames) (λ i. isAllowed g h k i) ≤ choices h
+allowed-narrow T g h k p =
     le-trans
-    (sum-le (h .frames) (λ i. oneIf (mayHold h (holdInto K′ h k i) && isFree h i)) (λ i. oneIf (mayHold h (holdInto K′ h k i)))
-    (λ i l. and-left-le (mayHold h (holdInto K′ h k i)) (isFree h i)))
-    (le-of-eq (count-holds (h .range) (h .frames) (reference k (h .frames) K′) (p .some-frame) (p .in-cycle)))
+    (sum-le (h .frames) (λ i. oneIf (isAllowed g h k i)) (λ i. oneIf (ltb (holdInto g h k i) (leastHold h + choices h)))
+    (λ i l. le-trans (and-left-le (mayHold h (holdInto g h k i)) (isFree h i)) (le-of-eq (ap oneIf (may-choice h (holdInto g h k i))))))
+    (le-of-eq (unfold holdInto in count-holds (leastHold h) (choices h) (h .frames) (referenceInto g h k) (p .some-frame) (choices-in h (p .in-cycle))))

@@ -92,10 +92,10 @@ from-start n s sts q h = let c : Cut (entry n s) sts q = cut (entry n s) sts q h
 -- ---- what the answer is in other words that are the paths
 module _ (t : Trellis) (S : List ℕ → Type 0) (cost : List ℕ → ℕ) (key : List ℕ → List ℕ) (r : ArePaths t S cost key) where
   -- one that S is of, and none comes before it
-  abbrev First : List ℕ → Type 0
+  abbrev pub First : List ℕ → Type 0
   First w = S w × ((v : List ℕ) → S v → Precedes (key w) (key v))
 
-  abbrev Reads : Answer → Type 0
+  abbrev pub Reads : Answer → Type 0
   Reads (found c m w) = First w × (cost w ≡ c) × (m ≡ considered t)
   Reads (blocked m) = ((w : List ℕ) → S w → ⊥) × (m ≡ considered t)
 

@@ -1,31 +1,54 @@
 -- `forwarding::hold_into` meets its contract. Assumes nothing.
 use borrow.Author.Needs.{needs}
 use native.Mathlib.Omega.{arith}
-use Rattle.forwarding.proofs.Holds.{reference-in, hold-in, hold-counted}
+use Rattle.forwarding.proofs.Holds.{from-in, from-least, hold-in, hold-counted}
 use Rattle.forwarding.proofs.hold_into.Statement.{statement}
 use Rattle.forwarding.proofs.hold_into.Tie as tie
 
 reference-frame-requires : tie.Need-reference-frame-requires
 reference-frame-requires c κs = search needs
 
-add-t6 : tie.Need-add-t6
-add-t6 c = search needs
+least-hold-requires : tie.Need-least-hold-requires
+least-hold-requires c κs = search needs
 
-add-t7 : tie.Need-add-t7
-add-t7 c = omega (arith, reference-in _ _ _ (c .before .args .i) _ (c .reference-frame .ensures) (omega arith) (c .before .pre .2))
+mul-t8 : tie.Need-mul-t8
+mul-t8 c = search needs
 
-sub-t8 : tie.Need-sub-t8
-sub-t8 c = omega (arith, reference-in _ _ _ (c .before .args .i) _ (c .reference-frame .ensures) (omega arith) (c .before .pre .2))
-
-rem-t9 : tie.Need-rem-t9
-rem-t9 c = search needs
+add-t9 : tie.Need-add-t9
+add-t9 c = search needs
 
 add-t10 : tie.Need-add-t10
-add-t10 c = omega (arith, hold-in _ _ _ (c .before .args .i) _ (c .reference-frame .ensures) (omega arith) (c .before .pre .2))
+add-t10 c =
+    let s = c .before .before in
+    let a = s .args in
+    let e = c .before .reference-frame .ensures in
+    let y = c .least-hold .ensures in
+    omega (arith, from-in (a .before) (a .hop) (a .k) (a .i) _ _ e y (s .pre .0) (s .pre .2), from-least (a .before) (a .hop) (a .k) (a .i) _ _ e y (s .pre .0) (s .pre .2))
+
+sub-t11 : tie.Need-sub-t11
+sub-t11 c =
+    let s = c .before .before in
+    let a = s .args in
+    let e = c .before .reference-frame .ensures in
+    let y = c .least-hold .ensures in
+    omega (arith, from-in (a .before) (a .hop) (a .k) (a .i) _ _ e y (s .pre .0) (s .pre .2), from-least (a .before) (a .hop) (a .k) (a .i) _ _ e y (s .pre .0) (s .pre .2))
+
+rem-t12 : tie.Need-rem-t12
+rem-t12 c = search needs
+
+add-t13 : tie.Need-add-t13
+add-t13 c =
+    let s = c .before .before in
+    let a = s .args in
+    let e = c .before .reference-frame .ensures in
+    let y = c .least-hold .ensures in
+    omega (arith, hold-in (a .before) (a .hop) (a .k) (a .i) _ _ e y (s .pre .0) (s .pre .2), from-least (a .before) (a .hop) (a .k) (a .i) _ _ e y (s .pre .0) (s .pre .2))
 
 returns : tie.Need-returns
-returns c = hold-counted _ _ _ _ _ (c .reference-frame .ensures) (c .before .pre .0) (c .before .pre .2)
+returns c =
+    let s = c .before .before in
+    let a = s .args in
+    hold-counted (a .before) (a .hop) (a .k) (a .i) _ _ (c .before .reference-frame .ensures) (c .least-hold .ensures) (s .pre .0) (s .pre .2)
 
 pub hold-into-spec : {M : Type 1} → statement M
-hold-into-spec =
-    tie.close (tie.spec reference-frame-requires add-t6 add-t7 sub-t8 rem-t9 add-t10 returns)
+hold-into-spec = tie.close (tie.spec reference-frame-requires least-hold-requires mul-t8 add-t9 add-t10 sub-t11 rem-t12 add-t13 returns)

@@ -3,7 +3,7 @@ use borrow.Author.Needs.{needs}
 use Prim.Native.Nat.{_+_}
 use native.Mathlib.Nat.{mul-le-mul, mul-pos}
 use native.Mathlib.Omega.{arith}
-use Rattle.forwarding.specs.Forwarding.{reference}
+use Rattle.forwarding.specs.Forwarding.{reference, referenceInto}
 use Rattle.forwarding.proofs.reference_frame.Statement.{statement}
 use Rattle.forwarding.proofs.reference_frame.Tie as tie
 
@@ -12,19 +12,19 @@ add-result c = search needs
 
 mul-result : tie.Need-mul-result
 mul-result c =
-    let a = c .args in
-    record { fits = omega (arith, mul-le-mul {n₁ = a .k + 1} {m₁ = a .frames} {n₂ = 64} {m₂ = 64} (omega arith) (omega arith)) }
+    let a = c .before .args in
+    record { fits = omega (arith, mul-le-mul {n₁ = a .k + 1} {m₁ = a .hop .frames} {n₂ = 64} {m₂ = 64} (omega arith) (omega arith)) }
 
 sub-result : tie.Need-sub-result
 sub-result c =
-    let a = c .args in
-    omega (arith, mul-pos {m = a .k + 1} {n = a .frames} (omega arith) (omega arith))
+    let a = c .before .args in
+    omega (arith, mul-pos {m = a .k + 1} {n = a .hop .frames} (omega arith) (omega arith))
 
 div-result : tie.Need-div-result
 div-result c = search needs
 
 returns : tie.Need-returns
-unfolding reference
+unfolding reference referenceInto
 returns c = search needs
 
 pub reference-frame-spec : {M : Type 1} → statement M
