@@ -1,16 +1,15 @@
 -- Check 9 in the words of frames: it passes exactly where no closed bit stands at K or above. Assumes nothing.
 use mathlib.Core.Path.{_≡_}
 use mathlib.Core.Bool.{false}
-use Prim.Native.Nat.{ℕ, _*_, _+_, _/_, _%_, _^_, _<_, _≤_}
+use Prim.Native.Nat.{ℕ, _*_, _+_, _/_, _%_, _^_, _<_}
 use native.Mathlib.Omega.{arith}
 use native.Mathlib.Nat.{mod-lt, div-eq-of-lt, div-add-mod'}
 use borrow.Author.Tests.{eq-eqb, eqb-true, not-false}
 use lib.Pow.{pow-pos}
 use lib.Dec.{eqb}
-use Rattle.words.specs.Word.{bitOf}
 use Rattle.words.proofs.Bits.{bit-high}
 use Rattle.words.proofs.Words.{word-below}
-use Rattle.network.specs.Checks.{badClosed}
+use Rattle.network.specs.Checks.{badClosed, PassedNoneClosed, NoneClosedPassed}
 
 pub closed-below : (K closed : ℕ) → badClosed K closed ≡ false → closed < 2 ^ K
 unfolding badClosed
@@ -22,11 +21,11 @@ closed-below K closed e =
     omega arith
 
 -- NO CLOSED BIT STANDS AT K OR ABOVE WHERE CHECK 9 PASSES
-pub passed-none-closed : (K closed : ℕ) → badClosed K closed ≡ false → (i : ℕ) → K ≤ i → bitOf closed i ≡ false
+pub passed-none-closed : PassedNoneClosed
 passed-none-closed K closed e i h = bit-high K closed i (closed-below K closed e) h
 
 -- AND CHECK 9 PASSES WHERE NONE STANDS THERE
-pub none-closed-passed : (K closed : ℕ) → closed < 2 ^ 64 → K ≤ 64 → ((i : ℕ) → K ≤ i → bitOf closed i ≡ false) → badClosed K closed ≡ false
+pub none-closed-passed : NoneClosedPassed
 unfolding badClosed
 none-closed-passed K closed w k h =
     let q : closed / 2 ^ K ≡ 0 = div-eq-of-lt (word-below 64 K closed w k h) in

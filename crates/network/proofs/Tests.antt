@@ -6,7 +6,7 @@ use native.Mathlib.Omega.{arith}
 use borrow.Author.Tests.{lt-ltb, le-ltb, eq-eqb, ne-eqb, ltb-false, eqb-true, eqb-false, not-false}
 use lib.Dec.{eqb, ltb}
 use Rattle.lists.proofs.Count.{or-neither}
-use Rattle.network.specs.Checks.{badCount, badCycle, badFrames, badRange, badClosed}
+use Rattle.network.specs.Checks.{badCount, badCycle, badFrames, badRange, badClosed, CountPassed, CyclePassed, FramesPassed, RangePassed}
 
 pub no-links : (n : ℕ) → n ≡ 0 → eqb n 0 ≡ badCount n
 unfolding badCount
@@ -55,21 +55,21 @@ none-above K closed h g w =
     rw (e, eq-eqb (closed / 2 ^ 64) 0 (omega arith))
 
 -- ---- what a test that passed shows
-pub count-passed : (n : ℕ) → badCount n ≡ false → (0 < n) × (n ≤ 32)
+pub count-passed : CountPassed
 unfolding badCount
 count-passed n e =
     let o : (eqb n 0 ≡ false) × (ltb 32 n ≡ false) = or-neither (eqb n 0) (ltb 32 n) e in
     let z : n ≡ 0 → ⊥ = eqb-false n 0 (o .0) in
     (omega arith, ltb-false 32 n (o .1))
 
-pub cycle-passed : (T : ℕ) → badCycle T ≡ false → (0 < T) × (T ≤ 960)
+pub cycle-passed : CyclePassed
 unfolding badCycle
 cycle-passed T e =
     let o : (eqb T 0 ≡ false) × (ltb 960 T ≡ false) = or-neither (eqb T 0) (ltb 960 T) e in
     let z : T ≡ 0 → ⊥ = eqb-false T 0 (o .0) in
     (omega arith, ltb-false 960 T (o .1))
 
-pub frames-passed : (T K : ℕ) → badFrames T K ≡ false → (0 < K) × (K ≤ 64) × (T % K ≡ 0)
+pub frames-passed : FramesPassed
 unfolding badFrames
 frames-passed T K e =
     let o : ((eqb K 0 || ltb 64 K) ≡ false) × (not (eqb (T % K) 0) ≡ false) = or-neither (eqb K 0 || ltb 64 K) (not (eqb (T % K) 0)) e in
@@ -77,7 +77,7 @@ frames-passed T K e =
     let z : K ≡ 0 → ⊥ = eqb-false K 0 (p .0) in
     (omega arith, ltb-false 64 K (p .1), eqb-true (T % K) 0 (not-false (eqb (T % K) 0) (o .1)))
 
-pub range-passed : (K Z : ℕ) → badRange K Z ≡ false → (0 < Z) × (Z ≤ K)
+pub range-passed : RangePassed
 unfolding badRange
 range-passed K Z e =
     let o : (eqb Z 0 ≡ false) × (ltb K Z ≡ false) = or-neither (eqb Z 0) (ltb K Z) e in

@@ -1,10 +1,12 @@
 -- The checks that a network given as values meets: 2, 3, 7, 8 and 9 of the refusal list. Assumes nothing.
-use mathlib.Core.Bool.{Bool, not, _||_}
+use mathlib.Core.Path.{_≡_}
+use mathlib.Core.Bool.{Bool, false, not, _||_}
 use mathlib.Core.List.{List, [], _∷_}
-use Prim.Native.Nat.{ℕ, _/_, _%_, _^_}
+use Prim.Native.Nat.{ℕ, _/_, _%_, _^_, _<_, _≤_}
 use lib.ListN.{length}
 use lib.Dec.{eqb, ltb}
 use Rattle.refusals.specs.Refusals.{Ruling, given, pass, refuseIf, orElse}
+use Rattle.words.specs.Word.{bitOf}
 use Rattle.network.specs.Network.{Topology}
 use Rattle.network.specs.declared.Link.{Link}
 
@@ -46,3 +48,27 @@ networkCheck t =
     orElse (refuseIf (badCount (length (t .links))) 2)
     (orElse (refuseIf (badCycle (t .ticks)) 3)
     (linksCheck (t .ticks) (t .links)))
+
+-- ---- what a check that passed shows, in the words of "Network"
+-- "1 to 32 links"
+abbrev pub CountPassed : Type 0
+CountPassed = (n : ℕ) → badCount n ≡ false → (0 < n) × (n ≤ 32)
+
+-- "T from 1 to 960"
+abbrev pub CyclePassed : Type 0
+CyclePassed = (T : ℕ) → badCycle T ≡ false → (0 < T) × (T ≤ 960)
+
+-- "K from 1 to 64 and dividing T"
+abbrev pub FramesPassed : Type 0
+FramesPassed = (T K : ℕ) → badFrames T K ≡ false → (0 < K) × (K ≤ 64) × (T % K ≡ 0)
+
+-- "a forwarding range Z from 1 to K"
+abbrev pub RangePassed : Type 0
+RangePassed = (K Z : ℕ) → badRange K Z ≡ false → (0 < Z) × (Z ≤ K)
+
+-- "a set of closed frames ... none at K or above": no bit stands there where 9 passes, and 9 passes where none stands there
+abbrev pub PassedNoneClosed : Type 0
+PassedNoneClosed = (K closed : ℕ) → badClosed K closed ≡ false → (i : ℕ) → K ≤ i → bitOf closed i ≡ false
+
+abbrev pub NoneClosedPassed : Type 0
+NoneClosedPassed = (K closed : ℕ) → closed < 2 ^ 64 → K ≤ 64 → ((i : ℕ) → K ≤ i → bitOf closed i ≡ false) → badClosed K closed ≡ false

@@ -15,7 +15,7 @@ use Rattle.network.specs.Checks.{badCount, badCycle}
 use Rattle.network.proofs.Tests.{count-passed}
 use Rattle.records.proofs.Front.{record-front, used-bound}
 use Rattle.network_file.specs.Fields.{linkLayout}
-use Rattle.network_file.specs.Reading.{Linked, readLink, readLinks, within, readNetwork}
+use Rattle.network_file.specs.Reading.{Linked, readLink, readLinks, within, readNetwork, FirstBytes}
 use Rattle.network_file.proofs.Files.{Was, was}
 
 -- ---- one link
@@ -65,7 +65,7 @@ network-front a t h =
     rw (le-ltb (length (a ++ t)) 3 longer, le-ltb (length a) 3 long, ticks, count) (counted-front (numberIn 2 a) (getD a 2 0) a t (badCount (getD a 2 0)) refl h)
 
 -- THE FIRST 356 BYTES OF A FILE TELL WHAT THE WHOLE SAYS
-pub first-bytes : (s : List ℕ) (m : ℕ) → 356 ≤ m → readNetwork (take m s) ≡ readNetwork s
+pub first-bytes : FirstBytes
 first-bytes s m h = go (ltb m (length s)) refl
   where
     go : (b : Bool) → ltb m (length s) ≡ b → readNetwork (take m s) ≡ readNetwork s

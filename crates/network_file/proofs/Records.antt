@@ -19,13 +19,13 @@ use Rattle.network.specs.declared.Link.{Link}
 use Rattle.network.specs.Checks.{linkCheck}
 use Rattle.records.specs.declared.Record.{Record}
 use Rattle.records.specs.declared.Field.{Field}
-use Rattle.records.specs.Reading.{strayBits, Said, readRecord, saidIn, Told}
+use Rattle.records.specs.Reading.{Said, readRecord, saidIn, Told}
 use Rattle.records.specs.Layout.{noField, isBit, isLayout, Laid, Fits}
 use Rattle.records.proofs.Layouts.{fits-at}
 use Rattle.records.proofs.Maps.{none-stray, stray-none}
 use Rattle.records.proofs.ReadWrite.{Whole, record-only}
 use Rattle.network_file.specs.Fields.{linkLayout, valuesOf, linkOf}
-use Rattle.network_file.specs.Reading.{readLink}
+use Rattle.network_file.specs.Reading.{readLink, StrayAbove, AboveStray}
 
 pub link-layout : isLayout linkLayout ≡ true
 unfolding isLayout isBit linkLayout
@@ -54,10 +54,10 @@ some-bit (suc zero) e = absurd (true≢false e)
 some-bit (suc (suc zero)) e = absurd (true≢false e)
 some-bit (suc (suc (suc i))) e = omega arith
 
-pub stray-above : (map : ℕ) → map < 256 → strayBits linkLayout map ≡ 0 → map < 8
+pub stray-above : StrayAbove
 stray-above map h e = word-below 64 3 map (omega arith) (omega arith) (λ i g. stray-none linkLayout map h e i (no-bit i g))
 
-pub above-stray : (map : ℕ) → map < 8 → strayBits linkLayout map ≡ 0
+pub above-stray : AboveStray
 above-stray map h = none-stray linkLayout map (λ i e. bit-high 3 map i h (some-bit i e))
 
 -- K and Z that fit in their fields fit in a byte

@@ -19,13 +19,12 @@ use Rattle.numbers.proofs.Trip.{bytes-cons, bytes-none, bytes-append, bytes-of}
 use Rattle.network.specs.declared.Link.{Link}
 use Rattle.network.specs.Checks.{networkCheck}
 use Rattle.network.specs.Network.{Topology, noLink, topologyOf}
-use Rattle.network.specs.declared.Network.{Network}
 use Rattle.network.proofs.Checks.{network-good}
 use Rattle.network.proofs.Tests.{count-passed}
 use Rattle.records.proofs.OneRecord.{record-bytes}
 use Rattle.network_file.specs.declared.Written.the-variants.{Length, Refused}
 use Rattle.network_file.specs.declared.Loaded.{Loaded}
-use Rattle.network_file.specs.OneFile.{OneFile}
+use Rattle.network_file.specs.OneFile.{EachNetworkHasOneFile, ReadPasses, ReadStands, WrittenReads, ReadWrites}
 use Rattle.network_file.specs.Writing.{linkBytes, linksBytes, imageOf, writeNetwork, lengthRead, bufferAfter, Writes}
 use Rattle.network_file.specs.Fields.{linkLayout, valuesOf}
 use Rattle.network_file.specs.Reading.{readNetwork, stored, storedIn, Reads}
@@ -45,11 +44,11 @@ image-bytes t e =
     bytes-append (bytesOf 2 (t .ticks)) (length (t .links) ∷ linksBytes (t .links)) (bytes-of 2 (t .ticks)) (bytes-cons (length (t .links)) (linksBytes (t .links)) (omega (arith, c .1)) (links-bytes (t .links)))
 
 -- EACH NETWORK THAT PASSES ITS CHECKS HAS EXACTLY ONE FILE
-pub one-file : (t : Topology) → networkCheck t ≡ given pass → OneFile t
+pub one-file : EachNetworkHasOneFile
 one-file t e = record { bytes = image-bytes t e; reads = image-reads t e; only = λ s b r. sym (file-only s t b r .image) }
 
 -- AND EVERY FILE THAT READS AS A NETWORK READS AS ONE THAT PASSES ITS CHECKS
-pub read-passes : (s : List ℕ) (t : Topology) → IsBytes s → readNetwork s ≡ given t → networkCheck t ≡ given pass
+pub read-passes : ReadPasses
 read-passes s t b e = file-only s t b e .passed
 
 -- what a file says, by the verdict of its reader
@@ -69,7 +68,7 @@ stored-back t e =
     rw (firsts-back 32 (t .links) noLink (c .1))
 
 -- WHAT `read_network` READ STANDS FOR THE NETWORK THAT THE FILE SAYS
-pub read-stands : (s : List ℕ) (t : Topology) (r : Loaded) → IsBytes s → readNetwork s ≡ given t → Reads (readNetwork s) r → topologyOf (r .network) ≡ t
+pub read-stands : ReadStands
 read-stands s t r b e d = ap topologyOf (d .network ∙ ap storedIn e) ∙ stored-back t (read-passes s t b e)
 
 -- a write that was not refused
@@ -89,7 +88,7 @@ done t room size e = go (networkCheck t) refl (sym e)
         record { passed = q; enough = ltb-false room (length (imageOf t)) (p .0); is = sym (ap (givenOr 0) (p .1)) }
 
 -- WRITTEN, THEN READ: whatever `write_network` wrote, `read_network` reads as that network
-pub written-reads : (n : Network) (before after : List ℕ) (size : ℕ) (r : Loaded) → Writes (topologyOf n) before after (Length size) → Reads (readNetwork (take size after)) r → (ruling (r .verdict) ≡ given pass) × (topologyOf (r .network) ≡ topologyOf n)
+pub written-reads : WrittenReads
 written-reads n before after size r w d =
     let t : Topology = topologyOf n in
     let k : Done t (length before) size = done t (length before) size (w .answer) in
@@ -107,7 +106,7 @@ unfolding writeNetwork
 passes t room e h = rw (e, le-ltb room (length (imageOf t)) h)
 
 -- READ, THEN WRITTEN: whatever `read_network` reads as a network, `write_network` writes as that file
-pub read-writes : (file : List ℕ) (r : Loaded) (before after : List ℕ) (w : Written) → IsBytes file → Reads (readNetwork file) r → r .verdict ≡ Passed → length file ≤ length before → Writes (topologyOf (r .network)) before after w → (w ≡ Length (length file)) × (after ≡ file ++ drop (length file) before)
+pub read-writes : ReadWrites
 read-writes file r before after w b d p room x =
     let t : Topology = passed-says file r d p .0 in
     let e : readNetwork file ≡ given t = passed-says file r d p .1 in

@@ -7,7 +7,7 @@ use Rattle.network.specs.Checks.{badCount, badCycle, badFrames, badRange, badCl
 use Rattle.records.specs.Reading.{sizeIn, needed, valueIn, valuesIn, strayBits, restated, readMapped, readRecord}
 use Rattle.records.specs.Layout.{isBit, stands}
 use Rattle.records.specs.Writing.{isWritten, writtenAt, mapOf, fieldOf, bodyOf, recordOf}
-use Rattle.network_file.specs.Example.{example, exampleBytes}
+use Rattle.network_file.specs.Example.{example, exampleBytes, ExampleImage, ExampleReads}
 use Rattle.network_file.specs.Writing.{linkBytes, linksBytes, imageOf}
 use Rattle.network_file.specs.Reading.{readLink, readLinks, readNetwork}
 use Rattle.network_file.specs.Fields.{linkLayout, valuesOf, linkOf}
@@ -18,11 +18,11 @@ unfolding example networkCheck badCount badCycle linksCheck linkCheck badFrames 
 example-passes = refl
 
 -- THE FILE OF THE EXAMPLE IS 30 00 02 00 03 08 02
-pub example-image : imageOf example ≡ exampleBytes
+pub example-image : ExampleImage
 unfolding example exampleBytes imageOf bytesOf linksBytes linkBytes linkLayout valuesOf recordOf mapOf writtenAt wordOf bodyOf fieldOf isWritten
 example-image = refl
 
 -- AND READS AS IT
-pub example-reads : readNetwork exampleBytes ≡ given example
+pub example-reads : ExampleReads
 unfolding example exampleBytes readNetwork numberIn badCount badCycle readLinks readLink readRecord readMapped needed sizeIn stands strayBits isBit wordOf bitOf restated valuesIn valueIn linkLayout linkOf linkCheck badFrames badRange badClosed
 example-reads = refl

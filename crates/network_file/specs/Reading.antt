@@ -2,8 +2,8 @@
 use mathlib.Core.Path.{_≡_}
 use mathlib.Core.Bool.{not}
 use mathlib.Core.List.{List, [], _∷_}
-use Prim.Native.Nat.{ℕ, zero, suc}
-use lib.ListN.{length, getD, drop}
+use Prim.Native.Nat.{ℕ, zero, suc, _<_, _≤_}
+use lib.ListN.{length, getD, drop, take}
 use lib.Dec.{eqb, ltb}
 use Rattle.places.specs.Places.{firsts}
 use Rattle.refusals.specs.declared.Verdict.the-variants as verdicts
@@ -14,7 +14,7 @@ use Rattle.network.specs.Checks.{badCount, badCycle, linkCheck}
 use Rattle.network.specs.declared.Link.{Link}
 use Rattle.network.specs.declared.Network.{Network}
 use Rattle.network.specs.Network.{Topology, noLink}
-use Rattle.records.specs.Reading.{readRecord}
+use Rattle.records.specs.Reading.{strayBits, readRecord}
 use Rattle.network_file.specs.declared.Loaded.{Loaded}
 use Rattle.network_file.specs.Fields.{linkLayout, linkOf}
 use Rattle.network_file.specs.declared.LinkRecord.the-variants.{Fields, Refused}
@@ -28,6 +28,13 @@ pub record Linked : Type 0 where
 -- "Each link record is read from the part of the file that starts at it": 4, 5, 6, then 7, 8, 9
 unfoldable pub readLink : ℕ → List ℕ → Outcome Linked
 readLink T s = onGiven (readRecord linkLayout s) (λ x. orElse (linkCheck T (linkOf (x .values))) (given (record { link = linkOf (x .values); used = x .used })))
+
+-- 5: "A map byte has a bit above bit 2": no bit is stray exactly where the map byte is below 8
+abbrev pub StrayAbove : Type 0
+StrayAbove = (map : ℕ) → map < 256 → strayBits linkLayout map ≡ 0 → map < 8
+
+abbrev pub AboveStray : Type 0
+AboveStray = (map : ℕ) → map < 8 → strayBits linkLayout map ≡ 0
 
 -- "then a record per link", all checks of one before the next; then 10: "Bytes follow the last record"
 unfoldable pub readLinks : ℕ → ℕ → List ℕ → Outcome (List Link)
@@ -47,6 +54,10 @@ readNetwork s =
     (orElse (refuseIf (badCount count) 2)
     (orElse (refuseIf (badCycle T) 3)
     (within T (readLinks T count (drop 3 s)))))
+
+-- THE FIRST 356 BYTES OF A FILE TELL WHAT THE WHOLE SAYS
+abbrev pub FirstBytes : Type 0
+FirstBytes = (s : List ℕ) (m : ℕ) → 356 ≤ m → readNetwork (take m s) ≡ readNetwork s
 
 -- ---- what the program's answers say in these words
 -- the answer of a link record's reader

@@ -28,6 +28,10 @@ linksBytes (l ∷ ls) = linkBytes l ++ linksBytes ls
 unfoldable pub imageOf : Topology → List ℕ
 imageOf t = bytesOf 2 (t .ticks) ++ (length (t .links) ∷ linksBytes (t .links))
 
+-- A BUFFER OF 355 BYTES SERVES FOR EVERY NETWORK
+abbrev pub ImageBound : Type 0
+ImageBound = (t : Topology) → networkCheck t ≡ given pass → length (imageOf t) ≤ 355
+
 -- "The writer answers the image's length": 2, 3, then 7, 8 and 9 for each link, then 20
 unfoldable pub writeNetwork : Topology → ℕ → Outcome ℕ
 writeNetwork t room = orElse (networkCheck t) (orElse (refuseIf (ltb room (length (imageOf t))) 20) (given (length (imageOf t))))

@@ -1,14 +1,14 @@
 -- Bytes and numbers, there and back.
 use mathlib.Core.Path.{_≡_, refl}
 use mathlib.Core.List.{List, [], _∷_, _++_}
-use Prim.Native.Nat.{ℕ, zero, suc, _+_, _*_, _/_, _%_, _^_, _≤_, _<_}
+use Prim.Native.Nat.{ℕ, zero, suc, _+_, _*_, _/_, _%_, _^_, _<_}
 use native.Mathlib.Omega.{arith}
 use lib.Seq.{getD-drop}
-use lib.ListN.{length, getD, drop, take}
-use Rattle.numbers.specs.Numbers.{numberIn, bytesOf, IsBytes}
+use lib.ListN.{getD, drop, take}
+use Rattle.numbers.specs.Numbers.{numberIn, bytesOf, IsBytes, NumberBytes, BytesNumber}
 use Rattle.numbers.proofs.Laws.{pow-step}
 
-pub number-bytes : (n x : ℕ) (q : List ℕ) → x < 2 ^ (8 * n) → numberIn n (bytesOf n x ++ q) ≡ x
+pub number-bytes : NumberBytes
 unfolding numberIn bytesOf
 number-bytes zero x q h = omega arith
 number-bytes (suc n) x q h =
@@ -16,7 +16,7 @@ number-bytes (suc n) x q h =
     let r : numberIn n (bytesOf n (x / 256) ++ q) ≡ x / 256 = number-bytes n (x / 256) q (omega arith) in
     rw r (omega arith)
 
-pub bytes-number : (n : ℕ) (l : List ℕ) → ((i : ℕ) → getD l i 0 < 256) → n ≤ length l → bytesOf n (numberIn n l) ≡ take n l
+pub bytes-number : BytesNumber
 unfolding numberIn bytesOf
 bytes-number zero l b h = refl
 bytes-number (suc n) [] b h = let z : _≡_ {A = ℕ} 0 1 = omega arith in cc

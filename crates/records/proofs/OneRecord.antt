@@ -4,14 +4,12 @@ use mathlib.Core.Bool.{Bool, true, false, cond}
 use mathlib.Core.List.{List, [], _∷_}
 use Prim.Native.Nat.{ℕ}
 use lib.ListN.{getD, drop}
-use Rattle.refusals.specs.Refusals.{given}
 use Rattle.numbers.specs.Numbers.{bytesOf, IsBytes}
 use Rattle.numbers.proofs.Trip.{bytes-cons, bytes-none, bytes-append, bytes-of}
 use Rattle.records.specs.declared.Field.{Field}
-use Rattle.records.specs.Layout.{isLayout, Fits}
+use Rattle.records.specs.Layout.{isLayout}
 use Rattle.records.specs.Writing.{isWritten, mapOf, fieldOf, bodyOf, recordOf}
-use Rattle.records.specs.OneRecord.{OneRecord}
-use Rattle.records.specs.Reading.{Said, readRecord}
+use Rattle.records.specs.OneRecord.{ValuesHaveOneRecord, ReadFits}
 use Rattle.records.proofs.ReadWrite.{record-only}
 use Rattle.records.proofs.WriteRead.{record-back}
 use Rattle.records.proofs.Maps.{map-low}
@@ -35,7 +33,7 @@ unfolding recordOf
 record-bytes fs vs l = bytes-cons (mapOf fs vs) (bodyOf fs vs) (map-low fs vs) (body-bytes fs vs)
 
 -- FOR ANY LAYOUT, VALUES THAT FIT IN THEIR FIELDS HAVE EXACTLY ONE RECORD
-pub one-record : (fs : List Field) (vs : List ℕ) → isLayout fs ≡ true → Fits fs vs → OneRecord fs vs
+pub one-record : ValuesHaveOneRecord
 one-record fs vs l h = record {
   bytes = record-bytes fs vs l;
   reads = λ rest. record-back fs vs rest l h;
@@ -43,5 +41,5 @@ one-record fs vs l h = record {
 }
 
 -- AND WHAT IS READ FITS IN ITS FIELDS
-pub read-fits : (fs : List Field) (s : List ℕ) (x : Said) → isLayout fs ≡ true → IsBytes s → readRecord fs s ≡ given x → Fits fs (x .values)
+pub read-fits : ReadFits
 read-fits fs s x l b e = record-only fs s x l b e .fit

@@ -7,7 +7,7 @@ use native.Mathlib.Omega.{arith}
 use lib.ListN.{getD}
 use Rattle.refusals.specs.declared.Refusal.the-variants.{BrokenState, ShortFile, LinkCount, CycleLength, ShortRecord, StrayBit, AbsentWritten, FrameCount, RangeOutside, ClosedOutside, BytesFollow, UnreadableCall, RouteLength, UnknownLink, LinkTwice, RatesApart, NumberLive, PlacesFull, NoSchedule, NumberNotLive, ShortBuffer}
 use Rattle.refusals.specs.declared.Refusal.{Refusal}
-use Rattle.refusals.specs.Refusals.{refusalNumber, refusalCount, Outcome, given, refused, pass, Ruling, refuseIf, orElse, rulingOf, givenOr}
+use Rattle.refusals.specs.Refusals.{refusalNumber, refusalCount, RefusalOnly, Outcome, given, refused, pass, Ruling, refuseIf, orElse, rulingOf, givenOr}
 
 listed : ℕ → List Refusal
 listed count = BrokenState ∷ ShortFile ∷ LinkCount ∷ CycleLength ∷ ShortRecord ∷ StrayBit ∷ AbsentWritten ∷ FrameCount ∷ RangeOutside ∷ ClosedOutside ∷ BytesFollow ∷ UnreadableCall ∷ RouteLength ∷ UnknownLink ∷ LinkTwice ∷ RatesApart ∷ NumberLive ∷ PlacesFull ∷ NoSchedule count ∷ NumberNotLive ∷ ShortBuffer ∷ []
@@ -40,7 +40,7 @@ back NumberNotLive = refl
 back ShortBuffer = refl
 
 -- A NUMBER AND A COUNT TELL THE REFUSAL
-pub refusal-only : (a b : Refusal) → refusalNumber a ≡ refusalNumber b → refusalCount a ≡ refusalCount b → a ≡ b
+pub refusal-only : RefusalOnly
 refusal-only a b e c = sym (back a) ∙ ap (λ (n : ℕ). numbered n (refusalCount a)) e ∙ ap (numbered (refusalNumber b)) c ∙ back b
 
 -- what is refused is not given

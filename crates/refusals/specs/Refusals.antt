@@ -1,4 +1,5 @@
 -- The refusal list of document 01, and what a call comes to. Assumes nothing.
+use mathlib.Core.Path.{_≡_}
 use mathlib.Core.Bool.{Bool, true, false}
 use Prim.Native.Nat.{ℕ}
 use Rattle.refusals.specs.declared.Verdict.the-variants.{Passed, Refused}
@@ -53,6 +54,10 @@ refusalCount PlacesFull = 0
 refusalCount (NoSchedule count) = count
 refusalCount NumberNotLive = 0
 refusalCount ShortBuffer = 0
+
+-- A NUMBER AND A COUNT TELL THE REFUSAL
+abbrev pub RefusalOnly : Type 0
+RefusalOnly = (a b : Refusal) → refusalNumber a ≡ refusalNumber b → refusalCount a ≡ refusalCount b → a ≡ b
 
 -- what a call comes to: what it gives, or the number of its refusal
 pub data Outcome (A : Type 0) : Type 0 where
