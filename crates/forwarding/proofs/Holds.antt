@@ -31,7 +31,7 @@ gap-over : (K a i : ℕ) → i < a → a < K → gap K a i ≡ i + K - a
 unfolding gap
 gap-over K a i h l = mod-eq-of-lt (omega arith)
 
-gap-lt : (K a i : ℕ) → a < K → gap K a i < K
+pub gap-lt : (K a i : ℕ) → a < K → gap K a i < K
 unfolding gap
 gap-lt K a i h = mod-lt (i + K - a) (omega arith)
 
@@ -41,14 +41,14 @@ meets-over K a i g e l = rw e (add-mod-right i K ∙ mod-eq-of-lt l)
 meets-on : (K a i g : ℕ) → a + g ≡ i → i < K → (a + g) % K ≡ i
 meets-on K a i g e l = rw e (mod-eq-of-lt l)
 
-gap-meets : (K a i : ℕ) → a < K → i < K → (a + gap K a i) % K ≡ i
+pub gap-meets : (K a i : ℕ) → a < K → i < K → (a + gap K a i) % K ≡ i
 gap-meets K a i h l =
     elim (decLt i a) [
       | yes b ↦ rw (gap-over K a i b h) (meets-over K a i (i + K - a) (omega arith) l)
       | no b ↦ rw (gap-on K a i (omega arith) l) (meets-on K a i (i - a) (omega arith) l)
     ]
 
-gap-only : (K a i g : ℕ) → a < K → g < K → (a + g) % K ≡ i → g ≡ gap K a i
+pub gap-only : (K a i g : ℕ) → a < K → g < K → (a + g) % K ≡ i → g ≡ gap K a i
 gap-only K a i g h l e =
     elim (decLt (a + g) K) [
       | yes b ↦ let q : a + g ≡ i = sym (mod-eq-of-lt b) ∙ e in omega (arith, gap-on K a i (omega arith) (omega arith))
@@ -79,6 +79,11 @@ hold-fitting Y K r i D d =
       gap-only K a i (D - Y) p (omega (arith, d .least, d .most)) (mod-add-mod (r + Y) K (D - Y) ∙ ap (λ (x : ℕ). x % K) s ∙ d .meets),
     )
 
+-- the hold of a transition lies so far after the frame that the least hold leads to
+pub into-gap : (g h : Hop) (k i : ℕ) → holdInto g h k i ≡ leastHold h + gap (h .frames) ((referenceInto g h k + leastHold h) % h .frames) i
+unfolding holdInto hold
+into-gap g h k i = refl
+
 -- of a transition: its hold fits, and nothing else does
 module _ (g h : Hop) (k i : ℕ) where
   pub into-fits : i < h .frames → Fits (leastHold h) (h .frames) (referenceInto g h k) i (holdInto g h k i)
@@ -93,9 +98,10 @@ module _ (g h : Hop) (k i : ℕ) where
 pub hold-only : HoldOnly
 unfolding leastHold
 hold-only g h k i l =
-    let f = into-fits g h k i l in
-    (record { least = f .least; most = omega (arith, f .most); meets = f .meets },
-    λ D d. into-fitting g h k i D (record { least = d .least; most = omega (arith, d .most); meets = d .meets }))
+    let f = into-fits g h k i l in (
+      record { least = f .least; most = omega (arith, f .most); meets = f .meets },
+      λ D d. into-fitting g h k i D (record { least = d .least; most = omega (arith, d .most); meets = d .meets }),
+    )
 
 -- a reference frame is a frame of the link
 pub reference-lt : (k K K′ : ℕ) → 0 < K → k < K′ → reference k K K′ < K
@@ -125,6 +131,10 @@ choices-range h = omega (arith, least-range h)
 pub choices-in : (h : Hop) → h .range ≤ h .frames → choices h ≤ h .frames
 unfolding choices leastHold
 choices-in h l = omega arith
+
+-- each choice is a hold within the cycle
+pub choice-in : (h : Hop) (Y W d : ℕ) → Y ≡ leastHold h → W ≡ choices h → d < W → h .range ≤ h .frames → (d < h .frames) × (Y + d ≤ h .frames)
+choice-in h Y W d y w l r = (omega (arith, choices-in h r, w), omega (arith, choices-range h, y, w))
 
 -- the hold by one remainder, from the frame f
 pub gap-counted : (Y K f i : ℕ) → f < K → Y ≤ K → i < K → (i + 2 * K - (f + Y)) % K + Y ≡ hold Y K f i
@@ -197,10 +207,13 @@ same-test a b c d f g = go (ltb a b) refl
     go true e = sym (lt-ltb c d (f (ltb-true a b e)))
     go false e = sym (le-ltb c d (g (ltb-false a b e)))
 
+pub test-shift : (Y x W : ℕ) → ltb (Y + x) (Y + W) ≡ ltb x W
+test-shift Y x W = same-test (Y + x) (Y + W) x W (λ q. omega arith) (λ q. omega arith)
+
 -- of the frames of a link, as many have a hold below Y + W as there are holds from Y on, W
 pub count-holds : (Y W K r : ℕ) → 0 < K → W ≤ K → countBelow K (λ i. ltb (hold Y K r i) (Y + W)) ≡ W
 unfolding hold
 count-holds Y W K r p h =
     gap-sum K ((r + Y) % K) (λ x. oneIf (ltb (Y + x) (Y + W))) (mod-lt (r + Y) p)
-    ∙ sum-cong K (λ x. oneIf (ltb (Y + x) (Y + W))) (λ x. oneIf (ltb x W)) (λ x m. ap oneIf (same-test (Y + x) (Y + W) x W (λ q. omega arith) (λ q. omega arith)))
+    ∙ sum-cong K (λ x. oneIf (ltb (Y + x) (Y + W))) (λ x. oneIf (ltb x W)) (λ x m. ap oneIf (test-shift Y x W))
     ∙ count-below K W h

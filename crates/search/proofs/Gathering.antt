@@ -13,16 +13,17 @@ use Rattle.trellis.specs.Paths.{reached}
 use Rattle.lists.proofs.Count.{sum-bound, count-le}
 use Rattle.trellis.proofs.Survivor.{Best, nobody, better, bestOf}
 use Rattle.forwarding.specs.declared.Hop.{Hop}
-use Rattle.forwarding.specs.Forwarding.{frameTime, stageOf, stage}
-use Rattle.forwarding.specs.Checked.{Passed}
+use Rattle.forwarding.specs.Forwarding.{frameTime}
+use Rattle.forwarding.specs.Hops.{HopReady}
+use Rattle.forwarding.specs.Route.{stageOf, stage}
 use Rattle.forwarding.proofs.Transitions.{delay-frames}
-use Rattle.search.specs.Rows.{Rows, rows, Sized, reachOf, wayOf, wayAt, Earlier, stageBy, Visited, offers, counts, Advanced}
+use Rattle.search.specs.Inner.{Rows, rows, Sized, cellReach, wayOf, wayAt, Earlier, stageBy, Visited, offers, counts, Advanced}
 use Rattle.search.proofs.Spreading.{none-below}
 
 -- by the time of a frame or by the rule, the stage is the same
-pub stage-by : (T K′ : ℕ) (h : Hop) → Passed T h → stageBy (frameTime T (h .frames)) K′ h ≡ stage T K′ h
-stage-by T K′ h p =
-    ap (λ (c : ℕ → ℕ). stageOf c K′ h) (fun-ext (λ D. sym (delay-frames T (h .frames) D (p .some-frame) (p .divides))))
+pub stage-by : (T : ℕ) (g h : Hop) → HopReady T h → stageBy (frameTime T (h .frames)) g h ≡ stage T g h
+stage-by T g h p =
+    ap (λ (c : ℕ → ℕ). stageOf c g h) (fun-ext (λ D. sym (delay-frames T (h .frames) D (p .some-frame) (p .divides))))
 
 -- the frames of a cycle last no longer than the cycle
 pub time-fits : (T K x : ℕ) → T ≤ 960 → x ≡ frameTime T K → K * x ≤ 960
@@ -30,7 +31,7 @@ unfolding frameTime
 time-fits T K x h e = omega (arith, ap (λ (y : ℕ). K * y) e, mul-div-le T K)
 
 -- a frame that no schedule leads to
-pub visited-never : (st : Stage) (k base cell : ℕ) (r : Rows) → Sized r → cell ≡ 0 → Visited st k (reachOf cell) base r r 0
+pub visited-never : (st : Stage) (k base cell : ℕ) (r : Rows) → Sized r → cell ≡ 0 → Visited st k (cellReach cell) base r r 0
 visited-never st k base zero r z e = record {
   inside = λ i l. refl;
   outside = λ i l. refl;
@@ -40,7 +41,7 @@ visited-never st k base zero r z e = record {
 }
 visited-never st k base (suc c) r z e = absurd (omega arith)
 
-pub reach-some : (cell : ℕ) → (cell ≡ 0 → ⊥) → after (cell - 1) ≡ reachOf cell
+pub reach-some : (cell : ℕ) → (cell ≡ 0 → ⊥) → after (cell - 1) ≡ cellReach cell
 reach-some zero n = absurd (n refl)
 reach-some (suc c) n = ap after (omega arith)
 
@@ -77,7 +78,7 @@ module _ (st : Stage) (cells : List ℕ) (base : ℕ) (old : List ℕ) where
     sized = record { cells-long = length-replicate {A = ℕ} 64 0; holds-long = length-replicate {A = ℕ} 64 0; preds-long = l };
   }
 
-  pub one-gathered : (k count n : ℕ) (r s : Rows) → Gathered st cells k base old r count → Visited st k (reachOf (getD cells k 0)) base r s n
+  pub one-gathered : (k count n : ℕ) (r s : Rows) → Gathered st cells k base old r count → Visited st k (cellReach (getD cells k 0)) base r s n
       → Gathered st cells (k + 1) base old s (count + n)
   one-gathered k count n r s g v = rw (add-one k) (record {
     inside = λ i h. v .inside i h ∙ ap (λ (b : Best). better b (offers st cells i k) k) (g .inside i h);
@@ -102,5 +103,5 @@ visit-count st k base n x r s h v = omega (arith, v .counted, count-le (st .size
 
 pub counts-le : (st : Stage) (cells : List ℕ) (k : ℕ) → st .size ≤ 64 → counts st cells k ≤ k * 64
 counts-le st cells k h =
-    sum-bound k 64 (λ j. countBelow (st .size) (λ i. reached (reachOf (getD cells j 0)) && st .allowed j i))
-    (λ j l. omega (arith, count-le (st .size) (λ i. reached (reachOf (getD cells j 0)) && st .allowed j i)))
+    sum-bound k 64 (λ j. countBelow (st .size) (λ i. reached (cellReach (getD cells j 0)) && st .allowed j i))
+    (λ j l. omega (arith, count-le (st .size) (λ i. reached (cellReach (getD cells j 0)) && st .allowed j i)))

@@ -6,97 +6,93 @@ use native.Mathlib.Nat.{mod-lt, mod-add-mod, add-assoc, mul-zero}
 use native.Mathlib.Decide.{ℕ-discrete}
 use native.Mathlib.Omega.{arith}
 use lib.Arith.{lt-of-le-ne}
-use lib.Dec.{leb}
-use borrow.Author.Tests.{le-leb, lt-leb, leb-true, leb-false}
-use Rattle.trellis.specs.Trellis.{after, Stage}
+use lib.Dec.{ltb}
+use borrow.Author.Tests.{lt-ltb, le-ltb, ltb-true, ltb-false}
 use Rattle.lists.specs.Count.{oneIf, countBelow}
 use Rattle.lists.proofs.Count.{sum-cong, sum-const, sum-at}
+use Rattle.trellis.specs.Trellis.{Reach, never, after, Stage}
+use Rattle.trellis.specs.Paths.{reached}
 use Rattle.trellis.proofs.Survivor.{Offer, none, offer, offerIf, offerOf, Best, better}
 use Rattle.words.specs.Word.{bitOf}
 use Rattle.forwarding.specs.declared.Hop.{Hop}
-use Rattle.forwarding.specs.Forwarding.{reference, hold, holdInto, isFree, mayHold}
-use Rattle.forwarding.proofs.Holds.{hold-range, hold-unique}
-use Rattle.search.specs.Rows.{Rows, Sized, wayAt, stageBy, Offered, Visited}
+use Rattle.forwarding.specs.Forwarding.{referenceInto, leastHold, gap, holdInto, mayHold, isFree, choices}
+use Rattle.forwarding.proofs.Holds.{gap-meets, gap-only, into-gap, test-shift}
+use Rattle.forwarding.proofs.Transitions.{may-choice}
+use Rattle.search.specs.Inner.{Rows, Sized, wayAt, stageBy, Offered, Visited}
 
--- a hop with the holds up to d
-abbrev pub upTo : ℕ → ℕ → ℕ → Hop
-upTo K d w = record { frames = K; range = d; free = w }
+-- the stage of a hop with K frames, as seen from one frame before it: the first d holds from the least hold Y on, which leads to the frame a, into the free frames of w
+abbrev pub firstHolds : ℕ → ℕ → ℕ → ℕ → ℕ → ℕ → Stage
+firstHolds time Y K a w d = record {
+  size = K;
+  allowed = λ k i. ltb (gap K a i) d && bitOf w i;
+  cost = λ k i. (Y + gap K a i) * time;
+  rank = λ k i. Y + gap K a i;
+}
 
 -- the frame that a hold leads to, and one hold more
-pub frame-on : (K r d i j : ℕ) → i ≡ (r + d) % K → j ≡ (i + 1) % K → j ≡ (r + (d + 1)) % K
-frame-on K r d i j e q = q ∙ ap (λ (x : ℕ). (x + 1) % K) e ∙ mod-add-mod (r + d) K 1 ∙ ap (λ (x : ℕ). x % K) (add-assoc r d 1)
+pub frame-next : (K a d i j : ℕ) → i ≡ (a + d) % K → j ≡ (i + 1) % K → j ≡ (a + (d + 1)) % K
+frame-next K a d i j e q = q ∙ ap (λ (x : ℕ). (x + 1) % K) e ∙ mod-add-mod (a + d) K 1 ∙ ap (λ (x : ℕ). x % K) (add-assoc a d 1)
 
--- a test that a number is at most d, where it is not the number after
-test-next : (x d : ℕ) → (x ≡ d + 1 → ⊥) → leb x (d + 1) ≡ leb x d
-test-next x d n = go (leb x d) refl
+-- a test that a number is below d, where it is not d
+test-next : (x d : ℕ) → (x ≡ d → ⊥) → ltb x (d + 1) ≡ ltb x d
+test-next x d n = go (ltb x d) refl
   where
-    go : (b : Bool) → leb x d ≡ b → leb x (d + 1) ≡ b
-    go true e = le-leb x (d + 1) (omega (arith, leb-true x d e))
-    go false e = lt-leb x (d + 1) (lt-of-le-ne (omega (arith, leb-false x d e)) (λ q. n (sym q)))
+    go : (b : Bool) → ltb x d ≡ b → ltb x (d + 1) ≡ b
+    go true e = lt-ltb x (d + 1) (omega (arith, ltb-true x d e))
+    go false e = le-ltb x (d + 1) (omega (arith, lt-of-le-ne (ltb-false x d e) (λ q. n (sym q))))
 
 pub none-below : (n : ℕ) (f : ℕ → Bool) → ((i : ℕ) → i < n → f i ≡ false) → 0 ≡ countBelow n f
 none-below n f h = sym (sum-cong n (λ i. oneIf (f i)) (λ i. 0) (λ i l. ap oneIf (h i l)) ∙ sum-const n 0 ∙ mul-zero n)
 
-module _ (time K′ K w k c : ℕ) (some : 0 < K) where
-  -- the hold into frame i; the stage with the holds up to d
-  abbrev into : ℕ → ℕ
-  into i = hold K (reference k K K′) i
-
+module _ (time Y K a w k c : ℕ) (begins : a < K) where
   abbrev reaching : ℕ → Stage
-  reaching d = stageBy time K′ (upTo K d w)
+  reaching d = firstHolds time Y K a w d
 
-  -- the frame that the hold d + 1 leads to
+  -- the frame that the hold d after the least leads to
   abbrev next : ℕ → ℕ
-  next d = (reference k K K′ + (d + 1)) % K
+  next d = (a + d) % K
 
   next-lt : (d : ℕ) → next d < K
-  next-lt d = mod-lt (reference k K K′ + (d + 1)) some
+  next-lt d = mod-lt (a + d) (omega arith)
 
-  next-hold : (d : ℕ) → d < K → into (next d) ≡ d + 1
-  next-hold d l = sym (hold-unique K (reference k K K′) (next d) (d + 1) (omega arith) (omega arith) refl)
+  next-gap : (d : ℕ) → d < K → gap K a (next d) ≡ d
+  next-gap d l = sym (gap-only K a (next d) d begins l refl)
 
-  only-next : (d j : ℕ) → j < K → (j ≡ next d → ⊥) → into j ≡ d + 1 → ⊥
-  only-next d j l n e = n (sym (hold-range K (reference k K K′) j l .2) ∙ ap (λ (x : ℕ). (reference k K K′ + x) % K) e)
+  only-next : (d j : ℕ) → j < K → (j ≡ next d → ⊥) → gap K a j ≡ d → ⊥
+  only-next d j l n e = n (sym (gap-meets K a j begins l) ∙ ap (λ (x : ℕ). (a + x) % K) e)
 
   -- what is allowed with one hold more
-  allowed-none : (j : ℕ) → j < K → reaching 0 .allowed k j ≡ false
-  unfolding mayHold holdInto
-  allowed-none j l = rw (lt-leb (into j) 0 (omega (arith, hold-range K (reference k K K′) j l .0)))
+  allowed-none : (j : ℕ) → reaching 0 .allowed k j ≡ false
+  allowed-none j = rw (le-ltb (gap K a j) 0 (omega arith))
 
   allowed-other : (d j : ℕ) → j < K → (j ≡ next d → ⊥) → reaching (d + 1) .allowed k j ≡ reaching d .allowed k j
-  unfolding mayHold holdInto isFree
-  allowed-other d j l n = ap (λ (b : Bool). b && bitOf w j) (test-next (into j) d (only-next d j l n))
+  allowed-other d j l n = ap (λ (b : Bool). b && bitOf w j) (test-next (gap K a j) d (only-next d j l n))
 
   allowed-before : (d : ℕ) → d < K → reaching d .allowed k (next d) ≡ false
-  unfolding mayHold holdInto
-  allowed-before d l = rw (lt-leb (into (next d)) d (omega (arith, next-hold d l)))
+  allowed-before d l = rw (le-ltb (gap K a (next d)) d (omega (arith, next-gap d l)))
 
   allowed-next : (d : ℕ) → d < K → reaching (d + 1) .allowed k (next d) ≡ bitOf w (next d)
-  unfolding mayHold holdInto isFree
-  allowed-next d l = rw (le-leb (into (next d)) (d + 1) (omega (arith, next-hold d l)))
+  allowed-next d l = rw (lt-ltb (gap K a (next d)) (d + 1) (omega (arith, next-gap d l)))
 
-  -- what is offered, by what is allowed
+  -- what is offered
   offers-as : (d e j : ℕ) → reaching d .allowed k j ≡ reaching e .allowed k j → offerOf (reaching d) j (after c) k ≡ offerOf (reaching e) j (after c) k
-  unfolding holdInto
-  offers-as d e j q = ap (λ (b : Bool). offerIf b (c + into j * time) (into j)) q
+  offers-as d e j q = ap (λ (b : Bool). offerIf b (c + (Y + gap K a j) * time) (Y + gap K a j)) q
 
   offers-none : (d j : ℕ) → reaching d .allowed k j ≡ false → offerOf (reaching d) j (after c) k ≡ none
-  unfolding holdInto
-  offers-none d j q = ap (λ (b : Bool). offerIf b (c + into j * time) (into j)) q
+  offers-none d j q = ap (λ (b : Bool). offerIf b (c + (Y + gap K a j) * time) (Y + gap K a j)) q
 
-  offers-next : (d : ℕ) → d < K → bitOf w (next d) ≡ true → offerOf (reaching (d + 1)) (next d) (after c) k ≡ offer (c + (d + 1) * time) (d + 1)
-  unfolding holdInto
+  offers-next : (d : ℕ) → d < K → bitOf w (next d) ≡ true → offerOf (reaching (d + 1)) (next d) (after c) k ≡ offer (c + (Y + d) * time) (Y + d)
   offers-next d l f =
-      ap (λ (b : Bool). offerIf b (c + into (next d) * time) (into (next d))) (allowed-next d l ∙ f)
-      ∙ ap (λ (x : ℕ). offer (c + x * time) x) (next-hold d l)
+      ap (λ (b : Bool). offerIf b (c + (Y + gap K a (next d)) * time) (Y + gap K a (next d))) (allowed-next d l ∙ f)
+      ∙ ap (λ (x : ℕ). offer (c + (Y + x) * time) (Y + x)) (next-gap d l)
 
   module _ (base : ℕ) (old : Rows) where
     -- no hold yet
     pub none-spread : Sized old → Visited (reaching 0) k (after c) base old old 0
     none-spread z = record {
-      inside = λ i l. sym (ap (λ (o : Offer). better (wayAt old base i) o k) (offers-none 0 i (allowed-none i l)));
+      inside = λ i l. sym (ap (λ (o : Offer). better (wayAt old base i) o k) (offers-none 0 i (allowed-none i)));
       outside = λ i l. refl;
-      counted = none-below K (λ i. true && reaching 0 .allowed k i) (λ i l. allowed-none i l);
+      counted = none-below K (λ i. true && reaching 0 .allowed k i) (λ i l. allowed-none i);
       earlier = λ m l. refl;
       sized = z;
     }
@@ -117,7 +113,7 @@ module _ (time K′ K w k c : ℕ) (some : 0 < K) where
 
     -- one hold more, to a free frame, which is offered its way
     pub spread-free : (d count : ℕ) (mid new : Rows) → d < K → bitOf w (next d) ≡ true → Visited (reaching d) k (after c) base old mid count
-        → Offered base (next d) (c + (d + 1) * time) (d + 1) k mid new → Visited (reaching (d + 1)) k (after c) base old new (count + 1)
+        → Offered base (next d) (c + (Y + d) * time) (Y + d) k mid new → Visited (reaching (d + 1)) k (after c) base old new (count + 1)
     spread-free d count mid new l f v o = record {
       inside = λ i h. elim (ℕ-discrete i (next d)) [ yes e ↦ rw e here | no n ↦ there i h n ];
       outside = λ i h. o .others i (λ e. omega (arith, next-lt d)) ∙ v .outside i h;
@@ -137,3 +133,32 @@ module _ (time K′ K w k c : ℕ) (some : 0 < K) where
 
         there : (i : ℕ) → i < K → (i ≡ next d → ⊥) → wayAt new base i ≡ better (wayAt old base i) (offerOf (reaching (d + 1)) i (after c) k) k
         there i h n = o .others i n ∙ v .inside i h ∙ ap (λ (x : Offer). better (wayAt old base i) x k) (sym (offers-as (d + 1) d i (allowed-other d i h n)))
+
+-- ---- with all its holds it is the stage of the hop, as seen from that frame
+module _ (time : ℕ) (g h : Hop) (k a : ℕ) (e : a ≡ (referenceInto g h k + leastHold h) % h .frames) where
+  abbrev all : Stage
+  all = firstHolds time (leastHold h) (h .frames) a (h .free) (choices h)
+
+  hold-is : (i : ℕ) → leastHold h + gap (h .frames) a i ≡ holdInto g h k i
+  hold-is i = rw e (sym (into-gap g h k i))
+
+  allowed-is : (i : ℕ) → all .allowed k i ≡ stageBy time g h .allowed k i
+  unfolding isFree
+  allowed-is i =
+      ap (λ (b : Bool). b && bitOf (h .free) i)
+      (sym (test-shift (leastHold h) (gap (h .frames) a i) (choices h)) ∙ ap (λ (x : ℕ). ltb x (leastHold h + choices h)) (hold-is i) ∙ sym (may-choice h (holdInto g h k i)))
+
+  offer-is : (i : ℕ) (x : Reach) → offerOf all i x k ≡ offerOf (stageBy time g h) i x k
+  offer-is i never = refl
+  offer-is i (after c) = ap₂ (λ (b : Bool) (D : ℕ). offerIf b (c + D * time) D) (allowed-is i) (hold-is i)
+
+  pub all-spread : (base count : ℕ) (x : Reach) (old new : Rows) → Visited all k x base old new count → Visited (stageBy time g h) k x base old new count
+  all-spread base count x old new v = record {
+    inside = λ i l. v .inside i l ∙ ap (λ (o : Offer). better (wayAt old base i) o k) (offer-is i x);
+    outside = v .outside;
+    counted = v .counted
+        ∙ sum-cong (h .frames) (λ i. oneIf (reached x && all .allowed k i)) (λ i. oneIf (reached x && stageBy time g h .allowed k i))
+        (λ i l. ap (λ (b : Bool). oneIf (reached x && b)) (allowed-is i));
+    earlier = v .earlier;
+    sized = v .sized;
+  }

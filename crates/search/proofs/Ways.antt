@@ -9,7 +9,7 @@ use lib.ListN.{set, length-set}
 use lib.Seq.{getD-set-same, getD-set-other}
 use borrow.Author.Tests.{lt-ltb, le-ltb, eq-eqb, ne-eqb}
 use Rattle.trellis.proofs.Survivor.{offer, Best, nobody, best, better}
-use Rattle.search.specs.Rows.{Rows, rows, Sized, wayOf, wayAt, taken, Offered}
+use Rattle.search.specs.Inner.{Rows, rows, Sized, wayOf, wayAt, taken, Offered}
 
 -- the tests of `comes_before`
 pub taken-first : (c h k d e : ℕ) → c ≡ 0 → true ≡ taken (wayOf c h k) d e

@@ -8,19 +8,19 @@ ghost use mathlib.Core.Path.{_≡_};
 ghost use mathlib.Core.List.{_++_, reverse};
 ghost use Prim.Native.Nat.{ℕ, _+_, _%_, _<_, _≤_};
 ghost use lib.ListN.{length, drop};
-ghost use Rattle.trellis.specs.Trellis.{after};
 ghost use Rattle.lists.specs.Count.{oneIf};
+ghost use Rattle.trellis.specs.Trellis.{after};
 ghost use Rattle.trellis.proofs.Survivor.{better, bestOf, lastOffer};
 ghost use Rattle.words.specs.Word.{bitOf};
-ghost use Rattle.forwarding.specs.Forwarding.{stage};
-ghost use Rattle.forwarding.specs.Checked.{Ready};
+ghost use Rattle.forwarding.specs.Hops.{Ready};
+ghost use Rattle.forwarding.specs.Route.{stage};
 ghost use Rattle.search.specs.Reading.{Answered};
-ghost use Rattle.search.specs.Rows.{reachOf, rows, wayOf, Sized, taken, Offered, stageBy, Leaving, Visited, Entering, Advanced, Begun, Swept, ends, chainOf, ChainFits};
+ghost use Rattle.search.specs.Inner.{cellReach, rows, wayOf, Sized, taken, Offered, stageBy, Leaving, Visited, Entering, Advanced, Begun, Sweeps, Swept, endOffers, chainOf, ChainFits};
 
 // What a search found: a schedule, with its delay and the count of transitions considered; or that there is none, with the count.
 pub enum Found {
-    Schedule(Delay, u16),
-    Blocked(u16),
+    Schedule(Delay, u32),
+    Blocked(u32),
 }
 
 // The enum, and beside it the schedule's frames, hop 0 first; unused places hold 0.
@@ -32,7 +32,7 @@ pub struct Answer {
 // A hop's row, and the transitions considered.
 struct Layer {
     cells: [u16; 64],
-    count: u16,
+    count: u32,
 }
 
 // The end of the best schedule: the least cell of the last hop, and the smallest frame that has it; the cell is 0 where there is none.
@@ -41,18 +41,16 @@ struct End {
     frame: u8,
 }
 
-// The frame after frame i of a cycle. Check 7: a cycle has at most 64 frames.
-fn frame_after(i: u16, frames: u16) -> u16
-    requires { ⌜ (i < frames) × (frames ≤ 64) ⌝ }
-    ensures { λ r. ⌜ r ≡ (i + 1) % frames ⌝ }
+// The frame that lies d frames after frame i of a cycle. Check 7: a cycle has at most 64 frames.
+fn frame_on(i: u16, d: u16, frames: u16) -> u16
+    requires { ⌜ (i < frames) × (d ≤ frames) × (frames ≤ 64) ⌝ }
+    ensures { λ r. ⌜ r ≡ (i + d) % frames ⌝ }
 {
-    if i + 1 < frames { i + 1 } else { 0 }
-}
-
-fn short(x: u8) -> u16
-    ensures { λ r. ⌜ r ≡ x ⌝ }
-{
-    x as u16
+    if i + d < frames {
+        i + d
+    } else {
+        i + d - frames
+    }
 }
 
 // Whether a way of this delay and hold comes before the one kept: the smaller delay first, then the smaller hold.
@@ -69,7 +67,7 @@ fn comes_before(delay: Delay, hold: Hold, kept: u16, held: u8) -> bool
     if least < delay.0 {
         return false;
     }
-    hold.0 < short(held)
+    hold.0 < places::short(held)
 }
 
 // Frame i is offered a way from frame k, of this delay and hold: the better of it and the one kept so far is kept.
@@ -95,7 +93,7 @@ fn keep(
     }
 }
 
-// The transitions from frame k, reached after this delay, over its holds: each free frame is offered its way. Answers how many there are.
+// The transitions from frame k, reached after this delay, over its holds, from the least on: each free frame is offered its way. Answers how many there are.
 // `time` is the time of the hop's frame.
 fn spread(
     cells: &mut [u16; 64],
@@ -104,26 +102,29 @@ fn spread(
     base: usize,
     k: u16,
     delay: Delay,
-    before: u16,
+    before: Hop,
     time: Delay,
     hop: Hop,
-) -> u16
+) -> u32
     requires { ⌜ Leaving (rows (now cells) (now holds) (now preds)) base k before (time .0) hop × (delay .0 ≤ 5760) ⌝ }
     ensures { λ r. ⌜ Visited (stageBy (time .0) before hop) k (after (delay .0)) base (rows (now (cells .entry)) (now (holds .entry)) (now (preds .entry))) (rows (now (cells .exit)) (now (holds .exit)) (now (preds .exit))) r ⌝ }
 {
     let frames = hop.frames;
-    let range = hop.range;
     let free = hop.free;
-    let mut count: u16 = 0;
-    let mut i = forwarding::reference_frame(k, frames, before);
+    let least = forwarding::least_hold(hop);
+    let choices = forwarding::choices(hop);
+    let mut count: u32 = 0;
+    let mut i = frame_on(forwarding::reference_frame(k, before, hop), least, frames);
     let mut d: u16 = 0;
-    while d < range {
+    while d < choices {
+        let at = i;
+        let hold = least + d;
+        i = frame_on(at, 1, frames);
         d += 1;
-        i = frame_after(i, frames);
-        if words::has_bit(free, i) {
+        if words::has_bit(free, at) {
             count += 1;
-            let later = forwarding::sum(delay, forwarding::delay_of(Hold(d), time));
-            keep(cells, holds, preds, base, i, later, Hold(d), k);
+            let later = forwarding::sum(delay, forwarding::delay_of(Hold(hold), time));
+            keep(cells, holds, preds, base, at, later, Hold(hold), k);
         }
     }
     count
@@ -137,12 +138,12 @@ fn visit(
     base: usize,
     k: u16,
     cell: u16,
-    before: u16,
+    before: Hop,
     time: Delay,
     hop: Hop,
-) -> u16
+) -> u32
     requires { ⌜ Leaving (rows (now cells) (now holds) (now preds)) base k before (time .0) hop × (cell ≤ 5761) ⌝ }
-    ensures { λ r. ⌜ Visited (stageBy (time .0) before hop) k (reachOf cell) base (rows (now (cells .entry)) (now (holds .entry)) (now (preds .entry))) (rows (now (cells .exit)) (now (holds .exit)) (now (preds .exit))) r ⌝ }
+    ensures { λ r. ⌜ Visited (stageBy (time .0) before hop) k (cellReach cell) base (rows (now (cells .entry)) (now (holds .entry)) (now (preds .entry))) (rows (now (cells .exit)) (now (holds .exit)) (now (preds .exit))) r ⌝ }
 {
     if cell == 0 {
         return 0;
@@ -164,20 +165,21 @@ fn visit(
 fn advance(
     row: &[u16; 64],
     t: u16,
-    before: u16,
+    before: Hop,
     hop: Hop,
     preds: &mut [u8; 512],
     base: usize,
 ) -> Layer
     requires { ⌜ Entering t before hop (now row) (now preds) base ⌝ }
-    ensures { λ r. ⌜ Advanced (stage t before hop) (now (row .entry)) before base (now (preds .entry)) (r .cells) (now (preds .exit)) (r .count) ⌝ }
+    ensures { λ r. ⌜ Advanced (stage t before hop) (now (row .entry)) (before .frames) base (now (preds .entry)) (r .cells) (now (preds .exit)) (r .count) ⌝ }
 {
     let time = forwarding::frame_time(t, hop.frames);
+    let frames = before.frames;
     let mut cells = [0u16; 64];
     let mut holds = [0u8; 64];
-    let mut count: u16 = 0;
+    let mut count: u32 = 0;
     let mut k: u16 = 0;
-    while k < before {
+    while k < frames {
         count += visit(
             &mut cells,
             &mut holds,
@@ -218,20 +220,19 @@ fn first_row(hop: Hop) -> [u16; 64]
     cells
 }
 
-// The rows of hops 0 to last, one after the other: the last row, with the count; the frames before go to `preds`.
-fn sweep(t: u16, hops: [Hop; 8], last: usize, preds: &mut [u8; 512]) -> Layer
-    requires { ⌜ Ready t hops (last + 1) × (length (now preds) ≡ 512) ⌝ }
-    ensures { λ r. ⌜ Swept t hops last (r .cells) (now (preds .exit)) (r .count) ⌝ }
+// The rows of hops 0 to last, one after the other, from a first row that is handed over: the last row, with the count; the frames before go to `preds`.
+fn sweep(t: u16, hops: [Hop; 8], last: usize, first: [u16; 64], preds: &mut [u8; 512]) -> Layer
+    requires { ⌜ Sweeps t hops last first (now preds) ⌝ }
+    ensures { λ r. ⌜ Swept t hops first last (r .cells) (now (preds .exit)) (r .count) ⌝ }
 {
-    let start = hops[0];
-    let mut row = first_row(start);
-    let mut count: u16 = 0;
+    let mut row = first;
+    let mut count: u32 = 0;
     let mut j: usize = 0;
     while j < last {
         let from = hops[j];
         j += 1;
         let hop = hops[j];
-        let layer = advance(&row, t, from.frames, hop, preds, 64 * j);
+        let layer = advance(&row, t, from, hop, preds, 64 * j);
         row = layer.cells;
         count += layer.count;
     }
@@ -240,7 +241,7 @@ fn sweep(t: u16, hops: [Hop; 8], last: usize, preds: &mut [u8; 512]) -> Layer
 
 // The better end: the smaller cell that is not 0, and of equal ones the earlier frame.
 fn nearer(end: End, cell: u16, f: u8) -> End
-    ensures { λ r. ⌜ wayOf (r .cell) 0 (r .frame) ≡ better (wayOf (end .cell) 0 (end .frame)) (lastOffer (reachOf cell)) f ⌝ }
+    ensures { λ r. ⌜ wayOf (r .cell) 0 (r .frame) ≡ better (wayOf (end .cell) 0 (end .frame)) (lastOffer (cellReach cell)) f ⌝ }
 {
     if cell == 0 {
         return end;
@@ -257,7 +258,7 @@ fn nearer(end: End, cell: u16, f: u8) -> End
 // The least cell of the last hop, and the smallest frame that has it. Check 7: it has at most 64 frames.
 fn best_end(row: &[u16; 64], frames: u16) -> End
     requires { ⌜ frames ≤ 64 ⌝ }
-    ensures { λ r. ⌜ wayOf (r .cell) 0 (r .frame) ≡ bestOf (ends (now (row .entry))) frames ⌝ }
+    ensures { λ r. ⌜ wayOf (r .cell) 0 (r .frame) ≡ bestOf (endOffers (now (row .entry))) frames ⌝ }
 {
     let mut end = End { cell: 0, frame: 0 };
     let mut f: u16 = 0;
@@ -266,12 +267,6 @@ fn best_end(row: &[u16; 64], frames: u16) -> End
         f += 1;
     }
     end
-}
-
-fn wide(x: u8) -> usize
-    ensures { λ r. ⌜ r ≡ x ⌝ }
-{
-    x as usize
 }
 
 // The frames of hops j to 0, put into their places from frame f of hop j back over the stored predecessors.
@@ -284,7 +279,7 @@ fn recover(preds: &[u8; 512], j: usize, f: u8, frames: &mut [u8; 8])
     if j == 0 {
         return;
     }
-    let at = 64 * j + wide(f);
+    let at = 64 * j + places::index(f);
     recover(preds, j - 1, preds[at], frames)
 }
 
@@ -295,8 +290,10 @@ pub fn search(t: u16, hops: [Hop; 8], n: usize) -> Answer
     ensures { λ r. ⌜ Answered t hops n r ⌝ }
 {
     let last = n - 1;
+    let start = hops[0];
+    let first = first_row(start);
     let mut preds = [0u8; 512];
-    let layer = sweep(t, hops, last, &mut preds);
+    let layer = sweep(t, hops, last, first, &mut preds);
     let row = layer.cells;
     let count = layer.count;
     let hop = hops[last];

@@ -5,18 +5,18 @@ use Prim.Native.Nat.{ℕ, _-_, _≤_}
 use native.Mathlib.Omega.{arith}
 use lib.ListN.{getD}
 use Rattle.trellis.specs.Trellis.{Stage}
-use Rattle.forwarding.specs.Forwarding.{stage}
-use Rattle.search.specs.Rows.{rows, reachOf, stageBy, Advanced}
+use Rattle.forwarding.specs.Route.{stage}
+use Rattle.search.specs.Inner.{rows, cellReach, stageBy, Advanced}
 use Rattle.search.proofs.Gathering.{stage-by, time-fits, Gathered, none-gathered, one-gathered, all-gathered, visit-count, counts-le}
 use Rattle.search.proofs.advance.Statement.{statement}
 use Rattle.search.proofs.advance.Tie as tie
 
 abbrev Inv-loop : tie.InvT-loop
-Inv-loop row t before hop preds₀ base time cells₀ holds₀ count₀ k₀ preds cells holds count k =
-    (k ≤ before) × Gathered (stageBy (time .0) before hop) row k base preds₀ (rows cells holds preds) count
+Inv-loop row t before hop preds₀ base time frames cells₀ holds₀ count₀ k₀ preds cells holds count k =
+    (k ≤ frames) × Gathered (stageBy (time .0) before hop) row k base preds₀ (rows cells holds preds) count
 
 abbrev μ-loop : tie.MeasureT-loop
-μ-loop row t before hop preds₀ base time cells₀ holds₀ count₀ k₀ preds cells holds count k = before - k
+μ-loop row t before hop preds₀ base time frames cells₀ holds₀ count₀ k₀ preds cells holds count k = frames - k
 
 frame-time-requires : tie.Need-frame-time-requires Inv-loop μ-loop
 frame-time-requires c κs = omega arith
@@ -47,9 +47,9 @@ visit-requires c κs =
         within = s .pre .within;
         frame = omega arith;
         few-before = s .pre .few-before;
-        some-frame = s .pre .passed .some-frame;
-        few-frames = s .pre .passed .few-frames;
-        in-cycle = s .pre .passed .in-cycle;
+        some-frame = s .pre .ready .some-frame;
+        few-frames = s .pre .ready .few-frames;
+        in-cycle = s .pre .ready .in-cycle;
         in-time = time-fits (a .t) (a .hop .frames) (time .result .0) (s .pre .cycle) (time .ensures);
       },
       s .pre .small (l .k),
@@ -65,8 +65,8 @@ add-count c =
       fits = omega (
         arith,
         l .inv .1 .counted,
-        counts-le st (a .row .now) (l .k) (s .pre .passed .few-frames),
-        visit-count st (l .k) (a .base) (c .visit .result) (reachOf (getD (a .row .now) (l .k) 0)) (rows (l .cells) (l .holds) (l .preds)) (rows (c .visit .last .0) (c .visit .last .1 .0) (c .visit .last .1 .1 .0)) (s .pre .passed .few-frames) (c .visit .ensures),
+        counts-le st (a .row .now) (l .k) (s .pre .ready .few-frames),
+        visit-count st (l .k) (a .base) (c .visit .result) (cellReach (getD (a .row .now) (l .k) 0)) (rows (l .cells) (l .holds) (l .preds)) (rows (c .visit .last .0) (c .visit .last .1 .0) (c .visit .last .1 .1 .0)) (s .pre .ready .few-frames) (c .visit .ensures),
       );
     }
 
@@ -92,11 +92,11 @@ returns c =
     let a = s .args in
     let l = c .before .loop in
     let time = c .before .before .frame-time in
-    let e : l .k ≡ a .before = omega arith in
+    let e : l .k ≡ a .before .frames = omega arith in
     let st : stageBy (time .result .0) (a .before) (a .hop) ≡ stage (a .t) (a .before) (a .hop) =
-    ap (λ (x : ℕ). stageBy x (a .before) (a .hop)) (time .ensures) ∙ stage-by (a .t) (a .before) (a .hop) (s .pre .passed) in
-    subst (λ (u : Stage). Advanced u (a .row .now) (a .before) (a .base) (a .preds .now) (l .cells) (l .preds) (l .count)) st
-    (all-gathered (stageBy (time .result .0) (a .before) (a .hop)) (a .row .now) (a .base) (a .preds .now) (a .before) (l .count) (rows (l .cells) (l .holds) (l .preds)) (rw e at (l .inv .1)))
+    ap (λ (x : ℕ). stageBy x (a .before) (a .hop)) (time .ensures) ∙ stage-by (a .t) (a .before) (a .hop) (s .pre .ready) in
+    subst (λ (u : Stage). Advanced u (a .row .now) (a .before .frames) (a .base) (a .preds .now) (l .cells) (l .preds) (l .count)) st
+    (all-gathered (stageBy (time .result .0) (a .before) (a .hop)) (a .row .now) (a .base) (a .preds .now) (a .before .frames) (l .count) (rows (l .cells) (l .holds) (l .preds)) (rw e at (l .inv .1)))
 
 pub advance-spec : {M : Type 1} → statement M
 advance-spec =

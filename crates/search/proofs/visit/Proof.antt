@@ -1,6 +1,6 @@
 -- `search::visit` meets its contract. Assumes nothing.
 use borrow.Author.Needs.{needs}
-use Rattle.search.specs.Rows.{rows, stageBy}
+use Rattle.search.specs.Inner.{rows, stageBy}
 use Rattle.search.proofs.Gathering.{visited-never, reach-some}
 use Rattle.search.proofs.visit.Statement.{statement}
 use Rattle.search.proofs.visit.Tie as tie
