@@ -14,7 +14,7 @@ use Rattle.trellis.specs.Answer as trellis
 use Rattle.lists.proofs.Count as tests
 use Rattle.refusals.specs.Refusals.{Ruling, given, refused, pass}
 use Rattle.network.specs.Network.{Topology}
-use Rattle.forwarding.specs.Schedule.{routeAnswer}
+use Rattle.forwarding.specs.Route.{routeAnswer}
 use Rattle.ledger.specs.Lists.{any, anyTwo, keep}
 use Rattle.ledger.specs.Sessions.{Session, isLive, hopsOf}
 use Rattle.ledger.specs.Sound.{sameNumber, numberTwice}

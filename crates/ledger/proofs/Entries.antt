@@ -11,7 +11,7 @@ use Rattle.ledger.specs.Lists.{any}
 use Rattle.ledger.specs.Sessions.{Session}
 use Rattle.ledger.specs.Calls.{Call, SetUp, Quote, Release, Reply, schedule, freed, refusal, Effect, enters, strikes, leaves, effect, otherThan, apply}
 use Rattle.ledger.specs.Ledger.{Step, did, isStrikingOf, acceptedReleaseOf, ledgerFrom, ledger}
-use Rattle.ledger.proofs.Lists.{false-or, kept-member, member-kept}
+use Rattle.ledger.proofs.Lists.{neither-or, kept-member, member-kept}
 
 -- a call that entered e is a set-up of e's number and route, and its answer gave what e holds
 enters-from : (call : Call) (r : Reply) (e : Session) → effect call r ≡ enters e → (count : ℕ) × (did call r ≡ did (SetUp (e .number) (e .route)) (schedule (e .held) count))
@@ -46,16 +46,16 @@ origin-step : (call : Call) (r : Reply) (steps : List Step) (ss : List Session) 
     → List·Memᴰ e (apply ss f) → any (acceptedReleaseOf (e .number)) steps ≡ false → Origin ss (did call r ∷ steps) e
 origin-step call r steps ss e (enters u) h m kept =
     ⊎-elim
-    (λ k. inl (k, false-or (isStrikingOf (e .number) (effect call r)) (any (acceptedReleaseOf (e .number)) steps) (ap (isStrikingOf (e .number)) h) kept))
+    (λ k. inl (k, neither-or (isStrikingOf (e .number) (effect call r)) (any (acceptedReleaseOf (e .number)) steps) (ap (isStrikingOf (e .number)) h) kept))
     (λ k. let w = enters-from call r e (h ∙ ap enters (sym (List·Memᴰ·eq-of-singleton k))) in
     inr (record { count = w .0; before = []; later = steps; accepted = ap (λ (s : Step). s ∷ steps) (w .1); kept = kept }))
     (List·Memᴰ·append-cases ss m)
 origin-step call r steps ss e (strikes n) h m kept =
     let k = kept-member (otherThan n) ss m in
     let other : isStrikingOf (e .number) (effect call r) ≡ false = ap (isStrikingOf (e .number)) h ∙ not-true (eqb (e .number) n) (k .1) in
-    inl (k .0, false-or (isStrikingOf (e .number) (effect call r)) (any (acceptedReleaseOf (e .number)) steps) other kept)
+    inl (k .0, neither-or (isStrikingOf (e .number) (effect call r)) (any (acceptedReleaseOf (e .number)) steps) other kept)
 origin-step call r steps ss e leaves h m kept =
-    inl (m, false-or (isStrikingOf (e .number) (effect call r)) (any (acceptedReleaseOf (e .number)) steps) (ap (isStrikingOf (e .number)) h) kept)
+    inl (m, neither-or (isStrikingOf (e .number) (effect call r)) (any (acceptedReleaseOf (e .number)) steps) (ap (isStrikingOf (e .number)) h) kept)
 
 origin : (steps : List Step) (ss : List Session) (e : Session) → List·Memᴰ e (ledgerFrom ss steps) → Origin ss steps e
 origin [] ss e m = inl (m, refl)

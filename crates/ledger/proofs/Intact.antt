@@ -13,7 +13,7 @@ use Rattle.refusals.proofs.Refusals.{past, not-refused}
 use Rattle.network.specs.Network.{Topology}
 use Rattle.network.specs.Checks.{networkCheck}
 use Rattle.forwarding.specs.Schedule.{IsSchedule, isSchedule, scheduleDelay}
-use Rattle.forwarding.proofs.Answers.{told-schedule, schedule-told}
+use Rattle.forwarding.proofs.Schedules.{told-schedule, schedule-told}
 use Rattle.ledger.specs.Lists.{all}
 use Rattle.ledger.specs.Sessions.{Session, View, hopsOf}
 use Rattle.ledger.specs.Routes.{badLength, unknownLink, linkTwice, ratesApart, ratesOf, routeCheck}
@@ -49,7 +49,7 @@ route-good net route e =
 -- ---- a session that keeps the rules
 pub record GoodSession (net : Topology) (s : Session) : Type 0 where
   pub route : routeCheck net (s .route) ≡ given pass
-  pub schedule : IsSchedule (net .ticks) (hopsOf net [] (s .route)) (s .held .frames)
+  pub schedule : IsSchedule (hopsOf net [] (s .route)) (s .held .frames)
   pub delay : s .held .delay ≡ scheduleDelay (net .ticks) (hopsOf net [] (s .route)) (s .held .frames)
 
 pub session-good : (net : Topology) (s : Session) → goodSession net s ≡ true → GoodSession net s
@@ -58,12 +58,12 @@ session-good net s e =
     let T : ℕ = net .ticks in
     let fs : List ℕ = s .held .frames in
     let d : ℕ = scheduleDelay T (hopsOf net [] (s .route)) fs in
-    let k : Bool = isSchedule T (hopsOf net [] (s .route)) fs in
+    let k : Bool = isSchedule (hopsOf net [] (s .route)) fs in
     let a = tests.and-both (passes (routeCheck net (s .route))) (k && eqb (s .held .delay) d) e in
     let b = tests.and-both k (eqb (s .held .delay) d) (a .1) in
     record {
       route = passes-given (routeCheck net (s .route)) (a .0);
-      schedule = told-schedule T (hopsOf net [] (s .route)) fs (b .0);
+      schedule = told-schedule (hopsOf net [] (s .route)) fs (b .0);
       delay = eqb-true (s .held .delay) d (b .1);
     }
 
@@ -73,9 +73,9 @@ good-session net s g =
     let T : ℕ = net .ticks in
     let fs : List ℕ = s .held .frames in
     let d : ℕ = scheduleDelay T (hopsOf net [] (s .route)) fs in
-    let k : Bool = isSchedule T (hopsOf net [] (s .route)) fs in
+    let k : Bool = isSchedule (hopsOf net [] (s .route)) fs in
     tests.both-and (passes (routeCheck net (s .route))) (k && eqb (s .held .delay) d) (given-passes (routeCheck net (s .route)) (g .route))
-    (tests.both-and k (eqb (s .held .delay) d) (schedule-told T (hopsOf net [] (s .route)) fs (g .schedule)) (eq-eqb (s .held .delay) d (g .delay)))
+    (tests.both-and k (eqb (s .held .delay) d) (schedule-told (hopsOf net [] (s .route)) fs (g .schedule)) (eq-eqb (s .held .delay) d (g .delay)))
 
 -- ---- a state that isn't broken
 pub record Intact (net : Topology) (ss : List Session) : Type 0 where

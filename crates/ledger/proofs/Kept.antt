@@ -10,14 +10,14 @@ use borrow.Author.Tests.{leb-false}
 use Rattle.lists.proofs.Count as tests
 use Rattle.refusals.specs.Refusals.{Ruling, given, refused, pass}
 use Rattle.network.specs.Network.{Topology}
-use Rattle.forwarding.specs.Schedule.{Given}
+use Rattle.forwarding.specs.Answers.{Given}
 use Rattle.ledger.specs.Lists.{all, any, anyTwo, keep}
 use Rattle.ledger.specs.Sessions.{Held, Session, View, holds, heldIn, isLive, hopsOf}
 use Rattle.ledger.specs.Routes.{routeCheck}
 use Rattle.ledger.specs.Sound.{numberTwice, sameNumber, goodSession, someFrame, shareFrame, frameTwice, intact}
 use Rattle.ledger.specs.Calls.{Call, SetUp, Quote, Release, Reply, unless, full, callCheck, served, effect, otherThan, apply, next}
 use Rattle.ledger.specs.Demand.{Served, scheduled, none}
-use Rattle.ledger.proofs.Lists.{false-or, eqb-flip, any-cong, all-snoc, anyTwo-snoc, all-keep, anyTwo-keep, length-keep}
+use Rattle.ledger.proofs.Lists.{neither-or, eqb-flip, any-cong, all-snoc, anyTwo-snoc, all-keep, anyTwo-keep, length-keep}
 use Rattle.ledger.proofs.Intact.{Intact, GoodSession, good-session, intact-is, is-intact}
 use Rattle.ledger.proofs.Schedules.{schedule-unclosed, schedule-unheld, delay-same}
 use Rattle.ledger.proofs.Answered.{answerOn, reply-intact, Admitted, admitted, call-served}
@@ -35,15 +35,15 @@ unheld-parts s ss (l ∷ route) (i ∷ fs) h =
     let a = tests.or-neither (heldIn (s ∷ ss) l i) (someFrame (heldIn (s ∷ ss)) route fs) h in
     let b = tests.or-neither (holds l i s) (heldIn ss l i) (a .0) in
     let c = unheld-parts s ss route fs (a .1) in (
-      false-or (holds l i s) (someFrame (λ k j. holds k j s) route fs) (b .0) (c .0),
-      false-or (heldIn ss l i) (someFrame (heldIn ss) route fs) (b .1) (c .1),
+      neither-or (holds l i s) (someFrame (λ k j. holds k j s) route fs) (b .0) (c .0),
+      neither-or (heldIn ss l i) (someFrame (heldIn ss) route fs) (b .1) (c .1),
     )
 
 unheld-unshared : (ss : List Session) (u : Session) → someFrame (heldIn ss) (u .route) (u .held .frames) ≡ false → any (λ s. shareFrame s u) ss ≡ false
 unheld-unshared [] u h = refl
 unheld-unshared (s ∷ ss) u h =
     let a = unheld-parts s ss (u .route) (u .held .frames) h in
-    false-or (shareFrame s u) (any (λ t. shareFrame t u) ss) (a .0) (unheld-unshared ss u (a .1))
+    neither-or (shareFrame s u) (any (λ t. shareFrame t u) ss) (a .0) (unheld-unshared ss u (a .1))
 
 module _ (net : Topology) (ss : List Session) (h : Intact net ss) where
   few-more : (u : Session) → full ss ≡ false → length (ss ++ (u ∷ [])) ≤ 96
@@ -56,7 +56,7 @@ module _ (net : Topology) (ss : List Session) (h : Intact net ss) where
   served-good n route held count e g =
       record {
         route = e;
-        schedule = schedule-unclosed net ss (net .ticks) route (held .frames) (g .schedule);
+        schedule = schedule-unclosed net ss route (held .frames) (g .schedule);
         delay = sym (g .delay-is) ∙ delay-same net ss (net .ticks) route (held .frames);
       }
 
@@ -69,9 +69,9 @@ module _ (net : Topology) (ss : List Session) (h : Intact net ss) where
       record {
         network = h .network;
         few = few-more u (a .room);
-        numbers = anyTwo-snoc sameNumber ss u ∙ false-or (anyTwo sameNumber ss) (any (λ s. sameNumber s u) ss) (h .numbers) (number-new ss u (a .unused));
+        numbers = anyTwo-snoc sameNumber ss u ∙ neither-or (anyTwo sameNumber ss) (any (λ s. sameNumber s u) ss) (h .numbers) (number-new ss u (a .unused));
         sessions = all-snoc (goodSession net) ss u ∙ tests.both-and (all (goodSession net) ss) (goodSession net u) (h .sessions) good;
-        frames = anyTwo-snoc shareFrame ss u ∙ false-or (anyTwo shareFrame ss) (any (λ s. shareFrame s u) ss) (h .frames) (unheld-unshared ss u (schedule-unheld net ss (net .ticks) route (held .frames) (g .schedule)));
+        frames = anyTwo-snoc shareFrame ss u ∙ neither-or (anyTwo shareFrame ss) (any (λ s. shareFrame s u) ss) (h .frames) (unheld-unshared ss u (schedule-unheld net ss route (held .frames) (g .schedule)));
       }
   served-intact n route a (none count e counted nowhere) = h
 
@@ -92,7 +92,7 @@ module _ (net : Topology) (ss : List Session) (h : Intact net ss) where
     where
       go : (o : Ruling) → callCheck net ss (SetUp n route) ≡ o → Intact net (apply ss (effect (SetUp n route) (unless o (served net ss (SetUp n route)))))
       go (refused k) e = h
-      go (given pass) e = served-intact n route (admitted net ss n route e) (call-served net ss (SetUp n route) e)
+      go (given pass) e = served-intact n route (admitted net ss n route e) (call-served net ss (SetUp n route))
   answer-intact (Quote route) = h
   answer-intact (Release n) = go (callCheck net ss (Release n))
     where

@@ -13,8 +13,8 @@ use Rattle.lists.proofs.Count as tests
 use Rattle.ledger.specs.Lists.{all, any, anyTwo, keep}
 
 -- ---- tests
-pub false-or : (a b : Bool) → a ≡ false → b ≡ false → a || b ≡ false
-false-or a b p q = rw (p, q)
+pub neither-or : (a b : Bool) → a ≡ false → b ≡ false → a || b ≡ false
+neither-or a b p q = rw (p, q)
 
 pub left-or : (a b : Bool) → a ≡ true → a || b ≡ true
 left-or a b p = rw p
@@ -101,7 +101,7 @@ module _ {A : Type 0} where
   any-keep p q (y ∷ ys) h = let both = tests.or-neither (p y) (any p ys) h in go (q y) (both .0) (any-keep p q ys (both .1))
     where
       go : (b : Bool) → p y ≡ false → any p (keep q ys) ≡ false → any p (cond b (y ∷ keep q ys) (keep q ys)) ≡ false
-      go true e ih = false-or (p y) (any p (keep q ys)) e ih
+      go true e ih = neither-or (p y) (any p (keep q ys)) e ih
       go false e ih = ih
 
   pub anyTwo-keep : (r : A → A → Bool) (q : A → Bool) (xs : List A) → anyTwo r xs ≡ false → anyTwo r (keep q xs) ≡ false
@@ -111,7 +111,7 @@ module _ {A : Type 0} where
       go (q y) (any-keep (r y) q ys (both .0)) (anyTwo-keep r q ys (both .1))
     where
       go : (b : Bool) → any (r y) (keep q ys) ≡ false → anyTwo r (keep q ys) ≡ false → anyTwo r (cond b (y ∷ keep q ys) (keep q ys)) ≡ false
-      go true e ih = false-or (any (r y) (keep q ys)) (anyTwo r (keep q ys)) e ih
+      go true e ih = neither-or (any (r y) (keep q ys)) (anyTwo r (keep q ys)) e ih
       go false e ih = ih
 
   pub length-keep : (q : A → Bool) (xs : List A) → length (keep q xs) ≤ length xs

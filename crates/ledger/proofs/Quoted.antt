@@ -7,7 +7,7 @@ use lib.ListN.{length}
 use Rattle.refusals.specs.Refusals.{Ruling}
 use Rattle.network.specs.Network.{Topology}
 use Rattle.forwarding.specs.declared.Hop.{Hop}
-use Rattle.forwarding.specs.Schedule.{routeAnswer}
+use Rattle.forwarding.specs.Route.{routeAnswer}
 use Rattle.ledger.specs.Sessions.{Session, View, linkAt, hopsOf}
 use Rattle.ledger.specs.Routes.{badLength, unknownLink, ratesOf, routeCheck}
 use Rattle.ledger.specs.Sound.{intact}

@@ -10,7 +10,7 @@ use Rattle.trellis.specs.Answer.{found, blocked}
 use Rattle.trellis.specs.Answer as trellis
 use Rattle.refusals.specs.Refusals.{Ruling, given, refused, pass, refuseIf, orElse}
 use Rattle.network.specs.Network.{Topology}
-use Rattle.forwarding.specs.Schedule.{routeAnswer}
+use Rattle.forwarding.specs.Route.{routeAnswer}
 use Rattle.ledger.specs.Sessions.{Session, isLive, hopsOf}
 use Rattle.ledger.specs.Routes.{badLength, unknownLink, linkTwice, ratesApart, ratesOf, routeCheck}
 use Rattle.ledger.specs.Calls.{Call, SetUp, Quote, Release, refusal, replyOf, unless, full, callCheck, served}
@@ -92,5 +92,5 @@ module _ (net : Topology) (ss : List Session) (call : Call) where
         only = other-refused;
         blocked = blocked-passed;
         unbroken = never-broken;
-        served = λ e. subst (λ (o : Ruling). ServedCall net ss call (unless o (served net ss call))) (sym e) (call-served net ss call e);
+        served = λ e. subst (λ (o : Ruling). ServedCall net ss call (unless o (served net ss call))) (sym e) (call-served net ss call);
       }

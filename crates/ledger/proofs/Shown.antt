@@ -1,12 +1,12 @@
 -- What lookup shows, and the numbers of the live sessions, each once. Assumes nothing.
 use mathlib.Core.Path.{_≡_, refl, sym, ap, subst, _∙_}
-use Rattle.lists.specs.Once.{EachOnce}
 use mathlib.Core.Logic.{_⊎_, inl, inr}
 use mathlib.Core.Bool.{Bool, true, false, cond}
 use mathlib.Core.List.{List, [], _∷_, map, List·Memᴰ, List·Memᴰ·head, List·Memᴰ·tail, List·Memᴰ·cases-cons, List·Memᴰ·not-nil, Memᴰ·map, Memᴰ·of-map}
 use Prim.Native.Nat.{ℕ}
 use lib.Dec.{eqb}
 use borrow.Author.Tests.{eq-eqb, eqb-true}
+use Rattle.lists.specs.Once.{EachOnce}
 use Rattle.lists.proofs.Count as tests
 use Rattle.refusals.specs.Refusals.{given, refused}
 use Rattle.refusals.proofs.Refusals.{not-given}

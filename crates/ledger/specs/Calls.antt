@@ -9,7 +9,7 @@ use Rattle.trellis.specs.Answer as trellis
 use Rattle.refusals.specs.Refusals.{Ruling, Outcome, given, refused, refuseIf, orElse}
 use Rattle.words.specs.Word.{freeFrames}
 use Rattle.network.specs.Network.{Topology}
-use Rattle.forwarding.specs.Schedule.{routeAnswer}
+use Rattle.forwarding.specs.Route.{routeAnswer}
 use Rattle.ledger.specs.Lists.{keep}
 use Rattle.ledger.specs.Sessions.{Held, Session, View, isLive, linkAt, freeOf, hopsOf}
 use Rattle.ledger.specs.Routes.{unknown, routeCheck}

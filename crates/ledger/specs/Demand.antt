@@ -1,16 +1,18 @@
 -- Demand 3: one statement about a whole list of calls from a fresh network. Assumes nothing.
 use mathlib.Core.Path.{_≡_}
-use Rattle.lists.specs.Once.{EachOnce}
 use mathlib.Core.Bool.{true, false}
 use mathlib.Core.Logic.{_↔_}
 use mathlib.Core.List.{List, [], _∷_, _++_, List·Memᴰ}
 use Prim.Native.Nat.{ℕ, _+_, _<_}
 use lib.ListN.{length, getD}
+use Rattle.lists.specs.Once.{EachOnce}
 use Rattle.trellis.specs.Answer.{found, blocked}
 use Rattle.refusals.specs.Refusals.{given, refused, pass}
 use Rattle.network.specs.Network.{Topology}
 use Rattle.forwarding.specs.declared.Hop.{Hop}
-use Rattle.forwarding.specs.Schedule.{routeAnswer, IsSchedule, Given, transitions}
+use Rattle.forwarding.specs.Schedule.{IsSchedule}
+use Rattle.forwarding.specs.Route.{transitions, routeAnswer}
+use Rattle.forwarding.specs.Answers.{Given}
 use Rattle.ledger.specs.Lists.{any}
 use Rattle.ledger.specs.Sessions.{Held, Session, View, names, holds, isLive, hopsOf}
 use Rattle.ledger.specs.Calls.{Call, SetUp, Quote, Release, Reply, schedule, freed, refusal, callCheck, reply, next, lookup}
@@ -49,7 +51,7 @@ pub data Served (T : ℕ) (hops : List Hop) : Reply → Type 0 where
   scheduled : (held : Held) (count : ℕ) → routeAnswer T hops ≡ found (held .delay) count (held .frames)
       → Given T hops (held .delay) count (held .frames) → Served T hops (schedule held count)
   none : (count : ℕ) → routeAnswer T hops ≡ blocked count → count ≡ transitions T hops
-      → ((fs : List ℕ) → IsSchedule T hops fs → ⊥) → Served T hops (refusal 18 count)
+      → ((fs : List ℕ) → IsSchedule hops fs → ⊥) → Served T hops (refusal 18 count)
 
 abbrev pub ServedCall : Topology → List Session → Call → Reply → Type 0
 ServedCall net ss (SetUp n route) r = Served (net .ticks) (hopsOf net ss route) r

@@ -36,7 +36,7 @@ numberTwice ss = anyTwo sameNumber ss
 unfoldable pub goodSession : Topology → Session → Bool
 goodSession net s =
     passes (routeCheck net (s .route))
-    && (isSchedule (net .ticks) (hopsOf net [] (s .route)) (s .held .frames)
+    && (isSchedule (hopsOf net [] (s .route)) (s .held .frames)
     && eqb (s .held .delay) (scheduleDelay (net .ticks) (hopsOf net [] (s .route)) (s .held .frames)))
 
 -- some frame of a route with its frames passes a test

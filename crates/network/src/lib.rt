@@ -22,6 +22,17 @@ pub struct Network {
     pub links: [Link; 32],
 }
 
+// What stands in a place of an array that no link stands in.
+pub fn no_link() -> Link
+    ensures { λ r. ⌜ r ≡ noLink ⌝ }
+{
+    Link {
+        frames: 0,
+        range: 0,
+        closed: 0,
+    }
+}
+
 // Whether check 2 refuses a number of links.
 pub fn bad_count(count: usize) -> bool
     ensures { λ r. ⌜ r ≡ badCount count ⌝ }

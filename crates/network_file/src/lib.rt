@@ -119,11 +119,7 @@ pub fn read_link(ticks: u16, rest: &[u8]) -> LinkRecord
 fn no_links() -> [Link; 32]
     ensures { λ r. ⌜ r ≡ firsts 32 [] noLink ⌝ }
 {
-    [Link {
-        frames: 0,
-        range: 0,
-        closed: 0,
-    }; 32]
+    [network::no_link(); 32]
 }
 
 // The answer for a file that is refused.

@@ -41,7 +41,7 @@ pub enum Refusal {
     // 17. Set-up: 96 sessions are live.
     PlacesFull,
     // 18. No schedule exists; with the count of transitions considered.
-    NoSchedule(u16),
+    NoSchedule(u32),
     // 19. Release or lookup: the number isn't live.
     NumberNotLive,
     // 20. Write: the buffer is shorter than what is to be written.
@@ -84,7 +84,7 @@ pub fn number(refusal: Refusal) -> u8
 }
 
 // A refusal's count, which only 18 has.
-pub fn count(refusal: Refusal) -> u16
+pub fn count(refusal: Refusal) -> u32
     ensures { λ r. ⌜ r ≡ refusalCount refusal ⌝ }
 {
     match refusal {

@@ -102,10 +102,10 @@ module _ (net : Topology) (ss : List Session) (ok : networkCheck net ≡ given p
   call-line : (place letter : ℕ) → place < 100000 → (call : Call) (o : Ruling) → callCheck net ss call ≡ o → length (line place letter (unless o (served net ss call))) ≤ 22 + 3 * length (linksOf call)
   call-line place letter h call (refused k) e =
       omega (arith, refused-long place letter k 0 h (omega (arith, call-number net ss call k e)) (not-eighteen net ss call k e))
-  call-line place letter h (SetUp n route) (given pass) e = route-line place letter h route (admitted net ss n route e .passed) _ (call-served net ss (SetUp n route) e)
-  call-line place letter h (Quote route) (given pass) e = route-line place letter h route (unfold callCheck in e) _ (call-served net ss (Quote route) e)
+  call-line place letter h (SetUp n route) (given pass) e = route-line place letter h route (admitted net ss n route e .passed) _ (call-served net ss (SetUp n route))
+  call-line place letter h (Quote route) (given pass) e = route-line place letter h route (unfold callCheck in e) _ (call-served net ss (Quote route))
   call-line place letter h (Release n) (given pass) e =
-      let q : served net ss (Release n) ≡ freed = call-served net ss (Release n) e in
+      let q : served net ss (Release n) ≡ freed = call-served net ss (Release n) in
       rw q (omega (arith, freed-long place letter h))
 
 reply-line : (place letter : ℕ) → place < 100000 → (v : View) (call : Call) → intact v ≡ true → length (line place letter (reply v call)) ≤ 22 + 3 * length (linksOf call)

@@ -21,7 +21,7 @@ use Rattle.network.specs.Checks.{networkCheck}
 use Rattle.network.proofs.Tests.{cycle-passed, frames-passed, range-passed}
 use Rattle.network.proofs.Checks.{GoodLink, network-good}
 use Rattle.forwarding.specs.declared.Hop.{Hop}
-use Rattle.forwarding.specs.Checked.{Passed, Ready, noHop}
+use Rattle.forwarding.specs.Hops.{noHop, HopReady, Ready}
 use Rattle.ledger.specs.Lists.{any}
 use Rattle.ledger.specs.Sessions.{Session, HeldWords, heldIn, linkAt, freeOf, hopOf, hopsOf}
 use Rattle.ledger.specs.Routes.{unknown, unknownLink, routeCheck}
@@ -39,8 +39,8 @@ pub record Laid (links : List Link) (held route : List ℕ) (hops : List Hop) (j
   pub laid : hops ≡ firsts 8 (hopsFrom links held (take j route)) noHop
 
 module _ (links : List Link) (held route : List ℕ) where
-  pub none-laid : Laid links held route (replicate 8 noHop) 0
-  none-laid = record { within = omega arith; laid = firsts-filled 8 [] noHop (omega arith) }
+  pub none-laid : (none : Hop) → none ≡ noHop → Laid links held route (replicate 8 none) 0
+  none-laid none e = record { within = omega arith; laid = rw e (firsts-filled 8 [] noHop (omega arith)) }
 
   module _ (hops : List Hop) (j : ℕ) (p : Laid links held route hops j) where
     pub one-laid : j < length route → length route ≤ 8 → (k : Link) (l : ℕ) (hop : Hop) → k ≡ getD links (getD route j 0) noLink → l ≡ getD route j 0 → hop ≡ hopFrom k (getD held l 0) → Laid links held route (set hops j hop) (j + 1)
@@ -89,8 +89,8 @@ hops-held network held ss route w e u =
     map-known (λ l. hopFrom (getD (network .links) l noLink) (getD held l 0)) (hopOf (topologyOf network) ss) (network .count) (λ l h. hop-held network held ss l w e h) route (rw (many-links network) at u)
 
 -- ---- a route that passed may be searched
-hop-passed : (net : Topology) (ss : List Session) (l : ℕ) → GoodLink (net .ticks) (linkAt net l) → Passed (net .ticks) (hopOf net ss l)
-hop-passed net ss l g =
+hop-ready : (net : Topology) (ss : List Session) (l : ℕ) → GoodLink (net .ticks) (linkAt net l) → HopReady (net .ticks) (hopOf net ss l)
+hop-ready net ss l g =
     let f = frames-passed (net .ticks) (linkAt net l .frames) (g .frames) in
     record { some-frame = f .0; few-frames = f .1; divides = f .2; in-cycle = range-passed (linkAt net l .frames) (linkAt net l .range) (g .range) .1 }
 
@@ -107,5 +107,5 @@ route-ready net ss route e r =
       cycle = cycle-passed (net .ticks) (network-good net e .cycle) .1;
       some-hop = n .0;
       few-hops = n .1;
-      passed = λ j h. rw (getD-firsts 8 j (hopsOf net ss route) noHop (omega arith), map-place (hopOf net ss) route j h) (hop-passed net ss (getD route j 0) (link-passed net (getD route j 0) e (route-known net route r j h)));
+      each = λ j h. rw (getD-firsts 8 j (hopsOf net ss route) noHop (omega arith), map-place (hopOf net ss) route j h) (hop-ready net ss (getD route j 0) (link-passed net (getD route j 0) e (route-known net route r j h)));
     }

@@ -9,10 +9,11 @@ use lib.Dec.{ltb}
 use Rattle.lists.proofs.Count.{and-both}
 use Rattle.words.specs.Word.{bitOf}
 use Rattle.forwarding.specs.declared.Hop.{Hop}
-use Rattle.forwarding.specs.Forwarding.{reference, hold, frameTime, delay, Delayed, isFree, mayHold, holdInto}
-use Rattle.forwarding.specs.Checked.{Passed}
+use Rattle.forwarding.specs.Forwarding.{isFree, mayHold, holdInto, frameTime, delay}
+use Rattle.forwarding.specs.Hops.{HopReady}
+use Rattle.forwarding.specs.Inner.{Delayed}
 use Rattle.forwarding.proofs.Transitions.{delay-frames, delay-le, hold-may}
-use Rattle.routes.specs.Hops.{stepIf}
+use Rattle.routes.specs.Inner.{stepIf}
 
 -- ---- a frame of a hop that is free
 module _ (h : Hop) (i : ℕ) where
@@ -28,7 +29,7 @@ module _ (h : Hop) (i : ℕ) where
 
 -- ---- one transition
 -- no hold within the range lasts longer than a cycle
-pub hold-lasts : (T : ℕ) (h : Hop) (D time : ℕ) → T ≤ 960 → Passed T h → D ≤ h .range → time ≡ frameTime T (h .frames) → D * time ≤ 960
+pub hold-lasts : (T : ℕ) (h : Hop) (D time : ℕ) → T ≤ 960 → HopReady T h → D ≤ h .range → time ≡ frameTime T (h .frames) → D * time ≤ 960
 hold-lasts T h D time c p l e =
     rw e (omega (arith, delay-frames T (h .frames) D (p .some-frame) (p .divides), delay-le T (h .frames) D (omega (arith, p .in-cycle))))
 
@@ -39,20 +40,19 @@ later-test true false true = refl
 later-test true false false = refl
 later-test false m f = refl
 
-module _ (T K′ : ℕ) (h : Hop) (k i : ℕ) (b : Bool) (eb : b ≡ (ltb i (h .frames) && isFree h i)) where
-  by-hold : stepIf T K′ h k i ≡ cond (b && mayHold h (holdInto K′ h k i)) (some (delay T (h .frames) (holdInto K′ h k i))) none
+module _ (T : ℕ) (g h : Hop) (k i : ℕ) (b : Bool) (eb : b ≡ (ltb i (h .frames) && isFree h i)) where
+  by-hold : stepIf T g h k i ≡ cond (b && mayHold h (holdInto g h k i)) (some (delay T (h .frames) (holdInto g h k i))) none
   unfolding stepIf
-  by-hold = rw (later-test (ltb i (h .frames)) (mayHold h (holdInto K′ h k i)) (isFree h i), ← eb)
+  by-hold = rw (later-test (ltb i (h .frames)) (mayHold h (holdInto g h k i)) (isFree h i), ← eb)
 
-  pub not-free : b ≡ false → none ≡ stepIf T K′ h k i
-  not-free g = sym (by-hold ∙ rw g)
+  pub not-free : b ≡ false → none ≡ stepIf T g h k i
+  not-free f = sym (by-hold ∙ rw f)
 
-  module _ (g : b ≡ true) (D : ℕ) (eD : D ≡ hold (h .frames) (reference k (h .frames) K′) i) where
-    pub over-range : h .range < D → none ≡ stepIf T K′ h k i
-    unfolding mayHold holdInto
-    over-range l = sym (by-hold ∙ rw (g, ← eD, lt-leb D (h .range) l))
+  module _ (f : b ≡ true) (D : ℕ) (eD : D ≡ holdInto g h k i) where
+    pub over-range : h .range < D → none ≡ stepIf T g h k i
+    unfolding mayHold
+    over-range l = sym (by-hold ∙ rw (f, ← eD, lt-leb D (h .range) l))
 
-    pub step-delay : Passed T h → D ≤ h .range → (time : ℕ) → time ≡ frameTime T (h .frames) → (d : ℕ) → Delayed D time d → some d ≡ stepIf T K′ h k i
-    unfolding holdInto
+    pub step-delay : HopReady T h → D ≤ h .range → (time : ℕ) → time ≡ frameTime T (h .frames) → (d : ℕ) → Delayed D time d → some d ≡ stepIf T g h k i
     step-delay p l time et d q =
-        sym (by-hold ∙ rw (g, ← eD, hold-may h D l, q .ruled T (h .frames) (p .some-frame) (p .divides) et))
+        sym (by-hold ∙ rw (f, ← eD, hold-may h D l, q .ruled T (h .frames) (p .some-frame) (p .divides) et))

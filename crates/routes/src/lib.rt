@@ -15,22 +15,16 @@ ghost use Rattle.refusals.specs.Refusals.{given, pass, ruling};
 ghost use Rattle.network.specs.Network.{topologyOf};
 ghost use Rattle.network.specs.Checks.{networkCheck};
 ghost use Rattle.forwarding.specs.Forwarding.{isFree};
-ghost use Rattle.forwarding.specs.Checked.{Passed, Ready, noHop};
+ghost use Rattle.forwarding.specs.Hops.{noHop, HopReady, Ready};
 ghost use Rattle.ledger.specs.Lists.{any};
 ghost use Rattle.ledger.specs.Routes.{badLength, unknown, unknownLink, linkTwice, apart, ratesApart, ratesOf, routeCheck};
-ghost use Rattle.routes.specs.Hops.{hopFrom, hopsFrom, delayIn, stepIf, delayIf};
+ghost use Rattle.routes.specs.Hops.{hopFrom, hopsFrom, delayIf, walkedDelay};
+ghost use Rattle.routes.specs.Inner.{stepIf};
 
 // What frames over the hops of a route come to: a schedule's delay, or that they are no schedule.
 pub enum Walked {
     Delayed(Delay),
     Unfit,
-}
-
-// A link number as an index.
-fn wide(x: u8) -> usize
-    ensures { λ r. ⌜ r ≡ x ⌝ }
-{
-    x as usize
 }
 
 // Whether check 12 refuses a number of links.
@@ -46,7 +40,7 @@ fn unknown_link(count: usize, route: &[u8]) -> bool
 {
     let mut j = 0;
     while j < route.len() {
-        if count <= wide(route[j]) {
+        if count <= places::index(route[j]) {
             return true;
         }
         j += 1;
@@ -97,8 +91,8 @@ fn rates_apart(network: Network, route: &[u8]) -> bool
 {
     let mut j = 1;
     while j < route.len() {
-        let before = wide(route[j - 1]);
-        let at = wide(route[j]);
+        let before = places::index(route[j - 1]);
+        let at = places::index(route[j]);
         let one = network.links[before];
         let other = network.links[at];
         if frames_apart(one.frames, other.frames) {
@@ -148,26 +142,15 @@ pub fn route_hops(network: Network, held: &[u64; 32], route: &[u8]) -> [Hop; 8]
     requires { ⌜ (networkCheck (topologyOf network) ≡ given pass) × (routeCheck (topologyOf network) (now route) ≡ given pass) ⌝ }
     ensures { λ r. ⌜ r ≡ firsts 8 (hopsFrom (network .links) (now (held .entry)) (now (route .entry))) noHop ⌝ }
 {
-    let mut hops = [Hop {
-        frames: 0,
-        range: 0,
-        free: 0,
-    }; 8];
+    let mut hops = [forwarding::no_hop(); 8];
     let mut j = 0;
     while j < route.len() {
-        let at = wide(route[j]);
+        let at = places::index(route[j]);
         let link = network.links[at];
         hops[j] = hop_of(link, held[at]);
         j += 1;
     }
     hops
-}
-
-// A stored frame as a frame number.
-fn short(x: u8) -> u16
-    ensures { λ r. ⌜ r ≡ x ⌝ }
-{
-    x as u16
 }
 
 // Whether i is a frame of the hop and free. Check 7: a hop has at most 64 frames.
@@ -181,16 +164,16 @@ fn frame_free(hop: Hop, i: u16) -> bool
     words::has_bit(hop.free, i)
 }
 
-// The transition from frame k of a hop with `before` frames to frame i of the hop: its delay, if it is allowed.
+// The transition from frame k of the hop before to frame i of a hop: its delay, if it is allowed.
 // Checks 3, 7 and 8 guarantee what is required; the walk has found frame k free.
-fn step(t: u16, before: u16, k: u16, hop: Hop, i: u16) -> Walked
-    requires { ⌜ (t ≤ 960) × (k < before) × (before ≤ 64) × Passed t hop ⌝ }
-    ensures { λ r. ⌜ delayIn r ≡ stepIf t before hop k i ⌝ }
+fn step(t: u16, before: Hop, k: u16, hop: Hop, i: u16) -> Walked
+    requires { ⌜ (t ≤ 960) × (k < before .frames) × (before .frames ≤ 64) × HopReady t hop ⌝ }
+    ensures { λ r. ⌜ walkedDelay r ≡ stepIf t before hop k i ⌝ }
 {
     if !frame_free(hop, i) {
         return Walked::Unfit;
     }
-    let hold = forwarding::hold_into(k, before, hop.frames, i);
+    let hold = forwarding::hold_into(k, before, hop, i);
     if hop.range < hold.0 {
         return Walked::Unfit;
     }
@@ -201,26 +184,26 @@ fn step(t: u16, before: u16, k: u16, hop: Hop, i: u16) -> Walked
 // Whether the frames are a schedule over the first n hops, and its delay. Checks 3, 7, 8 and 12 guarantee what is required.
 pub fn walk(t: u16, hops: [Hop; 8], frames: [u8; 8], n: usize) -> Walked
     requires { ⌜ Ready t hops n ⌝ }
-    ensures { λ r. ⌜ delayIn r ≡ delayIf t (firsts n hops noHop) (firsts n frames 0) ⌝ }
+    ensures { λ r. ⌜ walkedDelay r ≡ delayIf t (firsts n hops noHop) (firsts n frames 0) ⌝ }
 {
     let first = hops[0];
-    let mut k = short(frames[0]);
+    let mut k = places::short(frames[0]);
     if !frame_free(first, k) {
         return Walked::Unfit;
     }
-    let mut before = first.frames;
+    let mut before = first;
     let mut total = Delay(0);
     let mut j: usize = 1;
     while j < n {
         let hop = hops[j];
-        let i = short(frames[j]);
+        let i = places::short(frames[j]);
         match step(t, before, k, hop, i) {
             Walked::Unfit => return Walked::Unfit,
             Walked::Delayed(delay) => {
                 total = forwarding::sum(total, delay);
             }
         }
-        before = hop.frames;
+        before = hop;
         k = i;
         j += 1;
     }

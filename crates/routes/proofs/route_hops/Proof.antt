@@ -17,35 +17,38 @@ Inv-loop held route network hops₀ j₀ hops j = Laid (network .links) held rou
 abbrev μ-loop : tie.MeasureT-loop
 μ-loop held route network hops₀ j₀ hops j = length route - j
 
+no-hop-requires : tie.Need-no-hop-requires Inv-loop μ-loop
+no-hop-requires c κs = search needs
+
 loop-holds : tie.Need-loop-holds Inv-loop μ-loop
-loop-holds c = none-laid _ _ _
+loop-holds c = none-laid _ _ _ _ (c .no-hop .ensures)
 
-shared-slice-read-wide : tie.Need-shared-slice-read-wide Inv-loop μ-loop
-shared-slice-read-wide c = search needs
+shared-slice-read-index : tie.Need-shared-slice-read-index Inv-loop μ-loop
+shared-slice-read-index c = search needs
 
-wide-requires : tie.Need-wide-requires Inv-loop μ-loop
-wide-requires c κs = search needs
+index-requires : tie.Need-index-requires Inv-loop μ-loop
+index-requires c κs = search needs
 
 mul-link : tie.Need-mul-link Inv-loop μ-loop
-mul-link c = omega (arith, at-place (c .before .before .before .before .before .args .t1) _ (passed-place (c .before .before .before .before .before .args .t1) _ (c .before .before .before .before .before .pre .1) (c .before .before .before .loop .j) (c .before .before .loop-test .taken)) (c .before .before .before .before .before .pre .0) _ (c .wide .ensures))
+mul-link c = omega (arith, at-place (c .before .before .before .before .before .before .args .t1) _ (passed-place (c .before .before .before .before .before .before .args .t1) _ (c .before .before .before .before .before .before .pre .1) (c .before .before .before .loop .j) (c .before .before .loop-test .taken)) (c .before .before .before .before .before .before .pre .0) _ (c .index .ensures))
 
 element-copy-out-link : tie.Need-element-copy-out-link Inv-loop μ-loop
-element-copy-out-link c = at-place (c .before .before .before .before .before .args .t1) _ (passed-place (c .before .before .before .before .before .args .t1) _ (c .before .before .before .before .before .pre .1) (c .before .before .before .loop .j) (c .before .before .loop-test .taken)) (c .before .before .before .before .before .pre .0) _ (c .wide .ensures)
+element-copy-out-link c = at-place (c .before .before .before .before .before .before .args .t1) _ (passed-place (c .before .before .before .before .before .before .args .t1) _ (c .before .before .before .before .before .before .pre .1) (c .before .before .before .loop .j) (c .before .before .loop-test .taken)) (c .before .before .before .before .before .before .pre .0) _ (c .index .ensures)
 
 mul-hop-of : tie.Need-mul-hop-of Inv-loop μ-loop
-mul-hop-of c = omega (arith, at-place (c .before .before .before .before .before .before .args .t1) _ (passed-place (c .before .before .before .before .before .before .args .t1) _ (c .before .before .before .before .before .before .pre .1) (c .before .before .before .before .loop .j) (c .before .before .before .loop-test .taken)) (c .before .before .before .before .before .before .pre .0) _ (c .before .wide .ensures))
+mul-hop-of c = omega (arith, at-place (c .before .before .before .before .before .before .before .args .t1) _ (passed-place (c .before .before .before .before .before .before .before .args .t1) _ (c .before .before .before .before .before .before .before .pre .1) (c .before .before .before .before .loop .j) (c .before .before .before .loop-test .taken)) (c .before .before .before .before .before .before .before .pre .0) _ (c .before .index .ensures))
 
 element-copy-out-hop-of : tie.Need-element-copy-out-hop-of Inv-loop μ-loop
-element-copy-out-hop-of c = at-place (c .before .before .before .before .before .before .args .t1) _ (passed-place (c .before .before .before .before .before .before .args .t1) _ (c .before .before .before .before .before .before .pre .1) (c .before .before .before .before .loop .j) (c .before .before .before .loop-test .taken)) (c .before .before .before .before .before .before .pre .0) _ (c .before .wide .ensures)
+element-copy-out-hop-of c = at-place (c .before .before .before .before .before .before .before .args .t1) _ (passed-place (c .before .before .before .before .before .before .before .args .t1) _ (c .before .before .before .before .before .before .before .pre .1) (c .before .before .before .before .loop .j) (c .before .before .before .loop-test .taken)) (c .before .before .before .before .before .before .before .pre .0) _ (c .before .index .ensures)
 
 hop-of-requires : tie.Need-hop-of-requires Inv-loop μ-loop
-hop-of-requires c κs = at-frames (c .before .before .before .before .before .before .before .args .t1) _ (passed-place (c .before .before .before .before .before .before .before .args .t1) _ (c .before .before .before .before .before .before .before .pre .1) (c .before .before .before .before .before .loop .j) (c .before .before .before .before .loop-test .taken)) (c .before .before .before .before .before .before .before .pre .0) _ (c .before .before .wide .ensures)
+hop-of-requires c κs = at-frames (c .before .before .before .before .before .before .before .before .args .t1) _ (passed-place (c .before .before .before .before .before .before .before .before .args .t1) _ (c .before .before .before .before .before .before .before .before .pre .1) (c .before .before .before .before .before .loop .j) (c .before .before .before .before .loop-test .taken)) (c .before .before .before .before .before .before .before .before .pre .0) _ (c .before .before .index .ensures)
 
 mul-hops : tie.Need-mul-hops Inv-loop μ-loop
-mul-hops c = omega (arith, route-long _ _ (c .before .before .before .before .before .before .before .before .pre .1))
+mul-hops c = omega (arith, route-long _ _ (c .before .before .before .before .before .before .before .before .before .pre .1))
 
 array-set-from-hops : tie.Need-array-set-from-hops Inv-loop μ-loop
-array-set-from-hops c = omega (arith, route-long _ _ (c .before .before .before .before .before .before .before .before .pre .1))
+array-set-from-hops c = omega (arith, route-long _ _ (c .before .before .before .before .before .before .before .before .before .pre .1))
 
 add-j : tie.Need-add-j Inv-loop μ-loop
 add-j c = search needs
@@ -55,9 +58,9 @@ loop-less c = search needs
 
 loop-again : tie.Need-loop-again Inv-loop μ-loop
 loop-again c = let l = c .before .before .before .before .before in
-    let links = c .before .before .before .before .before .before .before .before .args .t1 .links in
-    one-laid _ _ _ _ _ (l .before .loop .inv) (l .loop-test .taken) (route-long _ _ (c .before .before .before .before .before .before .before .before .pre .1) .1) _ _ _
-    (ap (λ (i : ℕ). getD links i noLink) (c .before .before .before .wide .ensures)) (c .before .before .before .wide .ensures) (c .hop-of .ensures)
+    let links = c .before .before .before .before .before .before .before .before .before .args .t1 .links in
+    one-laid _ _ _ _ _ (l .before .loop .inv) (l .loop-test .taken) (route-long _ _ (c .before .before .before .before .before .before .before .before .before .pre .1) .1) _ _ _
+    (ap (λ (i : ℕ). getD links i noLink) (c .before .before .before .index .ensures)) (c .before .before .before .index .ensures) (c .hop-of .ensures)
 
 returns : tie.Need-returns Inv-loop μ-loop
 returns c = all-laid _ _ _ _ _ (c .before .loop .inv) (c .loop-test .left)
@@ -68,9 +71,10 @@ route-hops-spec =
     (tie.spec
     Inv-loop
     μ-loop
+    no-hop-requires
     loop-holds
-    shared-slice-read-wide
-    wide-requires
+    shared-slice-read-index
+    index-requires
     mul-link
     element-copy-out-link
     mul-hop-of

@@ -19,14 +19,14 @@ abbrev μ-loop : tie.MeasureT-loop
 loop-holds : tie.Need-loop-holds Inv-loop μ-loop
 loop-holds c = refl
 
-shared-slice-read-wide : tie.Need-shared-slice-read-wide Inv-loop μ-loop
-shared-slice-read-wide c = search needs
+shared-slice-read-index : tie.Need-shared-slice-read-index Inv-loop μ-loop
+shared-slice-read-index c = search needs
 
-wide-requires : tie.Need-wide-requires Inv-loop μ-loop
-wide-requires c κs = search needs
+index-requires : tie.Need-index-requires Inv-loop μ-loop
+index-requires c κs = search needs
 
 returns : tie.Need-returns Inv-loop μ-loop
-returns c = here {A = ℕ} 0 _ (unknown _) 0 _ (c .before .before .before .before .loop .inv) (c .before .before .before .loop-test .taken) (not-known _ _ _ (c .before .wide .ensures) (c .if1 .taken))
+returns c = here {A = ℕ} 0 _ (unknown _) 0 _ (c .before .before .before .before .loop .inv) (c .before .before .before .loop-test .taken) (not-known _ _ _ (c .before .index .ensures) (c .if1 .taken))
 
 add-j : tie.Need-add-j Inv-loop μ-loop
 add-j c = search needs
@@ -35,7 +35,7 @@ loop-less : tie.Need-loop-less Inv-loop μ-loop
 loop-less c = search needs
 
 loop-again : tie.Need-loop-again Inv-loop μ-loop
-loop-again c = not-here {A = ℕ} 0 _ (unknown _) 0 _ (c .before .before .before .before .loop .inv) (c .before .before .before .loop-test .taken) (known _ _ _ (c .before .wide .ensures) (c .if1 .left))
+loop-again c = not-here {A = ℕ} 0 _ (unknown _) 0 _ (c .before .before .before .before .loop .inv) (c .before .before .before .loop-test .taken) (known _ _ _ (c .before .index .ensures) (c .if1 .left))
 
 returns-2 : tie.Need-returns-2 Inv-loop μ-loop
 returns-2 c = nowhere {A = ℕ} 0 _ (unknown _) 0 _ (c .before .loop .inv) (c .loop-test .left)
@@ -47,8 +47,8 @@ unknown-link-spec =
     Inv-loop
     μ-loop
     loop-holds
-    shared-slice-read-wide
-    wide-requires
+    shared-slice-read-index
+    index-requires
     returns
     add-j
     loop-less

@@ -23,7 +23,7 @@ short-requires : tie.Need-short-requires Inv-loop μ-loop
 short-requires c κs = search needs
 
 frame-free-requires : tie.Need-frame-free-requires Inv-loop μ-loop
-frame-free-requires c κs = c .before .before .pre .passed 0 (c .before .before .pre .some-hop) .few-frames
+frame-free-requires c κs = c .before .before .pre .each 0 (c .before .before .pre .some-hop) .few-frames
 
 returns : tie.Need-returns Inv-loop μ-loop
 returns c = first-unfit _ _ _ _ (c .before .before .before .before .pre) _ (c .before .before .short .ensures) _ (c .before .frame-free .ensures) (not-true _ (c .if1 .taken))
@@ -47,7 +47,7 @@ step-requires : tie.Need-step-requires Inv-loop μ-loop
 step-requires c κs =
     let s = c .before .before .before .before .before .before .before .before in
     let l = c .before .before .before .loop in
-    (s .pre .cycle, l .inv .inside, l .inv .few, s .pre .passed (l .j) (c .before .before .loop-test .taken))
+    (s .pre .cycle, l .inv .inside, l .inv .few, s .pre .each (l .j) (c .before .before .loop-test .taken))
 
 enum-told : tie.Need-enum-told Inv-loop μ-loop
 enum-told c = search needs
