@@ -1,5 +1,5 @@
 -- The answer of a route in document 01's words. Assumes nothing.
-use mathlib.Core.Path.{_≡_, refl, sym, subst}
+use mathlib.Core.Path.{refl, sym, subst}
 use mathlib.Core.List.{List, [], _∷_}
 use Prim.Native.Nat.{ℕ, _≤_}
 use native.Mathlib.Omega.{arith}
@@ -8,7 +8,7 @@ use Rattle.lists.proofs.Order.{precedes-head}
 use Rattle.trellis.specs.Answer.{Answer, found, blocked, answer}
 use Rattle.trellis.proofs.Forwards.{Reads, answer-reads, reads-only}
 use Rattle.forwarding.specs.declared.Hop.{Hop}
-use Rattle.forwarding.specs.Schedule.{IsSchedule, scheduleDelay, scheduleKey, goingBack, LeastSchedule}
+use Rattle.forwarding.specs.Schedule.{IsSchedule, scheduleDelay, scheduleKey, goingBack}
 use Rattle.forwarding.specs.Route.{routeTrellis, transitions, routeAnswer}
 use Rattle.forwarding.specs.Answers.{RouteAnswer, AnswerRules, AnswerUnique, FoundGiven, BlockedNone, NoneBlocked}
 use Rattle.forwarding.proofs.Schedules.{schedules-paths}

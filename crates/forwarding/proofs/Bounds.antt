@@ -11,7 +11,7 @@ use Rattle.trellis.proofs.Bound.{step-bound}
 use Rattle.forwarding.specs.declared.Hop.{Hop}
 use Rattle.forwarding.specs.Forwarding.{choices}
 use Rattle.forwarding.specs.Hops.{AllReady}
-use Rattle.forwarding.specs.Schedule.{GoesOn, IsSchedule, onwardDelay, scheduleDelay, boundFrom}
+use Rattle.forwarding.specs.Schedule.{GoesOn, onwardDelay, boundFrom}
 use Rattle.forwarding.specs.Route.{starts, stage, stages}
 use Rattle.forwarding.specs.Answers.{CountBound, DelayOneHop, DelayBound}
 use Rattle.forwarding.proofs.Transitions.{allowed-cap, allowed-narrow}

@@ -1,7 +1,7 @@
 -- The hold is the only number from the least hold on that fits; the frames within a range of holds are counted. Assumes nothing.
 use mathlib.Core.Path.{_≡_, refl, sym, _∙_, ap, subst}
 use mathlib.Core.Bool.{Bool, true, false}
-use mathlib.Core.Logic.{_⊎_, ⊎-elim}
+use mathlib.Core.Logic.{⊎-elim}
 use Prim.Native.Nat.{ℕ, zero, suc, _+_, _-_, _*_, _%_, _<_, _≤_}
 use native.Mathlib.Nat.{mod-lt, mod-eq-of-lt, add-mod-right, mod-eq-sub-mod, mod-add-mod, div-lt-iff-lt-mul, mul-le-mul-right, mul-pos, mul-comm, add-assoc, add-comm, eq-or-lt-of-le}
 use native.Mathlib.Decide.{decLt}

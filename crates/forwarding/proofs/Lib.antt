@@ -6,3 +6,4 @@ pub mod Bounds
 pub mod Answers
 pub mod ByHops
 pub mod Starred
+pub mod Counted

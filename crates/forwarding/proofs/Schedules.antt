@@ -1,5 +1,5 @@
 -- The schedules of a route are the paths of its trellis, with their delays and keys; and the test of a schedule. Assumes nothing.
-use mathlib.Core.Path.{_≡_, refl, sym, _∙_, ap, ap₂}
+use mathlib.Core.Path.{_≡_, refl, _∙_, ap, ap₂}
 use mathlib.Core.Bool.{Bool, true, false, false≢true, _&&_}
 use mathlib.Core.List.{List, [], _∷_, _++_, reverse, append-nil}
 use Prim.Native.Nat.{ℕ, _+_, _<_}
@@ -7,8 +7,7 @@ use native.Mathlib.Omega.{arith}
 use lib.Dec.{ltb}
 use borrow.Author.Tests.{lt-ltb, ltb-true}
 use Rattle.lists.proofs.Count.{and-both, both-and}
-use Rattle.trellis.specs.Trellis.{Reach, never, after, costOf, entry, grow, IsPath, pathCost, pathKey}
-use Rattle.trellis.specs.Forwards.{ArePaths}
+use Rattle.trellis.specs.Trellis.{never, after, costOf, entry, IsPath, pathCost, pathKey}
 use Rattle.trellis.proofs.Forwards.{Onward, onwardCost, onwardBack, go-on, go-on-cost, go-on-key, FromStart, from-start}
 use Rattle.forwarding.specs.declared.Hop.{Hop}
 use Rattle.forwarding.specs.Forwarding.{isFree, holdInto, isAllowed, delay}

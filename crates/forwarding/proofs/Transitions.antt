@@ -9,7 +9,7 @@ use borrow.Author.Tests.{leb-true, leb-false, le-leb, lt-ltb, le-ltb}
 use Rattle.lists.specs.Count.{oneIf, countBelow}
 use Rattle.lists.proofs.Count.{sum-le, and-both, and-left-le}
 use Rattle.forwarding.specs.declared.Hop.{Hop}
-use Rattle.forwarding.specs.Forwarding.{referenceInto, leastHold, hold, isFree, mayHold, holdInto, isAllowed, choices, delay, frameTime}
+use Rattle.forwarding.specs.Forwarding.{referenceInto, leastHold, isFree, mayHold, holdInto, isAllowed, choices, delay, frameTime}
 use Rattle.forwarding.specs.Hops.{HopReady}
 use Rattle.forwarding.specs.Inner.{Delayed}
 use Rattle.forwarding.proofs.Holds.{choices-range, choices-in, count-holds}

@@ -7,10 +7,10 @@ use native.Mathlib.Nat.{mul-div-le}
 use native.Mathlib.Numerals.{add-one}
 use native.Mathlib.Omega.{arith}
 use lib.ListN.{getD, length, replicate, length-replicate}
-use Rattle.trellis.specs.Trellis.{Reach, after, Stage}
 use Rattle.lists.specs.Count.{countBelow}
-use Rattle.trellis.specs.Paths.{reached}
 use Rattle.lists.proofs.Count.{sum-bound, count-le}
+use Rattle.trellis.specs.Trellis.{Reach, after, Stage}
+use Rattle.trellis.specs.Paths.{reached}
 use Rattle.trellis.proofs.Survivor.{Best, nobody, better, bestOf}
 use Rattle.forwarding.specs.declared.Hop.{Hop}
 use Rattle.forwarding.specs.Forwarding.{frameTime}

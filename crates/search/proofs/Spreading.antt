@@ -15,7 +15,7 @@ use Rattle.trellis.specs.Paths.{reached}
 use Rattle.trellis.proofs.Survivor.{Offer, none, offer, offerIf, offerOf, Best, better}
 use Rattle.words.specs.Word.{bitOf}
 use Rattle.forwarding.specs.declared.Hop.{Hop}
-use Rattle.forwarding.specs.Forwarding.{referenceInto, leastHold, gap, holdInto, mayHold, isFree, choices}
+use Rattle.forwarding.specs.Forwarding.{referenceInto, leastHold, gap, holdInto, isFree, choices}
 use Rattle.forwarding.proofs.Holds.{gap-meets, gap-only, into-gap, test-shift}
 use Rattle.forwarding.proofs.Transitions.{may-choice}
 use Rattle.search.specs.Inner.{Rows, Sized, wayAt, stageBy, Offered, Visited}

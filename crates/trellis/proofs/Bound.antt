@@ -6,10 +6,10 @@ use Prim.Native.Nat.{ℕ, _+_, _*_, _<_, _≤_}
 use native.Mathlib.Nat.{le-trans}
 use native.Mathlib.Omega.{arith}
 use lib.ListN.{getD}
-use Rattle.trellis.specs.Trellis.{Reach, never, after, costOf, Stage, Trellis, entry, _▸_, width, Leads, total}
 use Rattle.lists.specs.Count.{oneIf, countBelow}
-use Rattle.trellis.specs.Considered.{endsPath, considered}
 use Rattle.lists.proofs.Count.{sum-le, sum-bound, and-right-le}
+use Rattle.trellis.specs.Trellis.{Reach, never, after, costOf, Stage, Trellis, entry, _▸_, width, Leads, total}
+use Rattle.trellis.specs.Considered.{endsPath, considered}
 use Rattle.trellis.proofs.Survivor.{row, back}
 use Rattle.trellis.proofs.Optimal.{Survives, survives}
 

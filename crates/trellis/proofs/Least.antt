@@ -2,16 +2,16 @@
 use mathlib.Core.Path.{_≡_, refl, sym, _∙_, ap₂, subst}
 use mathlib.Core.Bool.{Bool, true, false, cond}
 use mathlib.Core.List.{List, [], _∷_, reverse-reverse, List·Memᴰ, List·Memᴰ·head, List·Memᴰ·tail, List·Memᴰ·cases-cons, List·Memᴰ·not-nil}
-use mathlib.Core.Logic.{_⊎_, inl, inr, ⊎-elim}
+use mathlib.Core.Logic.{inl, inr, ⊎-elim}
 use Prim.Native.Nat.{ℕ, _+_}
 use native.Mathlib.Omega.{arith}
 use lib.ListN.{getD, length}
 use Rattle.lists.specs.Order.{Precedes, precedes}
+use Rattle.lists.proofs.Order.{precedes-refl, precedes-trans, test-precedes, test-follows}
 use Rattle.trellis.specs.Trellis.{Reach, never, after, Trellis, entry, _▸_, Leads, total, behind, key, IsPath, pathKey}
 use Rattle.trellis.specs.Paths.{reached, allPaths}
 use Rattle.trellis.specs.Considered.{endsPath, considered}
 use Rattle.trellis.specs.Answer.{blocked, leastBy, answerFrom, answer, IsAnswer, AnswerRight}
-use Rattle.lists.proofs.Order.{precedes-refl, precedes-trans, test-precedes, test-follows}
 use Rattle.trellis.proofs.Paths.{path-below, path-listed, listed-path, ends-path, path-ends}
 use Rattle.trellis.proofs.Survivor.{Offer, none, offer, Best, nobody, best, row, back, lastOffer, final, scanned, answerOf, survivor}
 use Rattle.trellis.proofs.Select.{IsBest, is-best, offer-not-none}

@@ -2,9 +2,9 @@
 use mathlib.Core.Path.{_≡_, refl, sym, _∙_, ap, ap₂}
 use mathlib.Core.List.{List, [], _∷_, reverse, reverse-reverse}
 use Prim.Native.Nat.{ℕ, _≤_}
-use Rattle.trellis.specs.Trellis.{Trellis, entry, _▸_, Leads, total, behind, IsPath, pathCost, pathKey, Least}
-use Rattle.trellis.specs.Answer.{Answer, found, blocked, IsAnswer, AnswerOnly}
 use Rattle.lists.proofs.Order.{precedes-antisym, precedes-head}
+use Rattle.trellis.specs.Trellis.{Trellis, entry, _▸_, Leads, total, behind, IsPath, pathCost, pathKey, Least}
+use Rattle.trellis.specs.Answer.{found, blocked, AnswerOnly}
 
 -- a path is known by its key
 same-before : (t : Trellis) (i j : ℕ) (p q : List ℕ) → Leads t i p → Leads t j q → behind t i p ≡ behind t j q → p ≡ q

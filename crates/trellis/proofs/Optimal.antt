@@ -2,7 +2,7 @@
 use mathlib.Core.Path.{_≡_, refl, sym, _∙_, ap, subst}
 use mathlib.Core.Bool.{Bool, true, false}
 use mathlib.Core.List.{List, [], _∷_}
-use mathlib.Core.Logic.{_⊎_, inl, inr, ⊎-elim}
+use mathlib.Core.Logic.{inl, inr, ⊎-elim}
 use Prim.Native.Nat.{ℕ, zero, suc, _+_, _<_, _≤_}
 use native.Mathlib.Nat.{eq-or-lt-of-le, le-of-suc-le-suc, not-suc-le-zero}
 use native.Mathlib.Omega.{arith}
@@ -10,8 +10,8 @@ use native.Mathlib.Decide.{decLt}
 use lib.ListN.{getD, length, length-append, List·getD-eq-default, List·getD-append}
 use lib.Seq.{getD-at}
 use Rattle.lists.specs.Order.{Precedes}
-use Rattle.trellis.specs.Trellis.{Reach, never, after, Stage, Trellis, entry, _▸_, width, Leads, total, behind, key}
 use Rattle.lists.proofs.Order.{precedes-refl, precedes-trans, precedes-add, precedes-put}
+use Rattle.trellis.specs.Trellis.{Reach, never, after, Stage, Trellis, entry, _▸_, width, Leads, total, behind, key}
 use Rattle.trellis.proofs.Paths.{path-below}
 use Rattle.trellis.proofs.Survivor.{tab, Offer, none, offer, Best, nobody, best, offerIf, offerOf, reachOf, nodeOf, into, row, back}
 use Rattle.trellis.proofs.Select.{IsBest, is-best, offer-not-none}

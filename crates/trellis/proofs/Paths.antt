@@ -1,18 +1,18 @@
 -- The list of all paths has each path, nothing else, and nothing twice; and `endsPath` says where paths end. Assumes nothing.
 use mathlib.Core.Path.{_≡_, refl, sym, _∙_, ap}
-use Rattle.lists.specs.Once.{EachOnce}
 use mathlib.Core.Bool.{Bool, true, false, _&&_}
 use mathlib.Core.List.{List, [], _∷_, _++_, map, List·Memᴰ, List·Memᴰ·head, List·Memᴰ·tail, Memᴰ·append-left, Memᴰ·append-right, List·Memᴰ·append-cases, List·Memᴰ·eq-of-singleton, List·Memᴰ·not-nil, Memᴰ·map, Memᴰ·of-map, Memᴰ·cast, head-eq-of-cons-eq, tail-eq-of-cons-eq}
-use mathlib.Core.Logic.{_⊎_, ⊎-elim}
-use Prim.Native.Nat.{ℕ, zero, suc, _+_, _<_}
+use mathlib.Core.Logic.{⊎-elim}
+use Prim.Native.Nat.{ℕ, zero, suc, _<_}
 use native.Mathlib.Nat.{eq-or-lt-of-le, le-of-suc-le-suc, not-suc-le-zero}
 use native.Mathlib.Omega.{arith}
 use lib.Dec.{ltb}
 use borrow.Author.Tests.{ltb-true, lt-ltb}
-use Rattle.trellis.specs.Trellis.{Reach, never, after, Trellis, entry, _▸_, width, Leads, IsPath}
-use Rattle.trellis.specs.Paths.{reached, listIf, gather, pathsTo, allPaths, ListsAll, AllPathsListed}
-use Rattle.trellis.specs.Considered.{hasMember, endsPath}
+use Rattle.lists.specs.Once.{EachOnce}
 use Rattle.lists.proofs.Count.{and-both, both-and}
+use Rattle.trellis.specs.Trellis.{Reach, never, after, Trellis, entry, _▸_, width, Leads, IsPath}
+use Rattle.trellis.specs.Paths.{reached, listIf, gather, pathsTo, allPaths, AllPathsListed}
+use Rattle.trellis.specs.Considered.{hasMember, endsPath}
 
 pub reached-some : (x : Reach) → reached x ≡ true → (c : ℕ) × (x ≡ after c)
 reached-some never e = absurd (let z : _≡_ {A = ℕ} 0 1 = cc in omega arith)
@@ -26,14 +26,14 @@ path-below (t ▸ st) i [] h = absurd h
 path-below (t ▸ st) i (k ∷ p) h = h .0
 
 -- members
-listed-if-in {ℓ} : {A : Type ℓ} {x : A} (b : Bool) (l : List A) → b ≡ true → List·Memᴰ x l → List·Memᴰ x (listIf b l)
+pub listed-if-in {ℓ} : {A : Type ℓ} {x : A} (b : Bool) (l : List A) → b ≡ true → List·Memᴰ x l → List·Memᴰ x (listIf b l)
 listed-if-in b l e m = rw e m
 
-listed-if-of {ℓ} : {A : Type ℓ} {x : A} (b : Bool) (l : List A) → List·Memᴰ x (listIf b l) → (b ≡ true) × List·Memᴰ x l
+pub listed-if-of {ℓ} : {A : Type ℓ} {x : A} (b : Bool) (l : List A) → List·Memᴰ x (listIf b l) → (b ≡ true) × List·Memᴰ x l
 listed-if-of true l m = (refl, m)
 listed-if-of false l m = absurd (List·Memᴰ·not-nil m)
 
-gather-in {ℓ} : {A : Type ℓ} {x : A} (n : ℕ) (g : ℕ → List A) (k : ℕ) → k < n → List·Memᴰ x (g k) → List·Memᴰ x (gather n g)
+pub gather-in {ℓ} : {A : Type ℓ} {x : A} (n : ℕ) (g : ℕ → List A) (k : ℕ) → k < n → List·Memᴰ x (g k) → List·Memᴰ x (gather n g)
 gather-in zero g k h m = absurd (not-suc-le-zero h)
 gather-in (suc n) g k h m =
     ⊎-elim (λ e. Memᴰ·append-right (gather n g) (rw e at m)) (λ l. Memᴰ·append-left (g n) (gather-in n g k l m)) (eq-or-lt-of-le (le-of-suc-le-suc h))
@@ -43,7 +43,7 @@ pub record InSome {ℓ} {A : Type ℓ} (n : ℕ) (g : ℕ → List A) (x : A) : 
   pub below : place < n
   pub there : List·Memᴰ x (g place)
 
-gather-of {ℓ} : {A : Type ℓ} {x : A} (n : ℕ) (g : ℕ → List A) → List·Memᴰ x (gather n g) → InSome n g x
+pub gather-of {ℓ} : {A : Type ℓ} {x : A} (n : ℕ) (g : ℕ → List A) → List·Memᴰ x (gather n g) → InSome n g x
 gather-of zero g m = absurd (List·Memᴰ·not-nil m)
 gather-of (suc n) g m =
     ⊎-elim (λ l. let w = gather-of n g l in record { place = w .place; below = omega (arith, w .below); there = w .there })
@@ -81,14 +81,14 @@ once-append (x ∷ xs) ys a b d = (
   once-append xs ys (a .1) b (λ y l r. d y (List·Memᴰ·tail l) r),
 )
 
-once-gather {ℓ} : {A : Type ℓ} (n : ℕ) (g : ℕ → List A) → ((k : ℕ) → EachOnce (g k))
+pub once-gather {ℓ} : {A : Type ℓ} (n : ℕ) (g : ℕ → List A) → ((k : ℕ) → EachOnce (g k))
     → ((j k : ℕ) (x : A) → List·Memᴰ x (g j) → List·Memᴰ x (g k) → j ≡ k) → EachOnce (gather n g)
 once-gather zero g o d = tt
 once-gather (suc n) g o d =
     once-append (gather n g) (g n) (once-gather n g o d) (o n)
     (λ x l r. let w = gather-of n g l in let e : w .place ≡ n = d (w .place) n x (w .there) r in omega (arith, w .below))
 
-once-if {ℓ} : {A : Type ℓ} (b : Bool) (l : List A) → EachOnce l → EachOnce (listIf b l)
+pub once-if {ℓ} : {A : Type ℓ} (b : Bool) (l : List A) → EachOnce l → EachOnce (listIf b l)
 once-if true l o = o
 once-if false l o = tt
 

@@ -4,8 +4,8 @@ use mathlib.Core.List.{List, [], _∷_, _++_, reverse}
 use Prim.Native.Nat.{ℕ, zero, suc, _+_}
 use lib.Dec.{ltb, eqb}
 use lib.ListN.{getD, length}
-use Rattle.trellis.specs.Trellis.{Reach, never, after, Stage, Trellis, entry, _▸_}
 use Rattle.lists.specs.Count.{sumBelow, countBelow}
+use Rattle.trellis.specs.Trellis.{Reach, never, after, Stage, Trellis, entry, _▸_}
 use Rattle.trellis.specs.Paths.{reached}
 use Rattle.trellis.specs.Answer.{Answer, found, blocked}
 

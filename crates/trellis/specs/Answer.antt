@@ -1,6 +1,6 @@
 -- The answer that the rules ask for: the least of the list of all paths, with no search in it. Assumes nothing.
 use mathlib.Core.Path.{_≡_}
-use mathlib.Core.Bool.{Bool, true, false, cond}
+use mathlib.Core.Bool.{cond}
 use mathlib.Core.List.{List, [], _∷_, reverse}
 use Prim.Native.Nat.{ℕ}
 use Rattle.lists.specs.Order.{precedes}

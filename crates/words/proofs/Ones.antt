@@ -1,7 +1,7 @@
 -- The count of ones is the frames counted one by one, for every number of frames together. Assumes nothing.
 use mathlib.Core.Path.{_≡_, refl, ap, _∙_}
 use mathlib.Core.Bool.{Bool, true, false}
-use Prim.Native.Nat.{ℕ, zero, suc, _*_, _^_, _<_}
+use Prim.Native.Nat.{ℕ, zero, suc, _*_, _^_}
 use native.Mathlib.Nat.{add-comm}
 use lib.Count.{ones, onesIn, ones-cat}
 use Rattle.lists.specs.Count.{oneIf, countBelow}

@@ -1,8 +1,8 @@
 -- `forwarding::choices` meets its contract. Assumes nothing.
-use borrow.Author.Needs.{needs}
 use mathlib.Core.Path.{ap}
 use Prim.Native.Nat.{ℕ, _+_, _-_}
 use native.Mathlib.Omega.{arith}
+use borrow.Author.Needs.{needs}
 use Rattle.forwarding.specs.Forwarding.{choices}
 use Rattle.forwarding.proofs.Holds.{least-range}
 use Rattle.forwarding.proofs.choices.Statement.{statement}

@@ -1,6 +1,6 @@
 -- `forwarding::hold_into` meets its contract. Assumes nothing.
-use borrow.Author.Needs.{needs}
 use native.Mathlib.Omega.{arith}
+use borrow.Author.Needs.{needs}
 use Rattle.forwarding.proofs.Holds.{from-in, from-least, hold-in, hold-counted}
 use Rattle.forwarding.proofs.hold_into.Statement.{statement}
 use Rattle.forwarding.proofs.hold_into.Tie as tie

@@ -1,8 +1,8 @@
 -- `forwarding::reference_frame` meets its contract. Assumes nothing.
-use borrow.Author.Needs.{needs}
 use Prim.Native.Nat.{_+_}
 use native.Mathlib.Nat.{mul-le-mul, mul-pos}
 use native.Mathlib.Omega.{arith}
+use borrow.Author.Needs.{needs}
 use Rattle.forwarding.specs.Forwarding.{reference, referenceInto}
 use Rattle.forwarding.proofs.reference_frame.Statement.{statement}
 use Rattle.forwarding.proofs.reference_frame.Tie as tie

@@ -1,9 +1,9 @@
 -- `search::advance` meets its contract. The invariant: the frames below k are visited. Assumes nothing.
-use borrow.Author.Needs.{needs}
 use mathlib.Core.Path.{_≡_, _∙_, ap, subst}
 use Prim.Native.Nat.{ℕ, _-_, _≤_}
 use native.Mathlib.Omega.{arith}
 use lib.ListN.{getD}
+use borrow.Author.Needs.{needs}
 use Rattle.trellis.specs.Trellis.{Stage}
 use Rattle.forwarding.specs.Route.{stage}
 use Rattle.search.specs.Inner.{rows, cellReach, stageBy, Advanced}

@@ -1,9 +1,9 @@
 -- `search::comes_before` meets its contract. Assumes nothing.
-use borrow.Author.Needs.{needs}
 use mathlib.Core.Path.{_∙_, ap}
 use Prim.Native.Nat.{ℕ}
 use native.Mathlib.Omega.{arith}
 use lib.Dec.{ltb}
+use borrow.Author.Needs.{needs}
 use Rattle.search.proofs.Ways.{taken-first, taken-less, taken-more, taken-equal}
 use Rattle.search.proofs.comes_before.Statement.{statement}
 use Rattle.search.proofs.comes_before.Tie as tie

@@ -1,9 +1,9 @@
 -- `search::keep` meets its contract. Assumes nothing.
-use borrow.Author.Needs.{needs}
 use mathlib.Core.Path.{sym, _∙_}
 use Prim.Native.Nat.{_+_}
 use native.Mathlib.Omega.{arith}
 use lib.ListN.{getD}
+use borrow.Author.Needs.{needs}
 use Rattle.search.specs.Inner.{rows}
 use Rattle.search.proofs.Ways.{offered-taken, offered-left}
 use Rattle.search.proofs.keep.Statement.{statement}

@@ -1,9 +1,9 @@
 -- `search::spread` meets its contract. The invariant: the first d holds are done, and i is the frame that the next one leads to. Assumes nothing.
-use borrow.Author.Needs.{needs}
 use mathlib.Core.Path.{_≡_, sym, _∙_, ap, ap₂}
-use Prim.Native.Nat.{ℕ, _+_, _-_, _*_, _%_, _<_, _≤_}
+use Prim.Native.Nat.{ℕ, _+_, _-_, _%_, _<_, _≤_}
 use native.Mathlib.Nat.{mod-lt, mod-eq-of-lt, add-zero, mul-le-mul-right}
 use native.Mathlib.Omega.{arith}
+use borrow.Author.Needs.{needs}
 use Rattle.lists.proofs.Count.{count-le}
 use Rattle.trellis.specs.Trellis.{after}
 use Rattle.words.specs.Word.{bitOf}
@@ -35,8 +35,7 @@ reference-frame-requires c κs = search needs
 frame-on-requires : tie.Need-frame-on-requires Inv-loop μ-loop
 frame-on-requires c κs =
     let s = c .before .before .before in
-    let a = s .args in
-    (
+    let a = s .args in (
       omega (arith, c .reference-frame .ensures, reference-in (a .before) (a .hop) (a .k) (s .pre .0 .some-frame) (s .pre .0 .frame)),
       omega (arith, c .before .before .least-hold .ensures, least-in (a .hop) (s .pre .0 .some-frame)),
       s .pre .0 .few-frames,
