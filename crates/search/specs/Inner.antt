@@ -118,7 +118,7 @@ pub record Advanced (st : Stage) (cells : List ℕ) (K′ base : ℕ) (old next 
   pub long : length preds ≡ 512
 
 -- the first n cells of hop 0, by its free word: a free frame has delay 0
-pub record Begun (free n : ℕ) (cells : List ℕ) : Type 0 where
+pub record FirstRow (free n : ℕ) (cells : List ℕ) : Type 0 where
   pub long : length cells ≡ 64
   pub inside : (i : ℕ) → i < n → getD cells i 0 ≡ oneIf (bitOf free i)
   pub outside : (i : ℕ) → n ≤ i → getD cells i 0 ≡ 0

@@ -15,7 +15,7 @@ ghost use Rattle.words.specs.Word.{bitOf};
 ghost use Rattle.forwarding.specs.Hops.{Ready};
 ghost use Rattle.forwarding.specs.Route.{stage};
 ghost use Rattle.search.specs.Reading.{Answered};
-ghost use Rattle.search.specs.Inner.{cellReach, rows, wayOf, Sized, taken, Offered, stageBy, Leaving, Visited, Entering, Advanced, Begun, Sweeps, Swept, endOffers, chainOf, ChainFits};
+ghost use Rattle.search.specs.Inner.{cellReach, rows, wayOf, Sized, taken, Offered, stageBy, Leaving, Visited, Entering, Advanced, FirstRow, Sweeps, Swept, endOffers, chainOf, ChainFits};
 
 // What a search found: a schedule, with its delay and the count of transitions considered; or that there is none, with the count.
 pub enum Found {
@@ -207,7 +207,7 @@ fn first_cell(free: u64, i: u16) -> u16
 // The row of hop 0. Check 7: it has at most 64 frames.
 fn first_row(hop: Hop) -> [u16; 64]
     requires { ⌜ hop .frames ≤ 64 ⌝ }
-    ensures { λ r. ⌜ Begun (hop .free) (hop .frames) r ⌝ }
+    ensures { λ r. ⌜ FirstRow (hop .free) (hop .frames) r ⌝ }
 {
     let mut cells = [0u16; 64];
     let frames = hop.frames;
