@@ -65,7 +65,7 @@ fn network(text: &[u8]) -> Network {
 }
 
 // A number after a space.
-fn next(x: u16) {
+fn next(x: u32) {
     io::write_all(STDOUT_FILENO, b" ");
     io::print_decimal(STDOUT_FILENO, x as u64);
 }
@@ -76,7 +76,7 @@ fn show_frames(frames: [u8; 8], n: usize)
 {
     let mut j: usize = 0;
     while j < n {
-        next(frames[j] as u16);
+        next(frames[j] as u32);
         j += 1;
     }
 }
@@ -90,13 +90,13 @@ fn show(answer: Answer, n: usize)
     match reply {
         Reply::Schedule(delay, count) => {
             io::write_all(STDOUT_FILENO, b" ok");
-            next(delay.0);
+            next(delay.0 as u32);
             next(count);
             show_frames(frames, n);
         }
         Reply::Refused(refusal) => {
             io::write_all(STDOUT_FILENO, b" no");
-            next(refusals::number(refusal) as u16);
+            next(refusals::number(refusal) as u32);
             match refusal {
                 Refusal::NoSchedule(count) => next(count),
                 _ => {}

@@ -8,7 +8,6 @@ use native.Mathlib.Omega.{arith}
 use lib.ListN.{length, getD, take, length-append, length-map, length-take}
 use lib.Seq.{take-all}
 use borrow.Author.Tests.{le-ltb}
-use Rattle.trellis.specs.Walk.{Onward}
 use Rattle.places.specs.Places.{firsts}
 use Rattle.places.proofs.Firsts.{getD-firsts}
 use Rattle.refusals.specs.Refusals.{Ruling, Outcome, given, refused, pass}
@@ -18,10 +17,13 @@ use Rattle.network.specs.Checks.{networkCheck}
 use Rattle.network_file.specs.Reading.{readNetwork}
 use Rattle.network_file.proofs.RoundTrip.{read-passes}
 use Rattle.forwarding.specs.declared.Hop.{Hop}
-use Rattle.forwarding.specs.Checked.{Ready, noHop}
-use Rattle.forwarding.specs.Schedule.{stages, IsSchedule, boundFrom, transitions}
-use Rattle.forwarding.proofs.Bounds.{AllPassed, count-bound, delay-at-most}
-use Rattle.forwarding.proofs.ByHops.{all-passed}
+use Rattle.forwarding.specs.Forwarding.{choices}
+use Rattle.forwarding.specs.Hops.{noHop, AllReady, Ready}
+use Rattle.forwarding.specs.Schedule.{GoesOn, IsSchedule, boundFrom}
+use Rattle.forwarding.specs.Route.{transitions}
+use Rattle.forwarding.proofs.Holds.{choices-in}
+use Rattle.forwarding.proofs.Bounds.{count-bound, delay-bound}
+use Rattle.forwarding.proofs.ByHops.{all-ready}
 use Rattle.ledger.specs.Sessions.{Session, View, hopsOf, hopOf}
 use Rattle.ledger.specs.Routes.{routeCheck}
 use Rattle.ledger.specs.Sound.{intact}
@@ -49,54 +51,55 @@ cons-small : (k : ℕ) (is : List ℕ) → k < 100 → ((i : ℕ) → getD is i 
 cons-small k is h g zero = h
 cons-small k is h g (suc i) = g i
 
-onward-fits : (T K k : ℕ) (hs : List Hop) (is : List ℕ) → AllPassed T hs → Onward k (stages T K hs) is → (length is ≡ length hs) × ((i : ℕ) → getD is i 0 < 100)
-onward-fits T K k [] [] p o = (refl, λ i. omega arith)
-onward-fits T K k [] (i ∷ is) p o = absurd o
-onward-fits T K k (h ∷ hs) [] p o = absurd o
-onward-fits T K k (h ∷ hs) (i ∷ is) p o =
-    let r = onward-fits T (h .frames) i hs is (p .1) (o .2) in
+onward-fits : (T : ℕ) (g : Hop) (k : ℕ) (hs : List Hop) (is : List ℕ) → AllReady T hs → GoesOn g k hs is → (length is ≡ length hs) × ((i : ℕ) → getD is i 0 < 100)
+onward-fits T g k [] [] p o = (refl, λ i. omega arith)
+onward-fits T g k [] (i ∷ is) p o = absurd o
+onward-fits T g k (h ∷ hs) [] p o = absurd o
+onward-fits T g k (h ∷ hs) (i ∷ is) p o =
+    let r = onward-fits T h i hs is (p .1) (o .2) in
     (ap suc (r .0), cons-small i is (omega (arith, o .0, p .0 .few-frames)) (r .1))
 
-schedule-fits : (T : ℕ) (hops : List Hop) (fs : List ℕ) → AllPassed T hops → IsSchedule T hops fs → (length fs ≡ length hops) × ((i : ℕ) → getD fs i 0 < 100)
+schedule-fits : (T : ℕ) (hops : List Hop) (fs : List ℕ) → AllReady T hops → IsSchedule hops fs → (length fs ≡ length hops) × ((i : ℕ) → getD fs i 0 < 100)
 schedule-fits T [] fs p s = absurd s
 schedule-fits T (h ∷ hs) [] p s = absurd s
 schedule-fits T (h ∷ hs) (k ∷ is) p s =
-    let r = onward-fits T (h .frames) k hs is (p .1) (s .2) in
+    let r = onward-fits T h k hs is (p .1) (s .2) in
     (ap suc (r .0), cons-small k is (omega (arith, s .0, p .0 .few-frames)) (r .1))
 
-bound-most : (T K : ℕ) (hs : List Hop) → K ≤ 64 → AllPassed T hs → boundFrom K hs ≤ 4096 * length hs
-bound-most T K [] h p = omega arith
-bound-most T K (g ∷ hs) h p =
-    omega (arith, mul-le-mul {n₁ = K} {m₁ = g .range} {n₂ = 64} {m₂ = 64} h (omega (arith, p .0 .in-cycle, p .0 .few-frames)), bound-most T (g .frames) hs (p .0 .few-frames) (p .1))
+bound-most : (T : ℕ) (g : Hop) (hs : List Hop) → g .frames ≤ 64 → AllReady T hs → boundFrom g hs ≤ 4096 * length hs
+bound-most T g [] few p = omega arith
+bound-most T g (h ∷ hs) few p =
+    let most : choices h ≤ 64 = omega (arith, choices-in h (p .0 .in-cycle), p .0 .few-frames) in
+    omega (arith, mul-le-mul {n₁ = g .frames} {m₁ = choices h} {n₂ = 64} {m₂ = 64} few most, bound-most T h hs (p .0 .few-frames) (p .1))
 
-count-most : (T : ℕ) (hops : List Hop) → length hops ≤ 8 → AllPassed T hops → transitions T hops < 100000
+count-most : (T : ℕ) (hops : List Hop) → length hops ≤ 8 → AllReady T hops → transitions T hops < 100000
 count-most T [] l p = omega (arith, count-bound T [] p)
-count-most T (h ∷ hs) l p = omega (arith, count-bound T (h ∷ hs) p, bound-most T (h .frames) hs (p .0 .few-frames) (p .1))
+count-most T (h ∷ hs) l p = omega (arith, count-bound T (h ∷ hs) p, bound-most T h hs (p .0 .few-frames) (p .1))
 
 -- ---- the line of what is answered
 module _ (net : Topology) (ss : List Session) (ok : networkCheck net ≡ given pass) where
   hops-long : (route : List ℕ) → length (hopsOf net ss route) ≡ length route
   hops-long route = length-map route (hopOf net ss)
 
-  hops-passed : (route : List ℕ) → routeCheck net route ≡ given pass → AllPassed (net .ticks) (hopsOf net ss route)
-  hops-passed route e =
+  hops-ready : (route : List ℕ) → routeCheck net route ≡ given pass → AllReady (net .ticks) (hopsOf net ss route)
+  hops-ready route e =
       let r : Ready (net .ticks) (firsts 8 (hopsOf net ss route) noHop) (length route) = route-ready net ss route ok e in
       let n = hops-long route in
-      subst (AllPassed (net .ticks)) (take-all (length route) (hopsOf net ss route) (omega (arith, n)))
-      (all-passed (net .ticks) (hopsOf net ss route) (length route) (omega (arith, n)) (λ j h. rw (getD-firsts 8 j (hopsOf net ss route) noHop (omega (arith, r .few-hops))) at (r .passed j h)))
+      subst (AllReady (net .ticks)) (take-all (length route) (hopsOf net ss route) (omega (arith, n)))
+      (all-ready (net .ticks) (hopsOf net ss route) (length route) (omega (arith, n)) (λ j h. rw (getD-firsts 8 j (hopsOf net ss route) noHop (omega (arith, r .few-hops))) at (r .each j h)))
 
   route-line : (place letter : ℕ) → place < 100000 → (route : List ℕ) → routeCheck net route ≡ given pass → (r : Reply) → Served (net .ticks) (hopsOf net ss route) r
       → length (line place letter r) ≤ 22 + 3 * length route
   route-line place letter h route e r (scheduled held count q g) =
-      let p = hops-passed route e in
+      let p = hops-ready route e in
       let ready = route-ready net ss route ok e in
       let f = schedule-fits (net .ticks) (hopsOf net ss route) (held .frames) p (g .schedule) in
-      let d = delay-at-most (net .ticks) (hopsOf net ss route) (held .frames) (ready .cycle) (omega (arith, hops-long route, ready .few-hops)) p (g .schedule) in
+      let d = delay-bound (net .ticks) (hopsOf net ss route) (held .frames) (ready .cycle) (omega (arith, hops-long route, ready .few-hops)) p (g .schedule) in
       let c = count-most (net .ticks) (hopsOf net ss route) (omega (arith, hops-long route, ready .few-hops)) p in
       omega (arith, served-long place letter (held .delay) count (held .frames) h (omega (arith, d, g .delay-is)) (omega (arith, c, g .count-is)) (f .1), f .0, hops-long route)
   route-line place letter h route e r (none count q is nowhere) =
       let ready = route-ready net ss route ok e in
-      let c = count-most (net .ticks) (hopsOf net ss route) (omega (arith, hops-long route, ready .few-hops)) (hops-passed route e) in
+      let c = count-most (net .ticks) (hopsOf net ss route) (omega (arith, hops-long route, ready .few-hops)) (hops-ready route e) in
       omega (arith, blocked-long place letter count h (omega (arith, c, is)))
 
   call-line : (place letter : ℕ) → place < 100000 → (call : Call) (o : Ruling) → callCheck net ss call ≡ o → length (line place letter (unless o (served net ss call))) ≤ 22 + 3 * length (linksOf call)

@@ -13,7 +13,7 @@ use Rattle.refusals.specs.Refusals.{given, pass}
 use Rattle.refusals.specs.Refusals as outcome
 use Rattle.network.specs.Network.{Topology}
 use Rattle.forwarding.specs.declared.Delay.{Delay}
-use Rattle.forwarding.specs.Schedule.{routeAnswer}
+use Rattle.forwarding.specs.Route.{routeAnswer}
 use Rattle.search.specs.Reading.{reading}
 use Rattle.search.specs.declared.Answer as search
 use Rattle.ledger.specs.Lists.{keep}

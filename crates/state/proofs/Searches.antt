@@ -14,8 +14,8 @@ use Rattle.network.specs.Network.{topologyOf}
 use Rattle.network.specs.Checks.{networkCheck}
 use Rattle.network.specs.declared.Network.{Network}
 use Rattle.forwarding.specs.declared.Hop.{Hop}
-use Rattle.forwarding.specs.Checked.{Ready, noHop}
-use Rattle.forwarding.specs.Schedule.{routeAnswer}
+use Rattle.forwarding.specs.Hops.{noHop, Ready}
+use Rattle.forwarding.specs.Route.{routeAnswer}
 use Rattle.search.specs.Reading.{reading, Answered}
 use Rattle.search.specs.declared.Answer as search
 use Rattle.search.specs.declared.Found.{Found}

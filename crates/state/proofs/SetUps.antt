@@ -19,7 +19,7 @@ use Rattle.refusals.specs.declared.Verdict.the-variants as verdict
 use Rattle.network.specs.Network.{topologyOf}
 use Rattle.network.specs.declared.Network.{Network}
 use Rattle.forwarding.specs.declared.Delay.{Delay}
-use Rattle.forwarding.specs.Schedule.{routeAnswer}
+use Rattle.forwarding.specs.Route.{routeAnswer}
 use Rattle.search.specs.Reading.{reading}
 use Rattle.search.specs.declared.Answer as search
 use Rattle.search.specs.declared.Found.{Found}

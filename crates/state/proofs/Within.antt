@@ -6,7 +6,6 @@ use Prim.Native.Nat.{ℕ, zero, suc, _<_, _≤_}
 use native.Mathlib.Nat.{not-suc-le-zero, le-of-suc-le-suc}
 use native.Mathlib.Omega.{arith}
 use lib.ListN.{length, getD, List·getD-map}
-use Rattle.trellis.specs.Walk.{Onward}
 use Rattle.places.specs.Places.{firsts}
 use Rattle.places.proofs.Firsts.{length-firsts, getD-firsts}
 use Rattle.refusals.specs.Refusals.{given, pass}
@@ -14,9 +13,10 @@ use Rattle.network.specs.Network.{Topology, topologyOf}
 use Rattle.network.specs.Checks.{networkCheck}
 use Rattle.network.proofs.Tests.{count-passed, frames-passed}
 use Rattle.network.proofs.Checks.{network-good}
-use Rattle.forwarding.specs.Schedule.{stages, IsSchedule}
+use Rattle.forwarding.specs.declared.Hop.{Hop}
+use Rattle.forwarding.specs.Schedule.{GoesOn, IsSchedule}
 use Rattle.ledger.specs.Lists.{all}
-use Rattle.ledger.specs.Sessions.{Session, linkAt, hopsOf}
+use Rattle.ledger.specs.Sessions.{Session, linkAt, hopOf, hopsOf}
 use Rattle.ledger.specs.Sound.{goodSession, intact}
 use Rattle.ledger.proofs.Lists.{all-member, member-at}
 use Rattle.ledger.proofs.Intact.{Intact, intact-is, GoodSession, session-good}
@@ -30,18 +30,18 @@ use Rattle.state.specs.declared.State.{State}
 use Rattle.state.specs.State.{viewOf}
 
 -- ---- each frame of a schedule is one of its link
-module _ (net : Topology) (T : ℕ) where
-  onward-frame : (K k : ℕ) (route fs : List ℕ) → Onward k (stages T K (hopsOf net [] route)) fs → (j : ℕ) → j < length route → getD fs j 0 < linkAt net (getD route j 0) .frames
-  onward-frame K k [] fs o j h = absurd (not-suc-le-zero h)
-  onward-frame K k (l ∷ route) [] o j h = absurd o
-  onward-frame K k (l ∷ route) (f ∷ fs) o zero h = o .0
-  onward-frame K k (l ∷ route) (f ∷ fs) o (suc j) h = onward-frame (linkAt net l .frames) f route fs (o .2) j (le-of-suc-le-suc h)
+module _ (net : Topology) where
+  onward-frame : (g : Hop) (k : ℕ) (route fs : List ℕ) → GoesOn g k (hopsOf net [] route) fs → (j : ℕ) → j < length route → getD fs j 0 < linkAt net (getD route j 0) .frames
+  onward-frame g k [] fs o j h = absurd (not-suc-le-zero h)
+  onward-frame g k (l ∷ route) [] o j h = absurd o
+  onward-frame g k (l ∷ route) (f ∷ fs) o zero h = o .0
+  onward-frame g k (l ∷ route) (f ∷ fs) o (suc j) h = onward-frame (hopOf net [] l) f route fs (o .2) j (le-of-suc-le-suc h)
 
-  schedule-frame : (route fs : List ℕ) → IsSchedule T (hopsOf net [] route) fs → (j : ℕ) → j < length route → getD fs j 0 < linkAt net (getD route j 0) .frames
+  schedule-frame : (route fs : List ℕ) → IsSchedule (hopsOf net [] route) fs → (j : ℕ) → j < length route → getD fs j 0 < linkAt net (getD route j 0) .frames
   schedule-frame [] fs s j h = absurd s
   schedule-frame (l ∷ route) [] s j h = absurd s
   schedule-frame (l ∷ route) (f ∷ fs) s zero h = s .0
-  schedule-frame (l ∷ route) (f ∷ fs) s (suc j) h = onward-frame (linkAt net l .frames) f route fs (s .2) j (le-of-suc-le-suc h)
+  schedule-frame (l ∷ route) (f ∷ fs) s (suc j) h = onward-frame (hopOf net [] l) f route fs (s .2) j (le-of-suc-le-suc h)
 
 -- a good session keeps within the arrays
 module _ (net : Topology) (passed : networkCheck net ≡ given pass) where
@@ -52,7 +52,7 @@ module _ (net : Topology) (passed : networkCheck net ≡ given pass) where
         link = λ j h. omega (arith, known j h, count-passed (length (net .links)) (network-good net passed .count) .1, at-route j h);
         frame = λ j h.
             let f = frames-passed (net .ticks) (linkAt net (getD (sessionOf place .route) j 0) .frames) (link-passed net (getD (sessionOf place .route) j 0) passed (known j h) .frames) in
-            omega (arith, schedule-frame net (net .ticks) (sessionOf place .route) (sessionOf place .held .frames) (g .schedule) j (inside j h), f .1, getD-firsts (place .hops) j (place .frames) 0 h);
+            omega (arith, schedule-frame net (sessionOf place .route) (sessionOf place .held .frames) (g .schedule) j (inside j h), f .1, getD-firsts (place .hops) j (place .frames) 0 h);
       }
     where
       inside : (j : ℕ) → j < place .hops → j < length (sessionOf place .route)

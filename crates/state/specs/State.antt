@@ -9,7 +9,7 @@ use Rattle.refusals.specs.Refusals.{refusalNumber, refusalCount, Outcome, given
 use Rattle.refusals.specs.declared.Verdict.{Verdict}
 use Rattle.refusals.specs.declared.Verdict.the-variants as verdict
 use Rattle.network.specs.Network.{Topology, topologyOf}
-use Rattle.forwarding.specs.Schedule.{routeAnswer}
+use Rattle.forwarding.specs.Route.{routeAnswer}
 use Rattle.search.specs.Reading.{reading}
 use Rattle.search.specs.declared.Answer as search
 use Rattle.ledger.specs.Sessions.{Session, View, hopsOf}

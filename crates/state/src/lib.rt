@@ -33,7 +33,7 @@ pub struct State {
 
 // What a set-up or a quote answers: a schedule with its delay and the count of transitions considered, or a refusal.
 pub enum Reply {
-    Schedule(Delay, u16),
+    Schedule(Delay, u32),
     Refused(Refusal),
 }
 

@@ -20,14 +20,14 @@ use Rattle.network.specs.Checks.{networkCheck}
 use Rattle.network.specs.declared.Network.{Network}
 use Rattle.forwarding.specs.declared.Hop.{Hop}
 use Rattle.forwarding.specs.declared.Delay.{Delay}
-use Rattle.forwarding.specs.Checked.{Ready, noHop}
+use Rattle.forwarding.specs.Hops.{noHop, Ready}
 use Rattle.forwarding.specs.Schedule.{isSchedule, scheduleDelay}
 use Rattle.ledger.specs.Lists.{all}
 use Rattle.ledger.specs.Sessions.{HeldWords, hopsOf}
 use Rattle.ledger.specs.Routes.{badLength, routeCheck}
 use Rattle.ledger.specs.Sound.{passes, goodSession}
 use Rattle.ledger.proofs.Lists.{eqb-flip}
-use Rattle.routes.specs.Hops.{hopsFrom, delayIf, delayIn}
+use Rattle.routes.specs.Hops.{hopsFrom, delayIf, walkedDelay}
 use Rattle.routes.specs.declared.Walked.{Walked}
 use Rattle.routes.specs.declared.Walked.the-variants.{Delayed, Unfit}
 use Rattle.table.specs.declared.Place.{Place}
@@ -84,15 +84,15 @@ module _ (network : Network) (place : Place) where
               ∙ ap (hopsOf (topologyOf network) []) same-route
 
           -- what a walk over the session's frames tells of it
-          module _ (w : Walked) (ew : delayIn w ≡ delayIf (network .ticks) (firsts (place .hops) laid noHop) (firsts (place .hops) (place .frames) 0)) where
-            walked-told : delayIn w ≡ delayIf (topologyOf network .ticks) (hopsOf (topologyOf network) [] (firsts (place .hops) (place .route) 0)) (firsts (place .hops) (place .frames) 0)
+          module _ (w : Walked) (ew : walkedDelay w ≡ delayIf (network .ticks) (firsts (place .hops) laid noHop) (firsts (place .hops) (place .frames) 0)) where
+            walked-told : walkedDelay w ≡ delayIf (topologyOf network .ticks) (hopsOf (topologyOf network) [] (firsts (place .hops) (place .route) 0)) (firsts (place .hops) (place .frames) 0)
             walked-told =
                 ew
                 ∙ ap (λ (T : ℕ). delayIf T (firsts (place .hops) laid noHop) (firsts (place .hops) (place .frames) 0)) (sym (ticks-told network))
                 ∙ ap (λ (hs : List Hop). delayIf (topologyOf network .ticks) hs (firsts (place .hops) (place .frames) 0)) walked-hops
 
             is-schedule : Bool
-            is-schedule = isSchedule (topologyOf network .ticks) (hopsOf (topologyOf network) [] (firsts (place .hops) (place .route) 0)) (firsts (place .hops) (place .frames) 0)
+            is-schedule = isSchedule (hopsOf (topologyOf network) [] (firsts (place .hops) (place .route) 0)) (firsts (place .hops) (place .frames) 0)
 
             its-delay : ℕ
             its-delay = scheduleDelay (topologyOf network .ticks) (hopsOf (topologyOf network) [] (firsts (place .hops) (place .route) 0)) (firsts (place .hops) (place .frames) 0)
@@ -103,7 +103,7 @@ module _ (network : Network) (place : Place) where
             pub session-walked : (d : Delay) → w ≡ Delayed d → eqb (d .0) (place .delay .0) ≡ goodSession (topologyOf network) (sessionOf place)
             unfolding goodSession is-schedule its-delay
             session-walked d q =
-                sym (by-walk is-schedule its-delay ∙ fits is-schedule its-delay (sym walked-told ∙ ap delayIn q))
+                sym (by-walk is-schedule its-delay ∙ fits is-schedule its-delay (sym walked-told ∙ ap walkedDelay q))
               where
                 fits : (b : Bool) (x : ℕ) → cond b (some x) none ≡ some (d .0) → (b && eqb (place .delay .0) x) ≡ eqb (d .0) (place .delay .0)
                 fits true x k = let z : x ≡ d .0 = cc in ap (eqb (place .delay .0)) z ∙ eqb-flip (place .delay .0) (d .0)
@@ -111,7 +111,7 @@ module _ (network : Network) (place : Place) where
 
             pub session-unfit : w ≡ Unfit → false ≡ goodSession (topologyOf network) (sessionOf place)
             unfolding goodSession is-schedule its-delay
-            session-unfit q = sym (by-walk is-schedule its-delay ∙ unfit is-schedule its-delay (sym walked-told ∙ ap delayIn q))
+            session-unfit q = sym (by-walk is-schedule its-delay ∙ unfit is-schedule its-delay (sym walked-told ∙ ap walkedDelay q))
               where
                 unfit : (b : Bool) (x : ℕ) → cond b (some x) none ≡ none → (b && eqb (place .delay .0) x) ≡ false
                 unfit true x k = cc

@@ -6,15 +6,15 @@ use borrow.Author.Tests.{eq-eqb, ne-eqb}
 use Rattle.ledger.specs.Sessions.{Held}
 use Rattle.ledger.specs.Calls.{schedule, freed, refusal}
 use Rattle.text.specs.Digits.{dec, spaced, spacedAll}
-use Rattle.text.specs.Lines.{countText, scheduleText, head, line, liveLine, networkLine}
+use Rattle.text.specs.Lines.{countText, scheduleText, lineHead, line, liveLine, networkLine}
 use Rattle.text.proofs.Chains.{joined}
 
 pub spaced-is : (n : ℕ) → spaced n ≡ joined ((32 ∷ []) ∷ dec n ∷ [])
 unfolding spaced joined
 spaced-is n = rw (append-nil (dec n))
 
-pub head-is : (place letter : ℕ) → head place letter ≡ joined (dec place ∷ (32 ∷ []) ∷ (letter ∷ []) ∷ [])
-unfolding head joined
+pub head-is : (place letter : ℕ) → lineHead place letter ≡ joined (dec place ∷ (32 ∷ []) ∷ (letter ∷ []) ∷ [])
+unfolding lineHead joined
 head-is place letter = refl
 
 pub schedule-is : (delay count : ℕ) (frames : List ℕ) → scheduleText delay count frames ≡ joined (spaced delay ∷ spaced count ∷ spacedAll frames ∷ [])
@@ -35,15 +35,15 @@ unfolding countText
 count-some number count h = rw (eq-eqb number 18 h)
 
 -- ---- the lines
-pub served-is : (place letter : ℕ) (held : Held) (count : ℕ) → line place letter (schedule held count) ≡ joined (head place letter ∷ (32 ∷ 111 ∷ 107 ∷ []) ∷ scheduleText (held .delay) count (held .frames) ∷ (10 ∷ []) ∷ [])
+pub served-is : (place letter : ℕ) (held : Held) (count : ℕ) → line place letter (schedule held count) ≡ joined (lineHead place letter ∷ (32 ∷ 111 ∷ 107 ∷ []) ∷ scheduleText (held .delay) count (held .frames) ∷ (10 ∷ []) ∷ [])
 unfolding line joined
 served-is place letter held count = refl
 
-pub freed-is : (place letter : ℕ) → line place letter freed ≡ joined (head place letter ∷ (32 ∷ 111 ∷ 107 ∷ 10 ∷ []) ∷ [])
+pub freed-is : (place letter : ℕ) → line place letter freed ≡ joined (lineHead place letter ∷ (32 ∷ 111 ∷ 107 ∷ 10 ∷ []) ∷ [])
 unfolding line joined
 freed-is place letter = refl
 
-pub refused-is : (place letter number count : ℕ) → line place letter (refusal number count) ≡ joined (head place letter ∷ (32 ∷ 110 ∷ 111 ∷ []) ∷ (spaced number ++ countText number count) ∷ (10 ∷ []) ∷ [])
+pub refused-is : (place letter number count : ℕ) → line place letter (refusal number count) ≡ joined (lineHead place letter ∷ (32 ∷ 110 ∷ 111 ∷ []) ∷ (spaced number ++ countText number count) ∷ (10 ∷ []) ∷ [])
 unfolding line joined
 refused-is place letter number count = refl
 

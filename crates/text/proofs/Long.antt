@@ -11,7 +11,7 @@ use lib.ListN.{length, getD, length-append}
 use lib.Dec.{ltb}
 use Rattle.ledger.specs.Calls.{schedule, freed, refusal}
 use Rattle.text.specs.Digits.{dec, spaced, spacedAll}
-use Rattle.text.specs.Lines.{countText, scheduleText, head, line, liveLine, networkLine}
+use Rattle.text.specs.Lines.{countText, scheduleText, lineHead, line, liveLine, networkLine}
 use Rattle.text.proofs.Digits.{dec-small, long-more}
 use Rattle.text.proofs.Chains.{joined}
 use Rattle.text.proofs.Lines.{head-is, schedule-is, count-none, count-some, served-is, freed-is, refused-is, live-is, network-is}
@@ -57,10 +57,10 @@ joined-long (x ∷ xs) = length-append x (joined xs) ∙ rw (joined-long xs)
 long-of : (whole : List ℕ) (xs : List (List ℕ)) → whole ≡ joined xs → length whole ≡ total xs
 long-of whole xs e = ap length e ∙ joined-long xs
 
-head-long : (place letter : ℕ) → place < 100000 → length (head place letter) ≤ 7
+head-long : (place letter : ℕ) → place < 100000 → length (lineHead place letter) ≤ 7
 head-long place letter h =
     let l : length (dec place) ≤ 5 = dec-long 4 place h in
-    omega (arith, long-of (head place letter) (dec place ∷ (32 ∷ []) ∷ (letter ∷ []) ∷ []) (head-is place letter))
+    omega (arith, long-of (lineHead place letter) (dec place ∷ (32 ∷ []) ∷ (letter ∷ []) ∷ []) (head-is place letter))
 
 schedule-long : (delay count : ℕ) (frames : List ℕ) → delay < 10000 → count < 100000 → ((i : ℕ) → getD frames i 0 < 100) → length (scheduleText delay count frames) ≤ 11 + 3 * length frames
 schedule-long delay count frames d c f =
@@ -72,20 +72,20 @@ schedule-long delay count frames d c f =
 pub served-long : (place letter delay count : ℕ) (frames : List ℕ) → place < 100000 → delay < 10000 → count < 100000 → ((i : ℕ) → getD frames i 0 < 100) → length (line place letter (schedule record { frames = frames; delay = delay } count)) ≤ 22 + 3 * length frames
 served-long place letter delay count frames p d c f = omega (
   arith,
-  long-of (line place letter (schedule record { frames = frames; delay = delay } count)) (head place letter ∷ (32 ∷ 111 ∷ 107 ∷ []) ∷ scheduleText delay count frames ∷ (10 ∷ []) ∷ []) (served-is place letter record { frames = frames; delay = delay } count),
+  long-of (line place letter (schedule record { frames = frames; delay = delay } count)) (lineHead place letter ∷ (32 ∷ 111 ∷ 107 ∷ []) ∷ scheduleText delay count frames ∷ (10 ∷ []) ∷ []) (served-is place letter record { frames = frames; delay = delay } count),
   head-long place letter p,
   schedule-long delay count frames d c f,
 )
 
 pub freed-long : (place letter : ℕ) → place < 100000 → length (line place letter freed) ≤ 11
-freed-long place letter p = omega (arith, long-of (line place letter freed) (head place letter ∷ (32 ∷ 111 ∷ 107 ∷ 10 ∷ []) ∷ []) (freed-is place letter), head-long place letter p)
+freed-long place letter p = omega (arith, long-of (line place letter freed) (lineHead place letter ∷ (32 ∷ 111 ∷ 107 ∷ 10 ∷ []) ∷ []) (freed-is place letter), head-long place letter p)
 
 refusal-long : (place letter number count : ℕ) → place < 100000 → number < 100 → length (line place letter (refusal number count)) ≤ 14 + length (countText number count)
 refusal-long place letter number count p n =
     let l : length (spaced number) ≤ 3 = spaced-long 1 number n in
     omega (
       arith,
-      long-of (line place letter (refusal number count)) (head place letter ∷ (32 ∷ 110 ∷ 111 ∷ []) ∷ (spaced number ++ countText number count) ∷ (10 ∷ []) ∷ []) (refused-is place letter number count),
+      long-of (line place letter (refusal number count)) (lineHead place letter ∷ (32 ∷ 110 ∷ 111 ∷ []) ∷ (spaced number ++ countText number count) ∷ (10 ∷ []) ∷ []) (refused-is place letter number count),
       length-append (spaced number) (countText number count),
       head-long place letter p,
     )

@@ -27,12 +27,12 @@ replyText freed = 32 ∷ 111 ∷ 107 ∷ []
 replyText (refusal number count) = (32 ∷ 110 ∷ 111 ∷ []) ++ (spaced number ++ countText number count)
 
 -- "A line has the call's place from 1; S, Q or R"
-unfoldable pub head : ℕ → ℕ → List ℕ
-head place letter = dec place ++ (32 ∷ letter ∷ [])
+unfoldable pub lineHead : ℕ → ℕ → List ℕ
+lineHead place letter = dec place ++ (32 ∷ letter ∷ [])
 
 -- A LINE: its place, its letter and what it answers
 unfoldable pub line : ℕ → ℕ → Reply → List ℕ
-line place letter r = head place letter ++ (replyText r ++ (10 ∷ []))
+line place letter r = lineHead place letter ++ (replyText r ++ (10 ∷ []))
 
 -- "The last line is the word live and the number of live sessions"
 unfoldable pub liveLine : ℕ → List ℕ

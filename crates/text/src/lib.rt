@@ -6,7 +6,7 @@ ghost use Prim.Native.Nat.{_+_, _≤_};
 ghost use lib.ListN.{length};
 ghost use Rattle.ledger.specs.Calls.{schedule, freed, refusal};
 ghost use Rattle.text.specs.Digits.{dec, spaced, spacedAll, Puts};
-ghost use Rattle.text.specs.Lines.{countText, scheduleText, head, line, liveLine, networkLine};
+ghost use Rattle.text.specs.Lines.{countText, scheduleText, lineHead, line, liveLine, networkLine};
 
 // One byte.
 fn put_byte(out: &mut [u8], at: usize, byte: u8) -> usize
@@ -70,8 +70,8 @@ fn put_all(out: &mut [u8], at: usize, ns: &[u8]) -> usize
 
 // A call's place and its letter.
 fn put_head(out: &mut [u8], at: usize, place: u32, letter: u8) -> usize
-    requires { ⌜ at + length (head place letter) ≤ length (now out) ⌝ }
-    ensures { λ r. ⌜ Puts at (head place letter) (now (out .entry)) (now (out .exit)) r ⌝ }
+    requires { ⌜ at + length (lineHead place letter) ≤ length (now out) ⌝ }
+    ensures { λ r. ⌜ Puts at (lineHead place letter) (now (out .entry)) (now (out .exit)) r ⌝ }
 {
     let p = put_decimal(out, at, place);
     let q = put_byte(out, p, 32);
@@ -79,24 +79,24 @@ fn put_head(out: &mut [u8], at: usize, place: u32, letter: u8) -> usize
 }
 
 // Delay, count and frames of a schedule.
-fn put_schedule(out: &mut [u8], at: usize, delay: u16, count: u16, frames: &[u8]) -> usize
+fn put_schedule(out: &mut [u8], at: usize, delay: u16, count: u32, frames: &[u8]) -> usize
     requires { ⌜ at + length (scheduleText delay count (now frames)) ≤ length (now out) ⌝ }
     ensures { λ r. ⌜ Puts at (scheduleText delay count (now (frames .entry))) (now (out .entry)) (now (out .exit)) r ⌝ }
 {
     let p = put_spaced(out, at, delay as u32);
-    let q = put_spaced(out, p, count as u32);
+    let q = put_spaced(out, p, count);
     put_all(out, q, frames)
 }
 
 // The count of a refusal, which only 18 has.
-fn put_count(out: &mut [u8], at: usize, number: u8, count: u16) -> usize
+fn put_count(out: &mut [u8], at: usize, number: u8, count: u32) -> usize
     requires { ⌜ at + length (countText number count) ≤ length (now out) ⌝ }
     ensures { λ r. ⌜ Puts at (countText number count) (now (out .entry)) (now (out .exit)) r ⌝ }
 {
     if number != 18 {
         return at;
     }
-    put_spaced(out, at, count as u32)
+    put_spaced(out, at, count)
 }
 
 // The line of a call that was answered by a schedule.
@@ -106,7 +106,7 @@ pub fn put_served(
     place: u32,
     letter: u8,
     delay: u16,
-    count: u16,
+    count: u32,
     frames: &[u8],
 ) -> usize
     requires { ⌜ at + length (line place letter (schedule record { frames = now frames; delay = delay } count)) ≤ length (now out) ⌝ }
@@ -128,7 +128,7 @@ pub fn put_freed(out: &mut [u8], at: usize, place: u32, letter: u8) -> usize
 }
 
 // The number of a refusal, and the count of 18.
-fn put_refusal(out: &mut [u8], at: usize, number: u8, count: u16) -> usize
+fn put_refusal(out: &mut [u8], at: usize, number: u8, count: u32) -> usize
     requires { ⌜ at + length (spaced number ++ countText number count) ≤ length (now out) ⌝ }
     ensures { λ r. ⌜ Puts at (spaced number ++ countText number count) (now (out .entry)) (now (out .exit)) r ⌝ }
 {
@@ -143,7 +143,7 @@ pub fn put_refused(
     place: u32,
     letter: u8,
     number: u8,
-    count: u16,
+    count: u32,
 ) -> usize
     requires { ⌜ at + length (line place letter (refusal number count)) ≤ length (now out) ⌝ }
     ensures { λ r. ⌜ Puts at (line place letter (refusal number count)) (now (out .entry)) (now (out .exit)) r ⌝ }
