@@ -14,7 +14,7 @@ reference k K K′ = ((k + 1) * K - 1) / K′
 unfoldable pub referenceInto : Hop → Hop → ℕ → ℕ
 referenceInto g h k = reference k (h .frames) (g .frames)
 
--- "The hold D is the only number from 1 to K with (r + D) mod K = i"
+-- a hold D from the reference frame r to the frame i: a "number from 1 to K with (r + D) mod K = i"
 pub record IsHold (K r i D : ℕ) : Type 0 where
   pub least : 1 ≤ D
   pub most : D ≤ K
@@ -28,7 +28,7 @@ leastHold h = 1
 unfoldable pub gap : ℕ → ℕ → ℕ → ℕ
 gap K a i = (i + K - a) % K
 
--- the hold as a number, where Y is the least
+-- the hold as a formula, where Y is the least (what it is: `HoldOnly`)
 unfoldable pub hold : ℕ → ℕ → ℕ → ℕ → ℕ
 hold Y K r i = Y + gap K ((r + Y) % K) i
 
@@ -36,7 +36,7 @@ hold Y K r i = Y + gap K ((r + Y) % K) i
 unfoldable pub holdInto : Hop → Hop → ℕ → ℕ → ℕ
 holdInto g h k i = hold (leastHold h) (h .frames) (referenceInto g h k) i
 
--- THE HOLD IS THE ONLY NUMBER THAT FITS
+-- "The hold D is the only number from 1 to K with (r + D) mod K = i": THE HOLD IS ONE, AND THERE IS NO OTHER
 abbrev pub HoldOnly : Type 0
 HoldOnly = (g h : Hop) (k i : ℕ) → i < h .frames
     → IsHold (h .frames) (referenceInto g h k) i (holdInto g h k i) × ((D : ℕ) → IsHold (h .frames) (referenceInto g h k) i D → D ≡ holdInto g h k i)

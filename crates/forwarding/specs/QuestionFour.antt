@@ -17,18 +17,18 @@ pub record Case : Type 0 where
 abbrev case : List Hop → Answer → Case
 case hops a = record { route = hops; expected = a }
 
--- "Braces name the only free frames": none, one or two; `all` is every frame free
-abbrev all : ℕ → Bool
-all i = true
+-- "Braces name the only free frames", one or two of them; or all frames are free, or none
+abbrev only : ℕ → ℕ → Bool
+only j i = eqb i j
 
-abbrev none : ℕ → Bool
-none i = false
+abbrev onlyTwo : ℕ → ℕ → ℕ → Bool
+onlyTwo j k i = eqb i j || eqb i k
 
-abbrev one : ℕ → ℕ → Bool
-one j i = eqb i j
+abbrev allFree : ℕ → Bool
+allFree i = true
 
-abbrev two : ℕ → ℕ → ℕ → Bool
-two j k i = eqb i j || eqb i k
+abbrev noneFree : ℕ → Bool
+noneFree i = false
 
 abbrev link : ℕ → ℕ → (ℕ → Bool) → Hop
 link K Z free = record { frames = K; range = Z; free = wordOf K free }
@@ -60,21 +60,21 @@ computed x = x
 -- row by row as in the document; W-201: "A{3} C{7} is now refused as blocked, A{3} C{10} has delay 9 and A{3} C{11} has delay 12"
 unfoldable pub starred : List Case
 starred =
-    case (A all ∷ []) (found 0 0 (0 ∷ []))
-    ∷ case (A none ∷ []) (blocked 0)
-    ∷ case (A all ∷ B all ∷ []) (found 6 16 (7 ∷ 0 ∷ []))
-    ∷ case (A (one 3) ∷ B (one 5) ∷ []) (found 12 1 (3 ∷ 5 ∷ []))
-    ∷ case (A (one 3) ∷ B (one 6) ∷ []) (blocked (computed 0))
-    ∷ case (A (one 3) ∷ B (one 3) ∷ []) (blocked (computed 0))
-    ∷ case (A (one 3) ∷ B8 (one 3) ∷ []) (found 48 (computed 1) (computed (3 ∷ 3 ∷ [])))
-    ∷ case (A (two 1 2) ∷ B (one 3) ∷ []) (found 6 2 (2 ∷ 3 ∷ []))
-    ∷ case (A (one 0) ∷ B (two 1 2) ∷ E (one 4) ∷ []) (found 24 3 (0 ∷ 2 ∷ 4 ∷ []))
-    ∷ case (A (one 0) ∷ B (two 1 2) ∷ E (one 3) ∷ []) (found 18 4 (0 ∷ 2 ∷ 3 ∷ []))
-    ∷ case (A (one 3) ∷ C (one 7) ∷ []) (blocked (computed 0))
-    ∷ case (A (one 3) ∷ C (one 10) ∷ []) (found 9 (computed 1) (computed (3 ∷ 10 ∷ [])))
-    ∷ case (A (one 3) ∷ C (one 11) ∷ []) (found 12 (computed 1) (computed (3 ∷ 11 ∷ [])))
-    ∷ case (A (one 3) ∷ C (one 6) ∷ []) (blocked (computed 0))
-    ∷ case (A (two 4 5) ∷ D (one 3) ∷ []) (found 12 2 (4 ∷ 3 ∷ []))
+    case (A allFree ∷ []) (found 0 0 (0 ∷ []))
+    ∷ case (A noneFree ∷ []) (blocked 0)
+    ∷ case (A allFree ∷ B allFree ∷ []) (found 6 16 (7 ∷ 0 ∷ []))
+    ∷ case (A (only 3) ∷ B (only 5) ∷ []) (found 12 1 (3 ∷ 5 ∷ []))
+    ∷ case (A (only 3) ∷ B (only 6) ∷ []) (blocked (computed 0))
+    ∷ case (A (only 3) ∷ B (only 3) ∷ []) (blocked (computed 0))
+    ∷ case (A (only 3) ∷ B8 (only 3) ∷ []) (found 48 (computed 1) (computed (3 ∷ 3 ∷ [])))
+    ∷ case (A (onlyTwo 1 2) ∷ B (only 3) ∷ []) (found 6 2 (2 ∷ 3 ∷ []))
+    ∷ case (A (only 0) ∷ B (onlyTwo 1 2) ∷ E (only 4) ∷ []) (found 24 3 (0 ∷ 2 ∷ 4 ∷ []))
+    ∷ case (A (only 0) ∷ B (onlyTwo 1 2) ∷ E (only 3) ∷ []) (found 18 4 (0 ∷ 2 ∷ 3 ∷ []))
+    ∷ case (A (only 3) ∷ C (only 7) ∷ []) (blocked (computed 0))
+    ∷ case (A (only 3) ∷ C (only 10) ∷ []) (found 9 (computed 1) (computed (3 ∷ 10 ∷ [])))
+    ∷ case (A (only 3) ∷ C (only 11) ∷ []) (found 12 (computed 1) (computed (3 ∷ 11 ∷ [])))
+    ∷ case (A (only 3) ∷ C (only 6) ∷ []) (blocked (computed 0))
+    ∷ case (A (onlyTwo 4 5) ∷ D (only 3) ∷ []) (found 12 2 (4 ∷ 3 ∷ []))
     ∷ []
 
 -- THE STARRED CASES: each answer of the table is the rule's

@@ -37,6 +37,7 @@ isSchedule [] fs = false
 isSchedule (h ∷ hs) [] = false
 isSchedule (h ∷ hs) (k ∷ is) = ltb k (h .frames) && (isFree h k && goesOn h k hs is)
 
+-- THE TEST TELLS SCHEDULES, and nothing else
 abbrev pub TestTells : Type 0
 TestTells = (hops : List Hop) (fs : List ℕ) → (isSchedule hops fs ≡ true) ↔ IsSchedule hops fs
 
@@ -68,7 +69,7 @@ pub record LeastSchedule (T : ℕ) (hops : List Hop) (fs : List ℕ) : Type 0 wh
   pub schedule : IsSchedule hops fs
   pub first : (gs : List ℕ) → IsSchedule hops gs → Precedes (scheduleKey T hops fs) (scheduleKey T hops gs)
 
--- a transition from frame `from` of hop j to frame `to` of hop j + 1
+-- a transition from frame `from` of hop number `hop` to frame `to` of the hop after it
 pub record Transition : Type 0 where
   pub hop : ℕ
   pub from : ℕ
