@@ -11,24 +11,24 @@ use Rattle.words.proofs.Words.{bit-word}
 use Rattle.words.proofs.Frames.{bit-free}
 use Rattle.network.specs.Network.{Topology}
 use Rattle.forwarding.specs.Forwarding.{isFree}
-use Rattle.ledger.specs.Sessions.{Session, heldIn, linkAt, freeOf, hopOf}
+use Rattle.ledger.specs.Sessions.{Session, heldIn, linkAt, freeOf, hopOf, FreeIs}
+
+-- "A frame is free when it is neither closed nor held by a live session"
+pub free-is : FreeIs
+unfolding isFree freeOf freeAt
+free-is net ss l i =
+    bit-free (linkAt net l .frames) (linkAt net l .closed) (wordOf (linkAt net l .frames) (heldIn ss l)) i
+    ∙ rw (bit-word (linkAt net l .frames) (heldIn ss l) i) (same (ltb i (linkAt net l .frames)))
+  where
+    same : (b : Bool)
+        → (b && (not (bitOf (linkAt net l .closed) i) && not (b && heldIn ss l i))) ≡ (b && (not (bitOf (linkAt net l .closed) i) && not (heldIn ss l i)))
+    same true = refl
+    same false = refl
 
 module _ (net : Topology) (ss : List Session) (l : ℕ) where
-  -- "A frame is free when it is neither closed nor held by a live session"
-  pub free-is : (i : ℕ) → isFree (hopOf net ss l) i ≡ (ltb i (linkAt net l .frames) && (not (bitOf (linkAt net l .closed) i) && not (heldIn ss l i)))
-  unfolding isFree freeOf freeAt
-  free-is i =
-      bit-free (linkAt net l .frames) (linkAt net l .closed) (wordOf (linkAt net l .frames) (heldIn ss l)) i
-      ∙ rw (bit-word (linkAt net l .frames) (heldIn ss l) i) (same (ltb i (linkAt net l .frames)))
-    where
-      same : (b : Bool)
-          → (b && (not (bitOf (linkAt net l .closed) i) && not (b && heldIn ss l i))) ≡ (b && (not (bitOf (linkAt net l .closed) i) && not (heldIn ss l i)))
-      same true = refl
-      same false = refl
-
   parts : (i : ℕ) → isFree (hopOf net ss l) i ≡ true → (ltb i (linkAt net l .frames) ≡ true) × (not (bitOf (linkAt net l .closed) i) ≡ true) × (not (heldIn ss l i) ≡ true)
   parts i h =
-      let a = tests.and-both (ltb i (linkAt net l .frames)) (not (bitOf (linkAt net l .closed) i) && not (heldIn ss l i)) (sym (free-is i) ∙ h) in
+      let a = tests.and-both (ltb i (linkAt net l .frames)) (not (bitOf (linkAt net l .closed) i) && not (heldIn ss l i)) (sym (free-is net ss l i) ∙ h) in
       let b = tests.and-both (not (bitOf (linkAt net l .closed) i)) (not (heldIn ss l i)) (a .1) in
       (a .0, b .0, b .1)
 

@@ -10,7 +10,7 @@ use Rattle.refusals.proofs.Refusals.{not-given}
 use Rattle.ledger.specs.Lists.{keep}
 use Rattle.ledger.specs.Sessions.{Session, View, holds, heldIn, isLive}
 use Rattle.ledger.specs.Sound.{intact}
-use Rattle.ledger.specs.Calls.{Release, Reply, freed, callCheck, served, reply, effect, otherThan, apply, next, lookIn, lookup}
+use Rattle.ledger.specs.Calls.{Release, Reply, freed, callCheck, served, reply, effect, otherThan, apply, next, lookIn, ReleaseFrees}
 use Rattle.ledger.proofs.Intact.{Intact, intact-is}
 use Rattle.ledger.proofs.Answered.{reply-intact}
 use Rattle.ledger.proofs.Shown.{lookup-intact, looked-up, shown}
@@ -66,8 +66,7 @@ unfolding next
 release-left v n e live = ap (λ (r : Reply). apply (v .live) (effect (Release n) r)) (release-freed v n e live)
 
 -- A RELEASE FREES EXACTLY ITS SESSION'S FRAMES
-pub release-frees : (v : View) (n : ℕ) (s : Session) → intact v ≡ true → lookup v n ≡ given s → (l i : ℕ)
-    → heldIn (next v (Release n) .live) l i ≡ (heldIn (v .live) l i && not (holds l i s))
+pub release-frees : ReleaseFrees
 release-frees v n s e g l i = ap (λ (ss : List Session). heldIn ss l i) left ∙ others-hold n l i s (found .1) (v .live) one sole
   where
     ok : Intact (v .network) (v .live)

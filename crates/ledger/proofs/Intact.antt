@@ -18,7 +18,7 @@ use Rattle.ledger.specs.Lists.{all}
 use Rattle.ledger.specs.Sessions.{Session, View, hopsOf}
 use Rattle.ledger.specs.Routes.{badLength, unknownLink, linkTwice, ratesApart, ratesOf, routeCheck}
 use Rattle.ledger.specs.Sound.{passes, goodNetwork, fewSessions, numberTwice, goodSession, frameTwice, sound, derived, intact}
-use Rattle.ledger.specs.Demand.{fresh}
+use Rattle.ledger.specs.Demand.{fresh, FreshIntact}
 
 -- the test whether a check passes
 pub passes-given : (r : Ruling) → passes r ≡ true → r ≡ given pass
@@ -112,6 +112,6 @@ is-intact v i =
     tests.both-and (sound v) (derived v)
     (rw (given-passes (networkCheck (v .network)) (i .network), le-leb (length (v .live)) 96 (i .few), i .numbers, i .sessions, i .frames)) refl
 
-pub fresh-intact : (net : Topology) → networkCheck net ≡ given pass → intact (fresh net) ≡ true
+pub fresh-intact : FreshIntact
 unfolding numberTwice frameTwice
 fresh-intact net e = is-intact (fresh net) record { network = e; few = omega arith; numbers = refl; sessions = refl; frames = refl }

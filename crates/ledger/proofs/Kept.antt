@@ -12,10 +12,10 @@ use Rattle.refusals.specs.Refusals.{Ruling, given, refused, pass}
 use Rattle.network.specs.Network.{Topology}
 use Rattle.forwarding.specs.Answers.{Given}
 use Rattle.ledger.specs.Lists.{all, any, anyTwo, keep}
-use Rattle.ledger.specs.Sessions.{Held, Session, View, holds, heldIn, isLive, hopsOf}
+use Rattle.ledger.specs.Sessions.{Held, Session, holds, heldIn, isLive, hopsOf}
 use Rattle.ledger.specs.Routes.{routeCheck}
-use Rattle.ledger.specs.Sound.{numberTwice, sameNumber, goodSession, someFrame, shareFrame, frameTwice, intact}
-use Rattle.ledger.specs.Calls.{Call, SetUp, Quote, Release, Reply, unless, full, callCheck, served, effect, otherThan, apply, next}
+use Rattle.ledger.specs.Sound.{numberTwice, sameNumber, goodSession, someFrame, shareFrame, frameTwice}
+use Rattle.ledger.specs.Calls.{Call, SetUp, Quote, Release, Reply, unless, full, callCheck, served, effect, otherThan, apply, next, NextIntact}
 use Rattle.ledger.specs.Demand.{Served, scheduled, none}
 use Rattle.ledger.proofs.Lists.{neither-or, eqb-flip, any-cong, all-snoc, anyTwo-snoc, all-keep, anyTwo-keep, length-keep}
 use Rattle.ledger.proofs.Intact.{Intact, GoodSession, good-session, intact-is, is-intact}
@@ -101,6 +101,6 @@ module _ (net : Topology) (ss : List Session) (h : Intact net ss) where
       go (given pass) = unfold served in release-intact n
 
 -- EVERY CALL KEEPS THE STATE INTACT
-pub next-intact : (v : View) (call : Call) → intact v ≡ true → intact (next v call) ≡ true
+pub next-intact : NextIntact
 unfolding next
 next-intact v call e = is-intact (next v call) (rw (reply-intact v call e) (answer-intact (v .network) (v .live) (intact-is v e) call))

@@ -11,7 +11,7 @@ use Rattle.forwarding.specs.Route.{routeAnswer}
 use Rattle.ledger.specs.Sessions.{Session, View, linkAt, hopsOf}
 use Rattle.ledger.specs.Routes.{badLength, unknownLink, ratesOf, routeCheck}
 use Rattle.ledger.specs.Sound.{intact}
-use Rattle.ledger.specs.Calls.{Call, Quote, Reply, refusal, replyOf, unless, callCheck, served, reply}
+use Rattle.ledger.specs.Calls.{Call, Quote, Reply, refusal, replyOf, unless, callCheck, served, reply, QuoteDepends}
 use Rattle.ledger.proofs.Answered.{reply-intact}
 
 -- the K of a route's links are those of its hops
@@ -51,9 +51,7 @@ module _ (v : View) (route : List ℕ) (i : intact v ≡ true) where
       go false k = refl
 
 -- A QUOTE DEPENDS ON THESE ALONE
-pub quote-depends : (v w : View) (route : List ℕ) → (reply v (Quote route) ≡ refusal 0 0 → ⊥) → (reply w (Quote route) ≡ refusal 0 0 → ⊥)
-    → (reply v (Quote route) ≡ refusal 13 0 → ⊥) → (reply w (Quote route) ≡ refusal 13 0 → ⊥) → v .network .ticks ≡ w .network .ticks
-    → hopsOf (v .network) (v .live) route ≡ hopsOf (w .network) (w .live) route → reply v (Quote route) ≡ reply w (Quote route)
+pub quote-depends : QuoteDepends
 quote-depends v w route hv hw kv kw t e = go (badLength (length route)) refl
   where
     iv : intact v ≡ true

@@ -1,18 +1,16 @@
 -- Demand 3 holds of every list of calls from a fresh network that passed its checks. Assumes nothing.
 use mathlib.Core.Path.{_≡_, refl, sym, ap, subst, _∙_}
 use mathlib.Core.Bool.{true, false}
-use mathlib.Core.List.{List, [], _∷_, _++_, map, List·Memᴰ, nil≢cons, head-eq-of-cons-eq, tail-eq-of-cons-eq}
+use mathlib.Core.List.{List, [], _∷_, _++_, List·Memᴰ, nil≢cons, head-eq-of-cons-eq, tail-eq-of-cons-eq}
 use Prim.Native.Nat.{ℕ, _+_, _<_}
 use native.Mathlib.Omega.{arith}
 use lib.ListN.{length, getD, length-map}
-use Rattle.refusals.specs.Refusals.{given, pass}
-use Rattle.network.specs.Network.{Topology}
-use Rattle.network.specs.Checks.{networkCheck}
+use Rattle.refusals.specs.Refusals.{given}
 use Rattle.ledger.specs.Sessions.{Session, View, holds}
 use Rattle.ledger.specs.Sound.{shareFrame, frameTwice, intact}
 use Rattle.ledger.specs.Calls.{Call, Reply, effect, apply, reply, next, lookup}
-use Rattle.ledger.specs.Ledger.{Step, did, callOf, effectOf, ledgerFrom, ledger, acceptedSetUp, acceptedRelease, countSteps}
-use Rattle.ledger.specs.Demand.{fresh, HoldsFrame, NamedAndKept, LiveNumbers, Right, Demand3, Runs, over, then}
+use Rattle.ledger.specs.Ledger.{Step, did, effectOf, ledgerFrom, ledger, acceptedSetUp, acceptedRelease, countSteps}
+use Rattle.ledger.specs.Demand.{fresh, HoldsFrame, NamedAndKept, LiveNumbers, Right, Runs, over, then, Demand3Holds, Stepped, EveryListStepped}
 use Rattle.ledger.proofs.Lists.{anyTwo-at}
 use Rattle.ledger.proofs.Intact.{intact-is, fresh-intact}
 use Rattle.ledger.proofs.Answered.{reply-intact}
@@ -66,13 +64,7 @@ runs-balance {v} {last} i (then {steps = steps} call rest) =
     (countSteps acceptedSetUp steps) (countSteps acceptedRelease steps) (length (last .live)) (runs-balance (next-intact v call i) rest)
 
 -- EVERY LIST OF CALLS HAS ITS STEPS: demand 3 speaks of each
-pub record Stepped (v : View) (calls : List Call) : Type 0 where
-  pub steps : List Step
-  pub last : View
-  pub runs : Runs v steps last
-  pub same : map callOf steps ≡ calls
-
-pub every-list : (v : View) (calls : List Call) → Stepped v calls
+pub every-list : EveryListStepped
 every-list v [] = record { steps = []; last = v; runs = over; same = refl }
 every-list v (call ∷ calls) =
     let rest : Stepped (next v call) calls = every-list (next v call) calls in
@@ -132,8 +124,8 @@ module _ (v : View) (steps : List Step) (i : intact v ≡ true) (led : v .live �
       not-shared (getD (ledger steps) j d) (getD (ledger steps) m d) l k (anyTwo-at shareFrame (ledger steps) j m d apart a b) p q
 
 -- DEMAND 3, FOR EVERY LIST OF CALLS
-pub demand3 : (net : Topology) → networkCheck net ≡ given pass → {steps : List Step} {v : View} → Runs (fresh net) steps v → Demand3 net v steps
-demand3 net p {steps} {v} runs =
+pub demand3 : Demand3Holds
+demand3 net p steps v runs =
     let begun : intact (fresh net) ≡ true = fresh-intact net p in
     let i : intact v ≡ true = runs-intact begun runs in
     let led : v .live ≡ ledger steps = runs-live runs in

@@ -1,5 +1,6 @@
 -- The calls on sessions: what each answers and what it leaves (document 01, "Calls on sessions"). Assumes nothing.
-use mathlib.Core.Bool.{Bool, not, cond}
+use mathlib.Core.Path.{_≡_}
+use mathlib.Core.Bool.{Bool, true, not, _&&_, cond}
 use mathlib.Core.List.{List, [], _∷_, _++_}
 use Prim.Native.Nat.{ℕ}
 use lib.ListN.{length}
@@ -11,9 +12,9 @@ use Rattle.words.specs.Word.{freeFrames}
 use Rattle.network.specs.Network.{Topology}
 use Rattle.forwarding.specs.Route.{routeAnswer}
 use Rattle.ledger.specs.Lists.{keep}
-use Rattle.ledger.specs.Sessions.{Held, Session, View, isLive, linkAt, freeOf, hopsOf}
+use Rattle.ledger.specs.Sessions.{Held, Session, View, holds, heldIn, isLive, linkAt, freeOf, hopsOf}
 use Rattle.ledger.specs.Routes.{unknown, routeCheck}
-use Rattle.ledger.specs.Sound.{brokenCheck}
+use Rattle.ledger.specs.Sound.{intact, brokenCheck}
 
 -- the calls of a list: "Set-up (number, route)", "Quote (route)", "Release (number)"
 pub data Call : Type 0 where
@@ -59,6 +60,12 @@ served net ss (Release n) = freed
 unfoldable pub reply : View → Call → Reply
 reply v call = unless (orElse (brokenCheck v) (callCheck (v .network) (v .live) call)) (served (v .network) (v .live) call)
 
+-- A QUOTE: "Where 0 and 13 don't refuse, it depends on T, the route and those links' K, Z and free frames alone", which are its hops
+abbrev pub QuoteDepends : Type 0
+QuoteDepends = (v w : View) (route : List ℕ) → (reply v (Quote route) ≡ refusal 0 0 → ⊥) → (reply w (Quote route) ≡ refusal 0 0 → ⊥)
+    → (reply v (Quote route) ≡ refusal 13 0 → ⊥) → (reply w (Quote route) ≡ refusal 13 0 → ⊥) → v .network .ticks ≡ w .network .ticks
+    → hopsOf (v .network) (v .live) route ≡ hopsOf (w .network) (w .live) route → reply v (Quote route) ≡ reply w (Quote route)
+
 -- what a call with its answer does to sessions and ledger: "An accepted set-up enters its number, its route and its answer's frames and delay.
 -- An accepted release strikes out what stands under its number. A quote or a refused call leaves the ledger as it is"
 pub data Effect : Type 0 where
@@ -89,6 +96,10 @@ apply ss leaves = ss
 unfoldable pub next : View → Call → View
 next v call = record { network = v .network; live = apply (v .live) (effect call (reply v call)) }
 
+-- EVERY CALL KEEPS A STATE FROM BEING BROKEN: "0 can only meet a caller that builds a state by hand"
+abbrev pub NextIntact : Type 0
+NextIntact = (v : View) (call : Call) → intact v ≡ true → intact (next v call) ≡ true
+
 -- Lookup (number): "the live session's route, frames and delay", or 19
 abbrev pub lookIn : ℕ → List Session → Outcome Session
 lookIn n [] = refused 19
@@ -96,6 +107,11 @@ lookIn n (s ∷ ss) = cond (eqb (s .number) n) (given s) (lookIn n ss)
 
 unfoldable pub lookup : View → ℕ → Outcome Session
 lookup v n = orElse (brokenCheck v) (lookIn n (v .live))
+
+-- A RELEASE "frees exactly that session's frames": a frame is held after it exactly when it was held before and isn't that session's
+abbrev pub ReleaseFrees : Type 0
+ReleaseFrees = (v : View) (n : ℕ) (s : Session) → intact v ≡ true → lookup v n ≡ given s → (l i : ℕ)
+    → heldIn (next v (Release n) .live) l i ≡ (heldIn (v .live) l i && not (holds l i s))
 
 -- free frames of a link: "a call on the stored state gives their number (refusal 13 for a link that isn't there)"
 unfoldable pub freeCount : View → ℕ → Outcome ℕ

@@ -2,25 +2,31 @@
 use mathlib.Core.Path.{_≡_}
 use mathlib.Core.Bool.{true, false}
 use mathlib.Core.Logic.{_↔_}
-use mathlib.Core.List.{List, [], _∷_, _++_, List·Memᴰ}
+use mathlib.Core.List.{List, [], _∷_, _++_, map, List·Memᴰ}
 use Prim.Native.Nat.{ℕ, _+_, _<_}
 use lib.ListN.{length, getD}
 use Rattle.lists.specs.Once.{EachOnce}
 use Rattle.trellis.specs.Answer.{found, blocked}
 use Rattle.refusals.specs.Refusals.{given, refused, pass}
 use Rattle.network.specs.Network.{Topology}
+use Rattle.network.specs.Checks.{networkCheck}
 use Rattle.forwarding.specs.declared.Hop.{Hop}
 use Rattle.forwarding.specs.Schedule.{IsSchedule}
 use Rattle.forwarding.specs.Route.{transitions, routeAnswer}
 use Rattle.forwarding.specs.Answers.{Given}
 use Rattle.ledger.specs.Lists.{any}
 use Rattle.ledger.specs.Sessions.{Held, Session, View, names, holds, isLive, hopsOf}
+use Rattle.ledger.specs.Sound.{intact}
 use Rattle.ledger.specs.Calls.{Call, SetUp, Quote, Release, Reply, schedule, freed, refusal, callCheck, reply, next, lookup}
-use Rattle.ledger.specs.Ledger.{Step, did, ledger, acceptedSetUp, acceptedRelease, acceptedReleaseOf, countSteps}
+use Rattle.ledger.specs.Ledger.{Step, did, callOf, ledger, acceptedSetUp, acceptedRelease, acceptedReleaseOf, countSteps}
 
 -- "A fresh network is any that has passed its checks, and it holds no sessions"
 abbrev pub fresh : Topology → View
 fresh net = record { network = net; live = [] }
+
+-- A FRESH NETWORK ISN'T BROKEN
+abbrev pub FreshIntact : Type 0
+FreshIntact = (net : Topology) → networkCheck net ≡ given pass → intact (fresh net) ≡ true
 
 -- session n is live and holds frame i of link l: "A session is live there when lookup gives it, and it holds the frames shown"
 pub record HoldsFrame (v : View) (n l i : ℕ) : Type 0 where
@@ -94,3 +100,18 @@ pub record Demand3 (net : Topology) (v : View) (steps : List Step) : Type 0 wher
 pub data Runs : View → List Step → View → Type 0 where
   over : {v : View} → Runs v [] v
   then : {v last : View} {steps : List Step} (call : Call) → Runs (next v call) steps last → Runs v (did call (reply v call) ∷ steps) last
+
+-- DEMAND 3, "for every list of set-ups, quotes and releases, refused ones included, from a fresh network"
+abbrev pub Demand3Holds : Type 0
+Demand3Holds = (net : Topology) → networkCheck net ≡ given pass → (steps : List Step) (v : View) → Runs (fresh net) steps v → Demand3 net v steps
+
+-- the steps of a list of calls, from a view on
+pub record Stepped (v : View) (calls : List Call) : Type 0 where
+  pub steps : List Step
+  pub last : View
+  pub runs : Runs v steps last
+  pub same : map callOf steps ≡ calls
+
+-- EVERY LIST OF CALLS HAS ITS STEPS: demand 3 speaks of each, "whatever its calls, their order and their arguments"
+abbrev pub EveryListStepped : Type 0
+EveryListStepped = (v : View) (calls : List Call) → Stepped v calls

@@ -1,13 +1,16 @@
 -- Sessions and the frames that they hold (document 01, "Calls on sessions"), and the hops of a route over the frames left free. Assumes nothing.
-use mathlib.Core.Bool.{Bool, false, _&&_, _||_}
+use mathlib.Core.Path.{_≡_}
+use mathlib.Core.Bool.{Bool, false, not, _&&_, _||_}
 use mathlib.Core.List.{List, [], _∷_, map}
 use Prim.Native.Nat.{ℕ}
 use lib.ListN.{getD}
-use lib.Dec.{eqb}
-use Rattle.words.specs.Word.{wordOf, freeWord, Words}
+use lib.Dec.{eqb, ltb}
+use Rattle.lists.specs.Count.{countBelow}
+use Rattle.words.specs.Word.{bitOf, wordOf, freeWord, freeFrames, Words}
 use Rattle.network.specs.Network.{Topology, noLink}
 use Rattle.network.specs.declared.Link.{Link}
 use Rattle.forwarding.specs.declared.Hop.{Hop}
+use Rattle.forwarding.specs.Forwarding.{isFree}
 use Rattle.ledger.specs.Lists.{any}
 
 -- what a schedule gives, and a session holds: "its answer's frames and delay", hop 0 first; a field that is added later stands here
@@ -59,6 +62,16 @@ freeOf net ss l = freeWord (linkAt net l .frames) (linkAt net l .closed) (wordOf
 -- link l as a hop: K, Z and its free frames; a field that is added later stands here
 abbrev pub hopOf : Topology → List Session → ℕ → Hop
 hopOf net ss l = record { frames = linkAt net l .frames; range = linkAt net l .range; free = freeOf net ss l }
+
+-- A FRAME OF A HOP IS FREE exactly when it is one of its link's and "neither closed nor held by a live session"
+abbrev pub FreeIs : Type 0
+FreeIs = (net : Topology) (ss : List Session) (l i : ℕ)
+    → isFree (hopOf net ss l) i ≡ (ltb i (linkAt net l .frames) && (not (bitOf (linkAt net l .closed) i) && not (heldIn ss l i)))
+
+-- THE COUNT OF A LINK'S FREE FRAMES IS THAT OF ITS FRAMES NEITHER CLOSED NOR HELD, counted one by one
+abbrev pub FreeCounted : Type 0
+FreeCounted = (net : Topology) (ss : List Session) (l : ℕ)
+    → freeFrames (linkAt net l .frames) (freeOf net ss l) ≡ countBelow (linkAt net l .frames) (λ i. not (bitOf (linkAt net l .closed) i) && not (heldIn ss l i))
 
 -- the hops of a route
 abbrev pub hopsOf : Topology → List Session → List ℕ → List Hop

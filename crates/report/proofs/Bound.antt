@@ -11,7 +11,6 @@ use borrow.Author.Tests.{le-ltb}
 use Rattle.places.specs.Places.{firsts}
 use Rattle.places.proofs.Firsts.{getD-firsts}
 use Rattle.refusals.specs.Refusals.{Ruling, Outcome, given, refused, pass}
-use Rattle.numbers.specs.Numbers.{IsBytes}
 use Rattle.network.specs.Network.{Topology}
 use Rattle.network.specs.Checks.{networkCheck}
 use Rattle.network_file.specs.Reading.{readNetwork}
@@ -42,7 +41,7 @@ use Rattle.call_records.proofs.Lengths.{linksOf, record-long}
 use Rattle.text.specs.Lines.{letterOf, line, liveLine}
 use Rattle.text.proofs.Long.{served-long, freed-long, refused-long, blocked-long, live-long, network-long}
 use Rattle.report.specs.Transcript.{thenOthers, callsAfter, counted, linesOf, textOn, transcript}
-use Rattle.report.specs.Reports.{textBound, tooShort, lengthOr20}
+use Rattle.report.specs.Reports.{textBound, TextWithin, tooShort, lengthOr20, RoomServes}
 use Rattle.report.proofs.Numbers.{file-number, call-number}
 use Rattle.report.proofs.Running.{lines-more, lines-none}
 
@@ -164,7 +163,7 @@ lines-most (b ∷ s) zero place v e h =
         )
 
 -- AS MANY BYTES SERVE FOR EVERY TEXT
-pub text-bound : (file calls : List ℕ) → IsBytes file → length (transcript file calls) ≤ textBound (length calls)
+pub text-bound : TextWithin
 unfolding transcript textBound counted
 text-bound file calls bytes = go (readNetwork file) refl
   where
@@ -175,8 +174,7 @@ text-bound file calls bytes = go (readNetwork file) refl
     go (refused n) e = omega (arith, network-long n (omega (arith, file-number file n e)))
 
 -- A BUFFER OF THE BOUND IS NEVER TOO SHORT
-pub room-serves : (file calls buffer : List ℕ) → IsBytes file → textBound (length calls) ≤ length buffer
-    → lengthOr20 (transcript file calls) buffer ≡ given (length (transcript file calls))
+pub room-serves : RoomServes
 unfolding lengthOr20 tooShort
 room-serves file calls buffer bytes h =
     rw (le-ltb (length buffer) (length (transcript file calls)) (omega (arith, text-bound file calls bytes, h)))

@@ -4,9 +4,6 @@ use mathlib.Core.List.{List, [], _∷_, _++_, map, append-assoc}
 use Prim.Native.Nat.{ℕ, zero, suc, _-_}
 use lib.ListN.{length}
 use Rattle.refusals.specs.Refusals.{Outcome, given, refused}
-use Rattle.numbers.specs.Numbers.{IsBytes}
-use Rattle.network.specs.Network.{Topology}
-use Rattle.network_file.specs.Reading.{readNetwork}
 use Rattle.network_file.proofs.RoundTrip.{read-passes}
 use Rattle.ledger.specs.Sessions.{View}
 use Rattle.ledger.specs.Calls.{Call, refusal, reply, next}
@@ -16,7 +13,7 @@ use Rattle.ledger.proofs.Whole.{demand3}
 use Rattle.call_records.specs.Records.{readRecord, callIn}
 use Rattle.text.specs.Lines.{letterOf, line, liveLine}
 use Rattle.report.specs.Transcript.{thenOthers, callsAfter, callsIn, counted, linesOf, transcript}
-use Rattle.report.specs.Transcribed.{stepLines, madeIn, unreadLine, Transcribed}
+use Rattle.report.specs.Transcribed.{stepLines, madeIn, unreadLine, TranscriptDemand3}
 
 -- a record that can't be read is the last
 abbrev Ends : List (Outcome Call) → Type 0
@@ -66,7 +63,7 @@ told (refused n ∷ os) place v h =
     }
 
 -- THE TEXT OF A RUN SHOWS THE ANSWERS OF A LIST OF CALLS THAT KEEPS DEMAND 3
-pub transcript-demand3 : (file calls : List ℕ) (net : Topology) → IsBytes file → readNetwork file ≡ given net → Transcribed file calls net
+pub transcript-demand3 : TranscriptDemand3
 unfolding transcript
 transcript-demand3 file calls net bytes e =
     let t : Told 1 (fresh net) (callsIn (counted calls)) = told (callsIn (counted calls)) 1 (fresh net) (calls-end (counted calls) 0) in
@@ -75,5 +72,5 @@ transcript-demand3 file calls net bytes e =
       last = t .last;
       made = t .made;
       text = rw e (t .text);
-      demand = demand3 net (read-passes file net bytes e) (t .runs);
+      demand = demand3 net (read-passes file net bytes e) (t .steps) (t .last) (t .runs);
     }

@@ -14,7 +14,7 @@ use Rattle.call_records.specs.declared.Record.{Record}
 use Rattle.call_records.specs.Records.{readRecord, routeIn, callAs, callIn}
 use Rattle.call_records.proofs.Cases.{some-byte, in-bytes}
 use Rattle.report.specs.Transcript.{thenOthers, callsAfter, callsIn}
-use Rattle.report.specs.Reports.{placeAfter}
+use Rattle.report.specs.Reports.{placeAfter, OneCall}
 
 -- bytes that belong to the record before are passed over
 passed-over : (n : ℕ) (s : List ℕ) → callsAfter n s ≡ callsIn (drop n s)
@@ -51,8 +51,7 @@ module _ (n end from : ℕ) (route calls : List ℕ) where
   by-kind Unreadable h = ap (λ (os : List (Outcome Call)). refused 11 ∷ os) (sym none-left)
 
 -- the record that starts at `from`, and the calls after it
-pub one-call : (calls : List ℕ) (from : ℕ) → from < length calls → (r : Record) → r ≡ readRecord (drop from calls)
-    → callsIn (drop from calls) ≡ callIn r (drop from calls) ∷ callsIn (drop (placeAfter (r .kind) from (r .end) (length calls)) calls)
+pub one-call : OneCall
 one-call calls from h r e =
     let s : List ℕ = drop from calls in
     let c : s ≡ getD calls from 0 ∷ drop (suc from) calls = drop-cons calls from 0 h in

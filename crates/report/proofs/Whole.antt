@@ -31,8 +31,8 @@ use Rattle.sessions.specs.declared.Begun.{Begun}
 use Rattle.sessions.specs.Calls.{Begins}
 use Rattle.text.specs.Digits.{Puts}
 use Rattle.text.specs.Lines.{networkLine}
-use Rattle.report.specs.Transcript.{callsIn, counted, linesOf, transcript}
-use Rattle.report.specs.Reports.{textBound, tooShort, lengthOr20, bufferWith, Reports}
+use Rattle.report.specs.Transcript.{callsIn, counted, CountedPart, linesOf, transcript}
+use Rattle.report.specs.Reports.{textBound, BoundMost, tooShort, lengthOr20, bufferWith, Reports}
 
 -- ---- what the first bytes are
 take-least : (s : List ℕ) (m : ℕ) → take (min (length s) m) s ≡ take m s
@@ -51,7 +51,7 @@ take-least s m = go (ltb (length s) m) refl
 pub counted-long : (s : List ℕ) (n : ℕ) → n ≡ min (length s) 65536 → n ≡ length (take n s)
 counted-long s n e = sym (length-take-le n s (omega (arith, e)))
 
-pub counted-part : (s : List ℕ) (n : ℕ) → n ≡ min (length s) 65536 → (take n s ≡ counted s) × (length (take n s) ≤ 65536)
+pub counted-part : CountedPart
 unfolding counted
 counted-part s n e = (ap (λ (k : ℕ). take k s) e ∙ take-least s 65536, omega (arith, e, length-take-le n s (omega (arith, e))))
 
@@ -60,7 +60,7 @@ unfolding textBound
 bound-is n k e = rw e
 
 -- the longest text that there is
-pub bound-most : (n : ℕ) → textBound n ≤ 720918
+pub bound-most : BoundMost
 unfolding textBound
 bound-most n = omega arith
 

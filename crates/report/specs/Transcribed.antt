@@ -4,7 +4,9 @@ use mathlib.Core.List.{List, [], _∷_, _++_, map}
 use Prim.Native.Nat.{ℕ, suc}
 use lib.ListN.{length}
 use Rattle.refusals.specs.Refusals.{Outcome, given, refused}
+use Rattle.numbers.specs.Numbers.{IsBytes}
 use Rattle.network.specs.Network.{Topology}
+use Rattle.network_file.specs.Reading.{readNetwork}
 use Rattle.ledger.specs.Sessions.{View}
 use Rattle.ledger.specs.Calls.{Call, refusal}
 use Rattle.ledger.specs.Ledger.{Step, did, callOf}
@@ -37,3 +39,7 @@ pub record Transcribed (file calls : List ℕ) (net : Topology) : Type 0 where
   pub made : map callOf steps ≡ madeIn (callsIn (counted calls))
   pub text : transcript file calls ≡ stepLines 1 steps ++ (unreadLine 1 (callsIn (counted calls)) ++ liveLine (length (last .live)))
   pub demand : Demand3 net last steps
+
+-- THE TEXT OF A RUN SHOWS THE ANSWERS OF A LIST OF CALLS THAT KEEPS DEMAND 3
+abbrev pub TranscriptDemand3 : Type 0
+TranscriptDemand3 = (file calls : List ℕ) (net : Topology) → IsBytes file → readNetwork file ≡ given net → Transcribed file calls net

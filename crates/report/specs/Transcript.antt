@@ -1,6 +1,7 @@
 -- All that the program frames writes, from the bytes of net.bin and of standard input (document 01, "The program frames"). Assumes nothing.
+use mathlib.Core.Path.{_≡_}
 use mathlib.Core.List.{List, [], _∷_, _++_}
-use Prim.Native.Nat.{ℕ, zero, suc, _-_}
+use Prim.Native.Nat.{ℕ, zero, suc, _-_, _≤_, min}
 use lib.ListN.{length, take}
 use Rattle.refusals.specs.Refusals.{Outcome, given, refused}
 use Rattle.network.specs.Network.{Topology}
@@ -29,6 +30,10 @@ callsIn s = callsAfter 0 s
 -- "the first 65,536 bytes of call records from standard input; what follows them is ignored"
 unfoldable pub counted : List ℕ → List ℕ
 counted s = take 65536 s
+
+-- THE BYTES THAT COUNT are as many of the first as there are, up to 65,536
+abbrev pub CountedPart : Type 0
+CountedPart = (s : List ℕ) (n : ℕ) → n ≡ min (length s) 65536 → (take n s ≡ counted s) × (length (take n s) ≤ 65536)
 
 -- the line of a call: what it answers; "Refusal 11 prints ? for the letter"
 abbrev pub lineOf : ℕ → View → Outcome Call → List ℕ

@@ -21,11 +21,11 @@ use Rattle.network.specs.Checks.{networkCheck}
 use Rattle.network.proofs.Tests.{cycle-passed, frames-passed, range-passed}
 use Rattle.network.proofs.Checks.{GoodLink, network-good}
 use Rattle.forwarding.specs.declared.Hop.{Hop}
-use Rattle.forwarding.specs.Hops.{noHop, HopReady, Ready}
+use Rattle.forwarding.specs.Hops.{noHop, HopReady}
 use Rattle.ledger.specs.Lists.{any}
 use Rattle.ledger.specs.Sessions.{Session, HeldWords, heldIn, linkAt, freeOf, hopOf, hopsOf}
-use Rattle.ledger.specs.Routes.{unknown, unknownLink, routeCheck}
-use Rattle.routes.specs.Hops.{hopFrom, hopsFrom}
+use Rattle.ledger.specs.Routes.{unknown, unknownLink}
+use Rattle.routes.specs.Hops.{hopFrom, hopsFrom, RouteReady}
 use Rattle.routes.proofs.Tests.{known-passed}
 use Rattle.routes.proofs.Links.{link-passed, many-links, stored-link, in-places, frames-bounded}
 use Rattle.routes.proofs.Routes.{route-long, route-known}
@@ -100,7 +100,7 @@ map-place f (l ∷ route) zero h = refl
 map-place f (l ∷ route) (suc j) h = map-place f route j (le-of-suc-le-suc h)
 
 -- THE SEARCH OF A ROUTE THAT PASSED MAY BEGIN
-pub route-ready : (net : Topology) (ss : List Session) (route : List ℕ) → networkCheck net ≡ given pass → routeCheck net route ≡ given pass → Ready (net .ticks) (firsts 8 (hopsOf net ss route) noHop) (length route)
+pub route-ready : RouteReady
 route-ready net ss route e r =
     let n = route-long net route r in
     record {

@@ -1,14 +1,21 @@
 -- The hops of a route from stored values, and what a walk over frames says. Assumes nothing.
+use mathlib.Core.Path.{_≡_}
 use mathlib.Core.Bool.{cond}
 use mathlib.Core.List.{List, map}
 use mathlib.Core.Option.{Option, some, none}
 use Prim.Native.Nat.{ℕ}
-use lib.ListN.{getD}
+use lib.ListN.{length, getD}
+use Rattle.places.specs.Places.{firsts}
+use Rattle.refusals.specs.Refusals.{given, pass}
 use Rattle.words.specs.Word.{freeWord}
-use Rattle.network.specs.Network.{noLink}
+use Rattle.network.specs.Network.{Topology, noLink}
+use Rattle.network.specs.Checks.{networkCheck}
 use Rattle.network.specs.declared.Link.{Link}
 use Rattle.forwarding.specs.declared.Hop.{Hop}
+use Rattle.forwarding.specs.Hops.{noHop, Ready}
 use Rattle.forwarding.specs.Schedule.{isSchedule, scheduleDelay}
+use Rattle.ledger.specs.Sessions.{Session, hopsOf}
+use Rattle.ledger.specs.Routes.{routeCheck}
 use Rattle.routes.specs.declared.Walked.{Walked}
 use Rattle.routes.specs.declared.Walked.the-variants.{Delayed, Unfit}
 
@@ -19,6 +26,11 @@ hopFrom k held = record { frames = k .frames; range = k .range; free = freeWord 
 -- the hops of a route, by the links of a network and the words of their held frames
 abbrev pub hopsFrom : List Link → List ℕ → List ℕ → List Hop
 hopsFrom links held route = map (λ l. hopFrom (getD links l noLink) (getD held l 0)) route
+
+-- THE SEARCH OF A ROUTE THAT PASSED MAY BEGIN: its hops, laid into eight places, are what the search asks for
+abbrev pub RouteReady : Type 0
+RouteReady = (net : Topology) (ss : List Session) (route : List ℕ) → networkCheck net ≡ given pass → routeCheck net route ≡ given pass
+    → Ready (net .ticks) (firsts 8 (hopsOf net ss route) noHop) (length route)
 
 -- the delay of frames over hops, if they are a schedule
 abbrev pub delayIf : ℕ → List Hop → List ℕ → Option ℕ

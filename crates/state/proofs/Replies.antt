@@ -28,7 +28,7 @@ use Rattle.table.specs.Table.{sessionOf}
 use Rattle.state.specs.declared.State.{State}
 use Rattle.state.specs.declared.Reply.{Reply}
 use Rattle.state.specs.declared.Answer.{Answer}
-use Rattle.state.specs.State.{viewOf, replyIn, framesOf, Answers, Searched, Leaves}
+use Rattle.state.specs.State.{viewOf, replyIn, framesOf, Answers, Searched, Leaves, LeftIntact}
 
 -- ---- the checks of a call after 0, one after the other
 module _ (net : Topology) (ss : List Session) (n : ℕ) (route : List ℕ) where
@@ -84,7 +84,7 @@ pub stays : (st : State) (call : Call) → effect call (reply (viewOf st) call) 
 stays st call e = record { view = sym (next-same (viewOf st) call e); same = λ _. refl }
 
 -- A CALL ON A STATE THAT ISN'T BROKEN LEAVES ONE THAT ISN'T BROKEN
-pub left-intact : (st : State) (call : Call) (after : State) → Leaves st call after → intact (viewOf st) ≡ true → intact (viewOf after) ≡ true
+pub left-intact : LeftIntact
 left-intact st call after l e = subst (λ (v : View). intact v ≡ true) (sym (l .view)) (next-intact (viewOf st) call e)
 
 -- ---- a search's result as an answer

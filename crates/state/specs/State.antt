@@ -1,5 +1,6 @@
 -- The stored state, what it shows, and what the program's answers say in the words of the rules. Assumes nothing.
 use mathlib.Core.Path.{_≡_}
+use mathlib.Core.Bool.{true}
 use mathlib.Core.List.{List, []}
 use Prim.Native.Nat.{ℕ}
 use lib.ListN.{length, take}
@@ -13,6 +14,7 @@ use Rattle.forwarding.specs.Route.{routeAnswer}
 use Rattle.search.specs.Reading.{reading}
 use Rattle.search.specs.declared.Answer as search
 use Rattle.ledger.specs.Sessions.{Session, View, hopsOf}
+use Rattle.ledger.specs.Sound.{intact}
 use Rattle.ledger.specs.Calls.{Call, Release, schedule, freed, refusal, leaves, effect, next}
 use Rattle.ledger.specs.Calls as rules
 use Rattle.table.specs.Table.{liveOf}
@@ -55,6 +57,10 @@ pub record Searched (net : Topology) (ss : List Session) (route : List ℕ) (r :
 pub record Leaves (st : State) (call : Call) (after : State) : Type 0 where
   pub view : viewOf after ≡ next (viewOf st) call
   pub same : effect call (rules.reply (viewOf st) call) ≡ leaves → after ≡ st
+
+-- A CALL ON A STATE THAT ISN'T BROKEN LEAVES ONE THAT ISN'T BROKEN: "0 can only meet a caller that builds a state by hand"
+abbrev pub LeftIntact : Type 0
+LeftIntact = (st : State) (call : Call) (after : State) → Leaves st call after → intact (viewOf st) ≡ true → intact (viewOf after) ≡ true
 
 -- a set-up or a quote, over n links
 pub record Serves (st : State) (call : Call) (n : ℕ) (r : Served) : Type 0 where

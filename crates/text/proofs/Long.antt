@@ -11,7 +11,7 @@ use lib.ListN.{length, getD, length-append}
 use lib.Dec.{ltb}
 use Rattle.ledger.specs.Calls.{schedule, freed, refusal}
 use Rattle.text.specs.Digits.{dec, spaced, spacedAll}
-use Rattle.text.specs.Lines.{countText, scheduleText, lineHead, line, liveLine, networkLine}
+use Rattle.text.specs.Lines.{countText, scheduleText, lineHead, line, liveLine, networkLine, ServedLong, FreedLong, RefusedLong, BlockedLong, LiveLong, NetworkLong}
 use Rattle.text.proofs.Digits.{dec-small, long-more}
 use Rattle.text.proofs.Chains.{joined}
 use Rattle.text.proofs.Lines.{head-is, schedule-is, count-none, count-some, served-is, freed-is, refused-is, live-is, network-is}
@@ -69,7 +69,7 @@ schedule-long delay count frames d c f =
     omega (arith, long-of (scheduleText delay count frames) (spaced delay ∷ spaced count ∷ spacedAll frames ∷ []) (schedule-is delay count frames), frames-long frames f)
 
 -- ---- the lines
-pub served-long : (place letter delay count : ℕ) (frames : List ℕ) → place < 100000 → delay < 10000 → count < 100000 → ((i : ℕ) → getD frames i 0 < 100) → length (line place letter (schedule record { frames = frames; delay = delay } count)) ≤ 22 + 3 * length frames
+pub served-long : ServedLong
 served-long place letter delay count frames p d c f = omega (
   arith,
   long-of (line place letter (schedule record { frames = frames; delay = delay } count)) (lineHead place letter ∷ (32 ∷ 111 ∷ 107 ∷ []) ∷ scheduleText delay count frames ∷ (10 ∷ []) ∷ []) (served-is place letter record { frames = frames; delay = delay } count),
@@ -77,7 +77,7 @@ served-long place letter delay count frames p d c f = omega (
   schedule-long delay count frames d c f,
 )
 
-pub freed-long : (place letter : ℕ) → place < 100000 → length (line place letter freed) ≤ 11
+pub freed-long : FreedLong
 freed-long place letter p = omega (arith, long-of (line place letter freed) (lineHead place letter ∷ (32 ∷ 111 ∷ 107 ∷ 10 ∷ []) ∷ []) (freed-is place letter), head-long place letter p)
 
 refusal-long : (place letter number count : ℕ) → place < 100000 → number < 100 → length (line place letter (refusal number count)) ≤ 14 + length (countText number count)
@@ -90,20 +90,20 @@ refusal-long place letter number count p n =
       head-long place letter p,
     )
 
-pub refused-long : (place letter number count : ℕ) → place < 100000 → number < 100 → (number ≡ 18 → ⊥) → length (line place letter (refusal number count)) ≤ 14
+pub refused-long : RefusedLong
 refused-long place letter number count p n h = omega (arith, refusal-long place letter number count p n, ap length (count-none number count h))
 
-pub blocked-long : (place letter count : ℕ) → place < 100000 → count < 100000 → length (line place letter (refusal 18 count)) ≤ 20
+pub blocked-long : BlockedLong
 blocked-long place letter count p c =
     let l : length (spaced count) ≤ 6 = spaced-long 4 count c in
     omega (arith, refusal-long place letter 18 count p (omega arith), ap length (count-some 18 count refl))
 
-pub live-long : (n : ℕ) → n < 100 → length (liveLine n) ≤ 8
+pub live-long : LiveLong
 live-long n h =
     let l : length (spaced n) ≤ 3 = spaced-long 1 n h in
     omega (arith, long-of (liveLine n) ((108 ∷ 105 ∷ 118 ∷ 101 ∷ []) ∷ spaced n ∷ (10 ∷ []) ∷ []) (live-is n))
 
-pub network-long : (n : ℕ) → n < 100 → length (networkLine n) ≤ 10
+pub network-long : NetworkLong
 network-long n h =
     let l : length (spaced n) ≤ 3 = spaced-long 1 n h in
     omega (arith, long-of (networkLine n) ((110 ∷ 101 ∷ 116 ∷ 32 ∷ 110 ∷ 111 ∷ []) ∷ spaced n ∷ (10 ∷ []) ∷ []) (network-is n))

@@ -1,7 +1,9 @@
 -- The lines of the program frames (document 01, "The program frames"). Assumes nothing.
+use mathlib.Core.Path.{_≡_}
 use mathlib.Core.Bool.{cond}
 use mathlib.Core.List.{List, [], _∷_, _++_}
-use Prim.Native.Nat.{ℕ}
+use Prim.Native.Nat.{ℕ, _+_, _*_, _<_, _≤_}
+use lib.ListN.{length, getD}
 use lib.Dec.{eqb}
 use Rattle.ledger.specs.Calls.{Call, SetUp, Quote, Release, Reply, schedule, freed, refusal}
 use Rattle.text.specs.Digits.{dec, spaced, spacedAll}
@@ -41,3 +43,27 @@ liveLine n = (108 ∷ 105 ∷ 118 ∷ 101 ∷ []) ++ (spaced n ++ (10 ∷ []))
 -- "A refused net.bin gives the single line "net no" and the number"
 unfoldable pub networkLine : ℕ → List ℕ
 networkLine n = (110 ∷ 101 ∷ 116 ∷ 32 ∷ 110 ∷ 111 ∷ []) ++ (spaced n ++ (10 ∷ []))
+
+-- ---- how long a line is at most, for a place of at most five digits
+-- a schedule: a delay of four digits, a count of five and frames of two
+abbrev pub ServedLong : Type 0
+ServedLong = (place letter delay count : ℕ) (frames : List ℕ) → place < 100000 → delay < 10000 → count < 100000 → ((i : ℕ) → getD frames i 0 < 100)
+    → length (line place letter (schedule record { frames = frames; delay = delay } count)) ≤ 22 + 3 * length frames
+
+-- a release
+abbrev pub FreedLong : Type 0
+FreedLong = (place letter : ℕ) → place < 100000 → length (line place letter freed) ≤ 11
+
+-- a refusal other than 18, and 18 with a count of five digits
+abbrev pub RefusedLong : Type 0
+RefusedLong = (place letter number count : ℕ) → place < 100000 → number < 100 → (number ≡ 18 → ⊥) → length (line place letter (refusal number count)) ≤ 14
+
+abbrev pub BlockedLong : Type 0
+BlockedLong = (place letter count : ℕ) → place < 100000 → count < 100000 → length (line place letter (refusal 18 count)) ≤ 20
+
+-- the last line, and that of a refused net.bin
+abbrev pub LiveLong : Type 0
+LiveLong = (n : ℕ) → n < 100 → length (liveLine n) ≤ 8
+
+abbrev pub NetworkLong : Type 0
+NetworkLong = (n : ℕ) → n < 100 → length (networkLine n) ≤ 10
