@@ -15,7 +15,7 @@ use Rattle.lists.proofs.Count as tests
 use Rattle.refusals.specs.Refusals.{Ruling, given, refused, pass}
 use Rattle.network.specs.Network.{Topology}
 use Rattle.forwarding.specs.Route.{routeAnswer}
-use Rattle.ledger.specs.Lists.{any, anyTwo, keep}
+use Rattle.ledger.specs.Lists.{anyOf, anyTwo, keep}
 use Rattle.ledger.specs.Sessions.{Session, isLive, hopsOf}
 use Rattle.ledger.specs.Sound.{sameNumber, numberTwice}
 use Rattle.ledger.specs.Calls.{Call, SetUp, Quote, Release, replyOf, unless, callCheck, served, Effect, enters, strikes, leaves, effect, otherThan, apply}
@@ -29,7 +29,7 @@ struck-one : (n : ℕ) (ss : List Session) → numberTwice ss ≡ false → isLi
 unfolding numberTwice
 struck-one n [] h k = absurd (false≢true k)
 struck-one n (s ∷ ss) h k =
-    let both = tests.or-neither (any (sameNumber s) ss) (anyTwo sameNumber ss) h in
+    let both = tests.or-neither (anyOf (sameNumber s) ss) (anyTwo sameNumber ss) h in
     go (eqb (s .number) n) refl (both .0) (struck-one n ss (both .1))
   where
     go : (b : Bool) → eqb (s .number) n ≡ b → isLive (s .number) ss ≡ false → (isLive n ss ≡ true → suc (length (keep (otherThan n) ss)) ≡ length ss)

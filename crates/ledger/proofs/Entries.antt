@@ -7,7 +7,7 @@ use Prim.Native.Nat.{ℕ}
 use lib.Dec.{eqb}
 use borrow.Author.Tests.{not-true}
 use Rattle.lists.proofs.Count as tests
-use Rattle.ledger.specs.Lists.{any}
+use Rattle.ledger.specs.Lists.{anyOf}
 use Rattle.ledger.specs.Sessions.{Session}
 use Rattle.ledger.specs.Calls.{Call, SetUp, Quote, Release, Reply, schedule, freed, refusal, Effect, enters, strikes, leaves, effect, otherThan, apply}
 use Rattle.ledger.specs.Ledger.{Step, did, isStrikingOf, acceptedReleaseOf, ledgerFrom, ledger}
@@ -32,7 +32,7 @@ pub record Entered (steps : List Step) (e : Session) : Type 0 where
   pub before : List Step
   pub later : List Step
   pub accepted : steps ≡ before ++ (did (SetUp (e .number) (e .route)) (schedule (e .held) count) ∷ later)
-  pub kept : any (acceptedReleaseOf (e .number)) later ≡ false
+  pub kept : anyOf (acceptedReleaseOf (e .number)) later ≡ false
 
 later-entered : (s : Step) (steps : List Step) (e : Session) → Entered steps e → Entered (s ∷ steps) e
 later-entered s steps e h =
@@ -40,22 +40,22 @@ later-entered s steps e h =
 
 -- an entry stood in the list before and was kept, or was entered
 abbrev Origin : List Session → List Step → Session → Type 0
-Origin ss steps e = (List·Memᴰ e ss × (any (acceptedReleaseOf (e .number)) steps ≡ false)) ⊎ Entered steps e
+Origin ss steps e = (List·Memᴰ e ss × (anyOf (acceptedReleaseOf (e .number)) steps ≡ false)) ⊎ Entered steps e
 
 origin-step : (call : Call) (r : Reply) (steps : List Step) (ss : List Session) (e : Session) (f : Effect) → effect call r ≡ f
-    → List·Memᴰ e (apply ss f) → any (acceptedReleaseOf (e .number)) steps ≡ false → Origin ss (did call r ∷ steps) e
+    → List·Memᴰ e (apply ss f) → anyOf (acceptedReleaseOf (e .number)) steps ≡ false → Origin ss (did call r ∷ steps) e
 origin-step call r steps ss e (enters u) h m kept =
     ⊎-elim
-    (λ k. inl (k, neither-or (isStrikingOf (e .number) (effect call r)) (any (acceptedReleaseOf (e .number)) steps) (ap (isStrikingOf (e .number)) h) kept))
+    (λ k. inl (k, neither-or (isStrikingOf (e .number) (effect call r)) (anyOf (acceptedReleaseOf (e .number)) steps) (ap (isStrikingOf (e .number)) h) kept))
     (λ k. let w = enters-from call r e (h ∙ ap enters (sym (List·Memᴰ·eq-of-singleton k))) in
     inr (record { count = w .0; before = []; later = steps; accepted = ap (λ (s : Step). s ∷ steps) (w .1); kept = kept }))
     (List·Memᴰ·append-cases ss m)
 origin-step call r steps ss e (strikes n) h m kept =
     let k = kept-member (otherThan n) ss m in
     let other : isStrikingOf (e .number) (effect call r) ≡ false = ap (isStrikingOf (e .number)) h ∙ not-true (eqb (e .number) n) (k .1) in
-    inl (k .0, neither-or (isStrikingOf (e .number) (effect call r)) (any (acceptedReleaseOf (e .number)) steps) other kept)
+    inl (k .0, neither-or (isStrikingOf (e .number) (effect call r)) (anyOf (acceptedReleaseOf (e .number)) steps) other kept)
 origin-step call r steps ss e leaves h m kept =
-    inl (m, neither-or (isStrikingOf (e .number) (effect call r)) (any (acceptedReleaseOf (e .number)) steps) (ap (isStrikingOf (e .number)) h) kept)
+    inl (m, neither-or (isStrikingOf (e .number) (effect call r)) (anyOf (acceptedReleaseOf (e .number)) steps) (ap (isStrikingOf (e .number)) h) kept)
 
 origin : (steps : List Step) (ss : List Session) (e : Session) → List·Memᴰ e (ledgerFrom ss steps) → Origin ss steps e
 origin [] ss e m = inl (m, refl)
@@ -75,14 +75,14 @@ stay-step ss e (enters u) m h = Memᴰ·append-left (u ∷ []) m
 stay-step ss e (strikes n) m h = member-kept (otherThan n) ss m (ap not h)
 stay-step ss e leaves m h = m
 
-stay : (steps : List Step) (ss : List Session) (e : Session) → List·Memᴰ e ss → any (acceptedReleaseOf (e .number)) steps ≡ false → List·Memᴰ e (ledgerFrom ss steps)
+stay : (steps : List Step) (ss : List Session) (e : Session) → List·Memᴰ e ss → anyOf (acceptedReleaseOf (e .number)) steps ≡ false → List·Memᴰ e (ledgerFrom ss steps)
 stay [] ss e m h = m
 stay (did call r ∷ steps) ss e m h =
-    let both = tests.or-neither (isStrikingOf (e .number) (effect call r)) (any (acceptedReleaseOf (e .number)) steps) h in
+    let both = tests.or-neither (isStrikingOf (e .number) (effect call r)) (anyOf (acceptedReleaseOf (e .number)) steps) h in
     stay steps (apply ss (effect call r)) e (stay-step ss e (effect call r) m (both .0)) (both .1)
 
 -- WHAT WAS ENTERED AND KEPT STANDS IN THE LEDGER
-pub entered-entry : (before later : List Step) (ss : List Session) (e : Session) (count : ℕ) → any (acceptedReleaseOf (e .number)) later ≡ false
+pub entered-entry : (before later : List Step) (ss : List Session) (e : Session) (count : ℕ) → anyOf (acceptedReleaseOf (e .number)) later ≡ false
     → List·Memᴰ e (ledgerFrom ss (before ++ (did (SetUp (e .number) (e .route)) (schedule (e .held) count) ∷ later)))
 entered-entry [] later ss e count h = stay later (ss ++ (e ∷ [])) e (Memᴰ·append-right ss (List·Memᴰ·head refl)) h
 entered-entry (did call r ∷ before) later ss e count h = entered-entry before later (apply ss (effect call r)) e count h

@@ -7,7 +7,7 @@ use Prim.Native.Nat.{ℕ}
 use lib.Dec.{eqb}
 use borrow.Author.Tests.{eqb-true}
 use Rattle.lists.proofs.Count as tests
-use Rattle.ledger.specs.Lists.{any, anyTwo}
+use Rattle.ledger.specs.Lists.{anyOf, anyTwo}
 use Rattle.ledger.specs.Sessions.{Session, names, holds}
 use Rattle.ledger.specs.Sound.{someFrame, shareFrame, frameTwice}
 use Rattle.ledger.proofs.Lists.{clash, either, left-or, right-or, none-member}
@@ -33,10 +33,10 @@ pub one-holder : (ss : List Session) (s u : Session) (l i : ℕ) → frameTwice 
 unfolding frameTwice
 one-holder [] s u l i h m k p q = absurd (List·Memᴰ·not-nil m)
 one-holder (x ∷ ss) s u l i h m k p q =
-    let both = tests.or-neither (any (shareFrame x) ss) (anyTwo shareFrame ss) h in
+    let both = tests.or-neither (anyOf (shareFrame x) ss) (anyTwo shareFrame ss) h in
     go (both .0) (List·Memᴰ·cases-cons m) (List·Memᴰ·cases-cons k) (λ a b. one-holder ss s u l i (both .1) a b p q)
   where
-    go : any (shareFrame x) ss ≡ false → (s ≡ x) ⊎ List·Memᴰ s ss → (u ≡ x) ⊎ List·Memᴰ u ss → (List·Memᴰ s ss → List·Memᴰ u ss → s ≡ u) → s ≡ u
+    go : anyOf (shareFrame x) ss ≡ false → (s ≡ x) ⊎ List·Memᴰ s ss → (u ≡ x) ⊎ List·Memᴰ u ss → (List·Memᴰ s ss → List·Memᴰ u ss → s ≡ u) → s ≡ u
     go apart (inl a) (inl b) ih = a ∙ sym b
     go apart (inl a) (inr b) ih = not-shared x u l i (none-member (shareFrame x) ss apart b) (ap (holds l i) (sym a) ∙ p) q
     go apart (inr a) (inl b) ih = not-shared x s l i (none-member (shareFrame x) ss apart a) (ap (holds l i) (sym b) ∙ q) p

@@ -14,7 +14,7 @@ use Rattle.network.specs.Network.{Topology}
 use Rattle.network.specs.Checks.{networkCheck}
 use Rattle.forwarding.specs.Schedule.{IsSchedule, isSchedule, scheduleDelay}
 use Rattle.forwarding.proofs.Schedules.{told-schedule, schedule-told}
-use Rattle.ledger.specs.Lists.{all}
+use Rattle.ledger.specs.Lists.{allOf}
 use Rattle.ledger.specs.Sessions.{Session, View, hopsOf}
 use Rattle.ledger.specs.Routes.{badLength, unknownLink, linkTwice, ratesApart, ratesOf, routeCheck}
 use Rattle.ledger.specs.Sound.{passes, goodNetwork, fewSessions, numberTwice, goodSession, frameTwice, sound, derived, intact}
@@ -82,7 +82,7 @@ pub record Intact (net : Topology) (ss : List Session) : Type 0 where
   pub network : networkCheck net ≡ given pass
   pub few : length ss ≤ 96
   pub numbers : numberTwice ss ≡ false
-  pub sessions : all (goodSession net) ss ≡ true
+  pub sessions : allOf (goodSession net) ss ≡ true
   pub frames : frameTwice ss ≡ false
 
 pub intact-is : (v : View) → intact v ≡ true → Intact (v .network) (v .live)
@@ -91,7 +91,7 @@ intact-is v e =
     let net : Topology = v .network in
     let ss : List Session = v .live in
     let f : Bool = not (frameTwice ss) in
-    let g : Bool = all (goodSession net) ss in
+    let g : Bool = allOf (goodSession net) ss in
     let n : Bool = not (numberTwice ss) in
     let a = tests.and-both (sound v) (derived v) e in
     let b = tests.and-both (passes (networkCheck net)) (leb (length ss) 96 && (n && (g && f))) (a .0) in

@@ -11,7 +11,7 @@ use Rattle.lists.proofs.Count as tests
 use Rattle.refusals.specs.Refusals.{Ruling, given, refused, pass}
 use Rattle.network.specs.Network.{Topology}
 use Rattle.forwarding.specs.Answers.{Given}
-use Rattle.ledger.specs.Lists.{all, any, anyTwo, keep}
+use Rattle.ledger.specs.Lists.{allOf, anyOf, anyTwo, keep}
 use Rattle.ledger.specs.Sessions.{Held, Session, holds, heldIn, isLive, hopsOf}
 use Rattle.ledger.specs.Routes.{routeCheck}
 use Rattle.ledger.specs.Sound.{numberTwice, sameNumber, goodSession, someFrame, shareFrame, frameTwice}
@@ -23,7 +23,7 @@ use Rattle.ledger.proofs.Schedules.{schedule-unclosed, schedule-unheld,
 use Rattle.ledger.proofs.Answered.{answerOn, reply-intact, Admitted, admitted, call-served}
 
 -- ---- a new session beside the others
-number-new : (ss : List Session) (u : Session) → isLive (u .number) ss ≡ false → any (λ s. sameNumber s u) ss ≡ false
+number-new : (ss : List Session) (u : Session) → isLive (u .number) ss ≡ false → anyOf (λ s. sameNumber s u) ss ≡ false
 number-new ss u h = any-cong (λ s. sameNumber s u) (λ s. eqb (s .number) (u .number)) ss (λ s. eqb-flip (u .number) (s .number)) ∙ h
 
 -- frames that no session of a list holds, its first and the others do not
@@ -39,11 +39,11 @@ unheld-parts s ss (l ∷ route) (i ∷ fs) h =
       neither-or (heldIn ss l i) (someFrame (heldIn ss) route fs) (b .1) (c .1),
     )
 
-unheld-unshared : (ss : List Session) (u : Session) → someFrame (heldIn ss) (u .route) (u .held .frames) ≡ false → any (λ s. shareFrame s u) ss ≡ false
+unheld-unshared : (ss : List Session) (u : Session) → someFrame (heldIn ss) (u .route) (u .held .frames) ≡ false → anyOf (λ s. shareFrame s u) ss ≡ false
 unheld-unshared [] u h = refl
 unheld-unshared (s ∷ ss) u h =
     let a = unheld-parts s ss (u .route) (u .held .frames) h in
-    neither-or (shareFrame s u) (any (λ t. shareFrame t u) ss) (a .0) (unheld-unshared ss u (a .1))
+    neither-or (shareFrame s u) (anyOf (λ t. shareFrame t u) ss) (a .0) (unheld-unshared ss u (a .1))
 
 module _ (net : Topology) (ss : List Session) (h : Intact net ss) where
   few-more : (u : Session) → full ss ≡ false → length (ss ++ (u ∷ [])) ≤ 96
@@ -69,9 +69,9 @@ module _ (net : Topology) (ss : List Session) (h : Intact net ss) where
       record {
         network = h .network;
         few = few-more u (a .room);
-        numbers = anyTwo-snoc sameNumber ss u ∙ neither-or (anyTwo sameNumber ss) (any (λ s. sameNumber s u) ss) (h .numbers) (number-new ss u (a .unused));
-        sessions = all-snoc (goodSession net) ss u ∙ tests.both-and (all (goodSession net) ss) (goodSession net u) (h .sessions) good;
-        frames = anyTwo-snoc shareFrame ss u ∙ neither-or (anyTwo shareFrame ss) (any (λ s. shareFrame s u) ss) (h .frames) (unheld-unshared ss u (schedule-unheld net ss route (held .frames) (g .schedule)));
+        numbers = anyTwo-snoc sameNumber ss u ∙ neither-or (anyTwo sameNumber ss) (anyOf (λ s. sameNumber s u) ss) (h .numbers) (number-new ss u (a .unused));
+        sessions = all-snoc (goodSession net) ss u ∙ tests.both-and (allOf (goodSession net) ss) (goodSession net u) (h .sessions) good;
+        frames = anyTwo-snoc shareFrame ss u ∙ neither-or (anyTwo shareFrame ss) (anyOf (λ s. shareFrame s u) ss) (h .frames) (unheld-unshared ss u (schedule-unheld net ss route (held .frames) (g .schedule)));
       }
   served-intact n route a (none count e counted nowhere) = h
 

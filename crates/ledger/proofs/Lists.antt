@@ -10,7 +10,7 @@ use lib.ListN.{length, getD}
 use lib.Dec.{eqb}
 use borrow.Author.Tests.{eq-eqb, eqb-true, ne-eqb, eqb-false}
 use Rattle.lists.proofs.Count as tests
-use Rattle.ledger.specs.Lists.{all, any, anyTwo, keep}
+use Rattle.ledger.specs.Lists.{allOf, anyOf, anyTwo, keep}
 
 -- ---- tests
 pub neither-or : (a b : Bool) → a ≡ false → b ≡ false → a || b ≡ false
@@ -48,70 +48,70 @@ or-middle false false c d = refl
 -- ---- lists
 module _ {A : Type 0} where
   -- with one element more
-  pub all-snoc : (p : A → Bool) (xs : List A) (x : A) → all p (xs ++ (x ∷ [])) ≡ (all p xs && p x)
+  pub all-snoc : (p : A → Bool) (xs : List A) (x : A) → allOf p (xs ++ (x ∷ [])) ≡ (allOf p xs && p x)
   all-snoc p [] x = and-true (p x)
-  all-snoc p (y ∷ ys) x = ap (λ (b : Bool). p y && b) (all-snoc p ys x) ∙ sym (and-assoc (p y) (all p ys) (p x))
+  all-snoc p (y ∷ ys) x = ap (λ (b : Bool). p y && b) (all-snoc p ys x) ∙ sym (and-assoc (p y) (allOf p ys) (p x))
 
-  pub any-snoc : (p : A → Bool) (xs : List A) (x : A) → any p (xs ++ (x ∷ [])) ≡ (any p xs || p x)
+  pub any-snoc : (p : A → Bool) (xs : List A) (x : A) → anyOf p (xs ++ (x ∷ [])) ≡ (anyOf p xs || p x)
   any-snoc p [] x = or-false (p x)
-  any-snoc p (y ∷ ys) x = ap (λ (b : Bool). p y || b) (any-snoc p ys x) ∙ sym (or-assoc (p y) (any p ys) (p x))
+  any-snoc p (y ∷ ys) x = ap (λ (b : Bool). p y || b) (any-snoc p ys x) ∙ sym (or-assoc (p y) (anyOf p ys) (p x))
 
-  pub anyTwo-snoc : (r : A → A → Bool) (xs : List A) (x : A) → anyTwo r (xs ++ (x ∷ [])) ≡ (anyTwo r xs || any (λ y. r y x) xs)
+  pub anyTwo-snoc : (r : A → A → Bool) (xs : List A) (x : A) → anyTwo r (xs ++ (x ∷ [])) ≡ (anyTwo r xs || anyOf (λ y. r y x) xs)
   anyTwo-snoc r [] x = refl
   anyTwo-snoc r (y ∷ ys) x =
       ap₂ (λ (a b : Bool). a || b) (any-snoc (r y) ys x) (anyTwo-snoc r ys x)
-      ∙ or-middle (any (r y) ys) (r y x) (anyTwo r ys) (any (λ z. r z x) ys)
+      ∙ or-middle (anyOf (r y) ys) (r y x) (anyTwo r ys) (anyOf (λ z. r z x) ys)
 
   -- by tests that say the same
-  pub any-cong : (p q : A → Bool) (xs : List A) → ((x : A) → p x ≡ q x) → any p xs ≡ any q xs
+  pub any-cong : (p q : A → Bool) (xs : List A) → ((x : A) → p x ≡ q x) → anyOf p xs ≡ anyOf q xs
   any-cong p q [] same = refl
   any-cong p q (y ∷ ys) same = rw (same y, any-cong p q ys same)
 
   -- what a test over a list says of a member
-  pub all-member : (p : A → Bool) {x : A} (xs : List A) → all p xs ≡ true → List·Memᴰ x xs → p x ≡ true
+  pub all-member : (p : A → Bool) {x : A} (xs : List A) → allOf p xs ≡ true → List·Memᴰ x xs → p x ≡ true
   all-member p [] h m = absurd (List·Memᴰ·not-nil m)
   all-member p (y ∷ ys) h m =
-      let both = tests.and-both (p y) (all p ys) h in
+      let both = tests.and-both (p y) (allOf p ys) h in
       ⊎-elim (λ e. ap p e ∙ both .0) (λ k. all-member p ys (both .1) k) (List·Memᴰ·cases-cons m)
 
-  pub none-member : (p : A → Bool) {x : A} (xs : List A) → any p xs ≡ false → List·Memᴰ x xs → p x ≡ false
+  pub none-member : (p : A → Bool) {x : A} (xs : List A) → anyOf p xs ≡ false → List·Memᴰ x xs → p x ≡ false
   none-member p [] h m = absurd (List·Memᴰ·not-nil m)
   none-member p (y ∷ ys) h m =
-      let both = tests.or-neither (p y) (any p ys) h in
+      let both = tests.or-neither (p y) (anyOf p ys) h in
       ⊎-elim (λ e. ap p e ∙ both .0) (λ k. none-member p ys (both .1) k) (List·Memᴰ·cases-cons m)
 
   -- where no element passes, every one fails
-  pub none-all : (p : A → Bool) (xs : List A) → any p xs ≡ false → all (λ x. not (p x)) xs ≡ true
+  pub none-all : (p : A → Bool) (xs : List A) → anyOf p xs ≡ false → allOf (λ x. not (p x)) xs ≡ true
   none-all p [] h = refl
   none-all p (y ∷ ys) h =
-      let both = tests.or-neither (p y) (any p ys) h in
-      tests.both-and (not (p y)) (all (λ x. not (p x)) ys) (ap not (both .0)) (none-all p ys (both .1))
+      let both = tests.or-neither (p y) (anyOf p ys) h in
+      tests.both-and (not (p y)) (allOf (λ x. not (p x)) ys) (ap not (both .0)) (none-all p ys (both .1))
 
   -- what holds of a list holds of the elements kept
-  pub all-keep : (p q : A → Bool) (xs : List A) → all p xs ≡ true → all p (keep q xs) ≡ true
+  pub all-keep : (p q : A → Bool) (xs : List A) → allOf p xs ≡ true → allOf p (keep q xs) ≡ true
   all-keep p q [] h = h
-  all-keep p q (y ∷ ys) h = let both = tests.and-both (p y) (all p ys) h in go (q y) (both .0) (all-keep p q ys (both .1))
+  all-keep p q (y ∷ ys) h = let both = tests.and-both (p y) (allOf p ys) h in go (q y) (both .0) (all-keep p q ys (both .1))
     where
-      go : (b : Bool) → p y ≡ true → all p (keep q ys) ≡ true → all p (cond b (y ∷ keep q ys) (keep q ys)) ≡ true
-      go true e ih = tests.both-and (p y) (all p (keep q ys)) e ih
+      go : (b : Bool) → p y ≡ true → allOf p (keep q ys) ≡ true → allOf p (cond b (y ∷ keep q ys) (keep q ys)) ≡ true
+      go true e ih = tests.both-and (p y) (allOf p (keep q ys)) e ih
       go false e ih = ih
 
-  pub any-keep : (p q : A → Bool) (xs : List A) → any p xs ≡ false → any p (keep q xs) ≡ false
+  pub any-keep : (p q : A → Bool) (xs : List A) → anyOf p xs ≡ false → anyOf p (keep q xs) ≡ false
   any-keep p q [] h = h
-  any-keep p q (y ∷ ys) h = let both = tests.or-neither (p y) (any p ys) h in go (q y) (both .0) (any-keep p q ys (both .1))
+  any-keep p q (y ∷ ys) h = let both = tests.or-neither (p y) (anyOf p ys) h in go (q y) (both .0) (any-keep p q ys (both .1))
     where
-      go : (b : Bool) → p y ≡ false → any p (keep q ys) ≡ false → any p (cond b (y ∷ keep q ys) (keep q ys)) ≡ false
-      go true e ih = neither-or (p y) (any p (keep q ys)) e ih
+      go : (b : Bool) → p y ≡ false → anyOf p (keep q ys) ≡ false → anyOf p (cond b (y ∷ keep q ys) (keep q ys)) ≡ false
+      go true e ih = neither-or (p y) (anyOf p (keep q ys)) e ih
       go false e ih = ih
 
   pub anyTwo-keep : (r : A → A → Bool) (q : A → Bool) (xs : List A) → anyTwo r xs ≡ false → anyTwo r (keep q xs) ≡ false
   anyTwo-keep r q [] h = h
   anyTwo-keep r q (y ∷ ys) h =
-      let both = tests.or-neither (any (r y) ys) (anyTwo r ys) h in
+      let both = tests.or-neither (anyOf (r y) ys) (anyTwo r ys) h in
       go (q y) (any-keep (r y) q ys (both .0)) (anyTwo-keep r q ys (both .1))
     where
-      go : (b : Bool) → any (r y) (keep q ys) ≡ false → anyTwo r (keep q ys) ≡ false → anyTwo r (cond b (y ∷ keep q ys) (keep q ys)) ≡ false
-      go true e ih = neither-or (any (r y) (keep q ys)) (anyTwo r (keep q ys)) e ih
+      go : (b : Bool) → anyOf (r y) (keep q ys) ≡ false → anyTwo r (keep q ys) ≡ false → anyTwo r (cond b (y ∷ keep q ys) (keep q ys)) ≡ false
+      go true e ih = neither-or (anyOf (r y) (keep q ys)) (anyTwo r (keep q ys)) e ih
       go false e ih = ih
 
   pub length-keep : (q : A → Bool) (xs : List A) → length (keep q xs) ≤ length xs
@@ -123,9 +123,9 @@ module _ {A : Type 0} where
       go false ih = omega arith
 
   -- where every element passes, all are kept
-  pub keep-all : (q : A → Bool) (xs : List A) → all q xs ≡ true → keep q xs ≡ xs
+  pub keep-all : (q : A → Bool) (xs : List A) → allOf q xs ≡ true → keep q xs ≡ xs
   keep-all q [] h = refl
-  keep-all q (y ∷ ys) h = let both = tests.and-both (q y) (all q ys) h in go (q y) (both .0) (keep-all q ys (both .1))
+  keep-all q (y ∷ ys) h = let both = tests.and-both (q y) (allOf q ys) h in go (q y) (both .0) (keep-all q ys (both .1))
     where
       go : (b : Bool) → b ≡ true → keep q ys ≡ ys → cond b (y ∷ keep q ys) (keep q ys) ≡ y ∷ ys
       go true e ih = ap (λ (l : List A). y ∷ l) ih
@@ -163,6 +163,6 @@ module _ {A : Type 0} where
   anyTwo-at r [] j k d h l m = absurd (not-suc-le-zero m)
   anyTwo-at r (y ∷ ys) j zero d h l m = absurd (not-suc-le-zero l)
   anyTwo-at r (y ∷ ys) zero (suc k) d h l m =
-      none-member (r y) ys (tests.or-neither (any (r y) ys) (anyTwo r ys) h .0) (member-at ys k d (le-of-suc-le-suc m))
+      none-member (r y) ys (tests.or-neither (anyOf (r y) ys) (anyTwo r ys) h .0) (member-at ys k d (le-of-suc-le-suc m))
   anyTwo-at r (y ∷ ys) (suc j) (suc k) d h l m =
-      anyTwo-at r ys j k d (tests.or-neither (any (r y) ys) (anyTwo r ys) h .1) (le-of-suc-le-suc l) (le-of-suc-le-suc m)
+      anyTwo-at r ys j k d (tests.or-neither (anyOf (r y) ys) (anyTwo r ys) h .1) (le-of-suc-le-suc l) (le-of-suc-le-suc m)

@@ -10,7 +10,7 @@ use Rattle.lists.specs.Once.{EachOnce}
 use Rattle.lists.proofs.Count as tests
 use Rattle.refusals.specs.Refusals.{given, refused}
 use Rattle.refusals.proofs.Refusals.{not-given}
-use Rattle.ledger.specs.Lists.{any, anyTwo}
+use Rattle.ledger.specs.Lists.{anyOf, anyTwo}
 use Rattle.ledger.specs.Sessions.{Session, View, isLive}
 use Rattle.ledger.specs.Sound.{sameNumber, numberTwice, intact}
 use Rattle.ledger.specs.Calls.{lookIn, lookup}
@@ -39,10 +39,10 @@ pub shown : (ss : List Session) (s : Session) → numberTwice ss ≡ false → L
 unfolding numberTwice
 shown [] s h m = absurd (List·Memᴰ·not-nil m)
 shown (x ∷ ss) s h m =
-    let both = tests.or-neither (any (sameNumber x) ss) (anyTwo sameNumber ss) h in
+    let both = tests.or-neither (anyOf (sameNumber x) ss) (anyTwo sameNumber ss) h in
     go (eqb (x .number) (s .number)) refl (both .0) (List·Memᴰ·cases-cons m) (λ k. shown ss s (both .1) k)
   where
-    go : (b : Bool) → eqb (x .number) (s .number) ≡ b → any (sameNumber x) ss ≡ false → (s ≡ x) ⊎ List·Memᴰ s ss
+    go : (b : Bool) → eqb (x .number) (s .number) ≡ b → anyOf (sameNumber x) ss ≡ false → (s ≡ x) ⊎ List·Memᴰ s ss
         → (List·Memᴰ s ss → lookIn (s .number) ss ≡ given s) → cond b (given x) (lookIn (s .number) ss) ≡ given s
     go true e apart (inl p) ih = ap given (sym p)
     go true e apart (inr k) ih =
@@ -63,7 +63,7 @@ numbers-once : (ss : List Session) → numberTwice ss ≡ false → EachOnce (nu
 unfolding numberTwice
 numbers-once [] h = tt
 numbers-once (s ∷ ss) h =
-    let both = tests.or-neither (any (sameNumber s) ss) (anyTwo sameNumber ss) h in (
+    let both = tests.or-neither (anyOf (sameNumber s) ss) (anyTwo sameNumber ss) h in (
       λ m. let w = Memᴰ·of-map (λ u. u .number) ss m in
           clash (sameNumber s (w .0)) (eq-eqb (w .0 .number) (s .number) (w .2)) (none-member (sameNumber s) ss (both .0) (w .1)),
       numbers-once ss (both .1),

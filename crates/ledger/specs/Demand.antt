@@ -14,7 +14,7 @@ use Rattle.forwarding.specs.declared.Hop.{Hop}
 use Rattle.forwarding.specs.Schedule.{IsSchedule}
 use Rattle.forwarding.specs.Route.{transitions, routeAnswer}
 use Rattle.forwarding.specs.Answers.{Given}
-use Rattle.ledger.specs.Lists.{any}
+use Rattle.ledger.specs.Lists.{anyOf}
 use Rattle.ledger.specs.Sessions.{Held, Session, View, names, holds, isLive, hopsOf}
 use Rattle.ledger.specs.Sound.{intact}
 use Rattle.ledger.specs.Calls.{Call, SetUp, Quote, Release, Reply, schedule, freed, refusal, callCheck, reply, next, lookup}
@@ -44,7 +44,7 @@ pub record NamedAndKept (steps : List Step) (l i : ℕ) : Type 0 where
   pub later : List Step
   pub accepted : steps ≡ before ++ (did (SetUp number route) (schedule held count) ∷ later)
   pub named : names route (held .frames) l i ≡ true
-  pub kept : any (acceptedReleaseOf number) later ≡ false
+  pub kept : anyOf (acceptedReleaseOf number) later ≡ false
 
 -- the numbers of the live sessions, each once, "live ... when lookup gives it"
 pub record LiveNumbers (v : View) (ns : List ℕ) : Type 0 where

@@ -6,7 +6,7 @@ use lib.ListN.{length}
 use lib.Dec.{eqb, ltb}
 use Rattle.refusals.specs.Refusals.{Ruling, refuseIf, orElse}
 use Rattle.network.specs.Network.{Topology}
-use Rattle.ledger.specs.Lists.{any, anyTwo}
+use Rattle.ledger.specs.Lists.{anyOf, anyTwo}
 use Rattle.ledger.specs.Sessions.{linkAt}
 
 -- 12: "The route is empty or has over 8 links"
@@ -18,7 +18,7 @@ unfoldable pub unknown : ℕ → ℕ → Bool
 unknown count l = not (ltb l count)
 
 unfoldable pub unknownLink : Topology → List ℕ → Bool
-unknownLink net route = any (unknown (length (net .links))) route
+unknownLink net route = anyOf (unknown (length (net .links))) route
 
 -- 14: "A link appears twice in the route"
 unfoldable pub linkTwice : List ℕ → Bool

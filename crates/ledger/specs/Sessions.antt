@@ -11,7 +11,7 @@ use Rattle.network.specs.Network.{Topology, noLink}
 use Rattle.network.specs.declared.Link.{Link}
 use Rattle.forwarding.specs.declared.Hop.{Hop}
 use Rattle.forwarding.specs.Forwarding.{isFree}
-use Rattle.ledger.specs.Lists.{any}
+use Rattle.ledger.specs.Lists.{anyOf}
 
 -- what a schedule gives, and a session holds: "its answer's frames and delay", hop 0 first; a field that is added later stands here
 pub record Held : Type 0 where
@@ -41,7 +41,7 @@ holds l i s = names (s .route) (s .held .frames) l i
 
 -- some session of the list holds frame i of link l: "held by a live session"
 abbrev pub heldIn : List Session → ℕ → ℕ → Bool
-heldIn ss l i = any (holds l i) ss
+heldIn ss l i = anyOf (holds l i) ss
 
 -- the words of held frames of 32 links: bit i of word l stands where a session holds frame i of link l
 abbrev pub HeldWords : List ℕ → List Session → Type 0
@@ -49,7 +49,7 @@ HeldWords words ss = Words 32 words (heldIn ss)
 
 -- a session of the list has the number: "the number is live"
 abbrev pub isLive : ℕ → List Session → Bool
-isLive n ss = any (λ s. eqb (s .number) n) ss
+isLive n ss = anyOf (λ s. eqb (s .number) n) ss
 
 -- link l of a network
 abbrev pub linkAt : Topology → ℕ → Link

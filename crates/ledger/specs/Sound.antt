@@ -8,7 +8,7 @@ use Rattle.refusals.specs.Refusals.{Ruling, given, refused, refuseIf}
 use Rattle.network.specs.Network.{Topology}
 use Rattle.network.specs.Checks.{networkCheck}
 use Rattle.forwarding.specs.Schedule.{isSchedule, scheduleDelay}
-use Rattle.ledger.specs.Lists.{all, anyTwo}
+use Rattle.ledger.specs.Lists.{allOf, anyTwo}
 use Rattle.ledger.specs.Sessions.{Session, View, holds, hopsOf}
 use Rattle.ledger.specs.Routes.{routeCheck}
 
@@ -58,7 +58,7 @@ sound v =
     goodNetwork (v .network)
     && (fewSessions (v .live)
     && (not (numberTwice (v .live))
-    && (all (goodSession (v .network)) (v .live)
+    && (allOf (goodSession (v .network)) (v .live)
     && not (frameTwice (v .live)))))
 
 -- "0 takes in ... every stored field added later, by the rule that gives it": no field of the base follows from others

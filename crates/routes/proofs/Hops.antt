@@ -22,7 +22,7 @@ use Rattle.network.proofs.Tests.{cycle-passed, frames-passed, range-passed}
 use Rattle.network.proofs.Checks.{GoodLink, network-good}
 use Rattle.forwarding.specs.declared.Hop.{Hop}
 use Rattle.forwarding.specs.Hops.{noHop, HopReady}
-use Rattle.ledger.specs.Lists.{any}
+use Rattle.ledger.specs.Lists.{anyOf}
 use Rattle.ledger.specs.Sessions.{Session, HeldWords, heldIn, linkAt, freeOf, hopOf, hopsOf}
 use Rattle.ledger.specs.Routes.{unknown, unknownLink}
 use Rattle.routes.specs.Hops.{hopFrom, hopsFrom, RouteReady}
@@ -76,10 +76,10 @@ hop-held network held ss l w e h =
     rw (← stored-link network l h, w .word l (in-places network l h e))
     (sym (hop-told k (wordOf 64 (heldIn ss l)) (freeOf (topologyOf network) ss l) (sym (free-same (k .frames) (k .closed) (wordOf 64 (heldIn ss l)) (wordOf (k .frames) (heldIn ss l)) (held-below (k .frames) (heldIn ss l) b)))))
 
-map-known : (f g : ℕ → Hop) (count : ℕ) → ((l : ℕ) → l < count → f l ≡ g l) → (route : List ℕ) → any (unknown count) route ≡ false → map f route ≡ map g route
+map-known : (f g : ℕ → Hop) (count : ℕ) → ((l : ℕ) → l < count → f l ≡ g l) → (route : List ℕ) → anyOf (unknown count) route ≡ false → map f route ≡ map g route
 map-known f g count h [] e = refl
 map-known f g count h (l ∷ route) e =
-    let o : (unknown count l ≡ false) × (any (unknown count) route ≡ false) = or-neither (unknown count l) (any (unknown count) route) e in
+    let o : (unknown count l ≡ false) × (anyOf (unknown count) route ≡ false) = or-neither (unknown count l) (anyOf (unknown count) route) e in
     rw (h l (known-passed count l (o .0)), map-known f g count h route (o .1))
 
 -- THE HOPS BY STORED WORDS ARE THE HOPS BY THE SESSIONS

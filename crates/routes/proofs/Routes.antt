@@ -11,7 +11,7 @@ use Rattle.refusals.proofs.Refusals.{past}
 use Rattle.network.specs.declared.Link.{Link}
 use Rattle.network.specs.declared.Network.{Network}
 use Rattle.network.specs.Network.{Topology, noLink, topologyOf}
-use Rattle.ledger.specs.Lists.{any}
+use Rattle.ledger.specs.Lists.{anyOf}
 use Rattle.ledger.specs.Sessions.{linkAt}
 use Rattle.ledger.specs.Routes.{badLength, unknown, unknownLink, linkTwice, apart, ratesApart, ratesOf, routeCheck}
 use Rattle.routes.proofs.Tests.{length-passed}
@@ -64,7 +64,7 @@ module _ (network : Network) (route : List ℕ) (b : Bool) (eb : b ≡ badLength
   unfolding routeCheck
   length-refused h = rw (← eb, h)
 
-  module _ (h : b ≡ false) (d : Bool) (ed : d ≡ any (unknown (network .count)) route) where
+  module _ (h : b ≡ false) (d : Bool) (ed : d ≡ anyOf (unknown (network .count)) route) where
     unknown-told : d ≡ unknownLink (topologyOf network) route
     unfolding unknownLink
     unknown-told = rw (many-links network) ed

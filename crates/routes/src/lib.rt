@@ -16,7 +16,7 @@ ghost use Rattle.network.specs.Network.{topologyOf};
 ghost use Rattle.network.specs.Checks.{networkCheck};
 ghost use Rattle.forwarding.specs.Forwarding.{isFree};
 ghost use Rattle.forwarding.specs.Hops.{noHop, HopReady, Ready};
-ghost use Rattle.ledger.specs.Lists.{any};
+ghost use Rattle.ledger.specs.Lists.{anyOf};
 ghost use Rattle.ledger.specs.Routes.{badLength, unknown, unknownLink, linkTwice, apart, ratesApart, ratesOf, routeCheck};
 ghost use Rattle.routes.specs.Hops.{hopFrom, hopsFrom, delayIf, walkedDelay};
 ghost use Rattle.routes.specs.Inner.{stepIf};
@@ -36,7 +36,7 @@ fn bad_length(n: usize) -> bool
 
 // Whether check 13 refuses a link of the route.
 fn unknown_link(count: usize, route: &[u8]) -> bool
-    ensures { λ r. ⌜ r ≡ any (unknown count) (now (route .entry)) ⌝ }
+    ensures { λ r. ⌜ r ≡ anyOf (unknown count) (now (route .entry)) ⌝ }
 {
     let mut j = 0;
     while j < route.len() {
@@ -50,7 +50,7 @@ fn unknown_link(count: usize, route: &[u8]) -> bool
 
 // Whether a link stands in the route from place `from` on.
 fn stands_from(route: &[u8], from: usize, link: u8) -> bool
-    ensures { λ r. ⌜ r ≡ any (eqb link) (drop from (now (route .entry))) ⌝ }
+    ensures { λ r. ⌜ r ≡ anyOf (eqb link) (drop from (now (route .entry))) ⌝ }
 {
     let mut j = from;
     while j < route.len() {

@@ -15,7 +15,7 @@ use Rattle.network.proofs.Tests.{count-passed, frames-passed}
 use Rattle.network.proofs.Checks.{network-good}
 use Rattle.forwarding.specs.declared.Hop.{Hop}
 use Rattle.forwarding.specs.Schedule.{GoesOn, IsSchedule}
-use Rattle.ledger.specs.Lists.{all}
+use Rattle.ledger.specs.Lists.{allOf}
 use Rattle.ledger.specs.Sessions.{Session, linkAt, hopOf, hopsOf}
 use Rattle.ledger.specs.Sound.{goodSession, intact}
 use Rattle.ledger.proofs.Lists.{all-member, member-at}
@@ -69,7 +69,7 @@ pub place-session : (n i : ℕ) (places : List Place) → i < n → getD (inPlac
 place-session n i places h = List·getD-map sessionOf (firsts n places noPlace) i noPlace ∙ ap sessionOf (getD-firsts n i places noPlace h)
 
 -- a table whose sessions are all good
-module _ (net : Topology) (table : Table) (good : all (goodSession net) (liveOf table) ≡ true) where
+module _ (net : Topology) (table : Table) (good : allOf (goodSession net) (liveOf table) ≡ true) where
   pub place-good : (i : ℕ) → i < table .live → GoodSession net (sessionOf (getD (table .places) i noPlace))
   place-good i h =
       session-good net (sessionOf (getD (table .places) i noPlace))

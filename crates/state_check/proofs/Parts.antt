@@ -10,7 +10,7 @@ use Rattle.refusals.specs.declared.Verdict.{Verdict}
 use Rattle.refusals.specs.declared.Verdict.the-variants.{Passed, Refused}
 use Rattle.network.specs.Network.{topologyOf}
 use Rattle.network.specs.Checks.{networkCheck}
-use Rattle.ledger.specs.Lists.{all}
+use Rattle.ledger.specs.Lists.{allOf}
 use Rattle.ledger.specs.Sound.{goodNetwork, fewSessions, numberTwice, goodSession, frameTwice, sound, intact}
 use Rattle.table.specs.Table.{liveOf}
 use Rattle.table.proofs.Live.{in-length}
@@ -20,7 +20,7 @@ use Rattle.state.specs.State.{viewOf}
 module _ (st : State) (v : Verdict) (ev : ruling v ≡ networkCheck (topologyOf (st .network))) where
   -- the five parts of a sound state, as tests
   parts : (a b c d e : Bool) → goodNetwork (topologyOf (st .network)) ≡ a → fewSessions (liveOf (st .table)) ≡ b → numberTwice (liveOf (st .table)) ≡ c
-      → all (goodSession (topologyOf (st .network))) (liveOf (st .table)) ≡ d → frameTwice (liveOf (st .table)) ≡ e
+      → allOf (goodSession (topologyOf (st .network))) (liveOf (st .table)) ≡ d → frameTwice (liveOf (st .table)) ≡ e
       → not (intact (viewOf st)) ≡ not ((a && (b && (not c && (d && not e)))) && true)
   unfolding intact sound
   parts a b c d e p q r s t = rw (p, q, r, s, t)
@@ -55,7 +55,7 @@ module _ (st : State) (v : Verdict) (ev : ruling v ≡ networkCheck (topologyOf 
         pub numbers-fail : b ≡ true → true ≡ not (intact (viewOf st))
         numbers-fail q = sym (parts true true true _ _ good few (sym eb ∙ q) refl refl)
 
-        module _ (q : b ≡ false) (d : Bool) (ed : d ≡ all (goodSession (topologyOf (st .network))) (liveOf (st .table))) where
+        module _ (q : b ≡ false) (d : Bool) (ed : d ≡ allOf (goodSession (topologyOf (st .network))) (liveOf (st .table))) where
           pub sessions-fail : d ≡ false → true ≡ not (intact (viewOf st))
           sessions-fail w = sym (parts true true false false _ good few (sym eb ∙ q) (sym ed ∙ w) refl)
 

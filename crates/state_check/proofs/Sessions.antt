@@ -22,7 +22,7 @@ use Rattle.forwarding.specs.declared.Hop.{Hop}
 use Rattle.forwarding.specs.declared.Delay.{Delay}
 use Rattle.forwarding.specs.Hops.{noHop, Ready}
 use Rattle.forwarding.specs.Schedule.{isSchedule, scheduleDelay}
-use Rattle.ledger.specs.Lists.{all}
+use Rattle.ledger.specs.Lists.{allOf}
 use Rattle.ledger.specs.Sessions.{HeldWords, hopsOf}
 use Rattle.ledger.specs.Routes.{badLength, routeCheck}
 use Rattle.ledger.specs.Sound.{passes, goodSession}
@@ -121,23 +121,23 @@ module _ (network : Network) (place : Place) where
 module _ (network : Network) (n : ℕ) (places : List Place) where
   pub record GoodSoFar (i : ℕ) : Type 0 where
     pub within : i ≤ n
-    pub same : all (goodSession (topologyOf network)) (inPlaces n places) ≡ all (goodSession (topologyOf network)) (drop i (inPlaces n places))
+    pub same : allOf (goodSession (topologyOf network)) (inPlaces n places) ≡ allOf (goodSession (topologyOf network)) (drop i (inPlaces n places))
 
   pub none-bad : GoodSoFar 0
   none-bad = record { within = omega arith; same = refl }
 
   module _ (i : ℕ) (p : GoodSoFar i) where
     module _ (h : i < n) (b : Bool) (eb : b ≡ goodSession (topologyOf network) (sessionOf (getD places i noPlace))) where
-      split : all (goodSession (topologyOf network)) (inPlaces n places) ≡ (b && all (goodSession (topologyOf network)) (drop (i + 1) (inPlaces n places)))
+      split : allOf (goodSession (topologyOf network)) (inPlaces n places) ≡ (b && allOf (goodSession (topologyOf network)) (drop (i + 1) (inPlaces n places)))
       split =
-          p .same ∙ ap (all (goodSession (topologyOf network))) (in-next n places i h)
-          ∙ ap (λ (x : Bool). x && all (goodSession (topologyOf network)) (drop (i + 1) (inPlaces n places))) (sym eb)
+          p .same ∙ ap (allOf (goodSession (topologyOf network))) (in-next n places i h)
+          ∙ ap (λ (x : Bool). x && allOf (goodSession (topologyOf network)) (drop (i + 1) (inPlaces n places))) (sym eb)
 
-      pub one-bad : b ≡ false → false ≡ all (goodSession (topologyOf network)) (inPlaces n places)
-      one-bad e = sym (split ∙ ap (λ (x : Bool). x && all (goodSession (topologyOf network)) (drop (i + 1) (inPlaces n places))) e)
+      pub one-bad : b ≡ false → false ≡ allOf (goodSession (topologyOf network)) (inPlaces n places)
+      one-bad e = sym (split ∙ ap (λ (x : Bool). x && allOf (goodSession (topologyOf network)) (drop (i + 1) (inPlaces n places))) e)
 
       pub one-good : b ≡ true → GoodSoFar (i + 1)
-      one-good e = record { within = omega arith; same = split ∙ ap (λ (x : Bool). x && all (goodSession (topologyOf network)) (drop (i + 1) (inPlaces n places))) e }
+      one-good e = record { within = omega arith; same = split ∙ ap (λ (x : Bool). x && allOf (goodSession (topologyOf network)) (drop (i + 1) (inPlaces n places))) e }
 
-    pub all-good : n ≤ i → true ≡ all (goodSession (topologyOf network)) (inPlaces n places)
-    all-good h = sym (p .same ∙ ap (all (goodSession (topologyOf network))) (in-end n places i h))
+    pub all-good : n ≤ i → true ≡ allOf (goodSession (topologyOf network)) (inPlaces n places)
+    all-good h = sym (p .same ∙ ap (allOf (goodSession (topologyOf network))) (in-end n places i h))

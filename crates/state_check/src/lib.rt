@@ -11,7 +11,7 @@ ghost use Prim.Native.Nat.{_≤_};
 ghost use Rattle.refusals.specs.Refusals.{given, pass};
 ghost use Rattle.network.specs.Network.{topologyOf};
 ghost use Rattle.network.specs.Checks.{networkCheck};
-ghost use Rattle.ledger.specs.Lists.{all};
+ghost use Rattle.ledger.specs.Lists.{allOf};
 ghost use Rattle.ledger.specs.Sound.{goodSession, intact};
 ghost use Rattle.table.specs.Table.{sessionOf, liveOf};
 ghost use Rattle.state.specs.State.{viewOf};
@@ -43,7 +43,7 @@ fn good_session(network: Network, place: Place) -> bool
 // Whether each live session is so.
 fn good_sessions(network: Network, table: Table) -> bool
     requires { ⌜ (networkCheck (topologyOf network) ≡ given pass) × (table .live ≤ 96) ⌝ }
-    ensures { λ r. ⌜ r ≡ all (goodSession (topologyOf network)) (liveOf table) ⌝ }
+    ensures { λ r. ⌜ r ≡ allOf (goodSession (topologyOf network)) (liveOf table) ⌝ }
 {
     let live = table.live;
     let mut i: usize = 0;

@@ -7,7 +7,7 @@ use native.Mathlib.Omega.{arith}
 use lib.ListN.{getD, replicate}
 use Rattle.places.specs.Places.{firsts}
 use Rattle.words.specs.Word.{bitOf, Words}
-use Rattle.ledger.specs.Lists.{any, anyTwo}
+use Rattle.ledger.specs.Lists.{anyOf, anyTwo}
 use Rattle.ledger.specs.Sessions.{Session, HeldWords, holds, heldIn}
 use Rattle.ledger.specs.Sound.{someFrame, shareFrame, frameTwice}
 use Rattle.ledger.proofs.Lists.{or-middle, any-snoc}
@@ -28,15 +28,15 @@ held-more places i old new w m =
     (m (heldIn (inPlaces i places)) w)
 
 -- a frame of a session that one of some sessions holds, and one of the sessions that shares a frame with it
-any-or : (p q : Session → Bool) (ss : List Session) → (any p ss || any q ss) ≡ any (λ s. p s || q s) ss
+any-or : (p q : Session → Bool) (ss : List Session) → (anyOf p ss || anyOf q ss) ≡ anyOf (λ s. p s || q s) ss
 any-or p q [] = refl
-any-or p q (s ∷ ss) = or-middle (p s) (any p ss) (q s) (any q ss) ∙ ap (λ (b : Bool). (p s || q s) || b) (any-or p q ss)
+any-or p q (s ∷ ss) = or-middle (p s) (anyOf p ss) (q s) (anyOf q ss) ∙ ap (λ (b : Bool). (p s || q s) || b) (any-or p q ss)
 
-any-none : (ss : List Session) → any (λ s. false) ss ≡ false
+any-none : (ss : List Session) → anyOf (λ s. false) ss ≡ false
 any-none [] = refl
 any-none (s ∷ ss) = any-none ss
 
-some-held : (ss : List Session) (route frames : List ℕ) → someFrame (heldIn ss) route frames ≡ any (λ s. someFrame (λ l i. holds l i s) route frames) ss
+some-held : (ss : List Session) (route frames : List ℕ) → someFrame (heldIn ss) route frames ≡ anyOf (λ s. someFrame (λ l i. holds l i s) route frames) ss
 some-held ss [] fs = sym (any-none ss)
 some-held ss (l ∷ ls) [] = sym (any-none ss)
 some-held ss (l ∷ ls) (i ∷ fs) =
@@ -55,7 +55,7 @@ some-cong p q (suc n) (r ∷ rs) (f ∷ fs) e = ap₂ (λ (a b : Bool). a || b) 
 -- what the words of the sessions before say of the next one
 pub met-shares : (places : List Place) (i : ℕ) (words : List ℕ) → Words 32 words (heldIn (inPlaces i places)) → PlaceWithin (getD places i noPlace)
     → someFrame (λ l k. bitOf (getD words l 0) k) (sessionOf (getD places i noPlace) .route) (sessionOf (getD places i noPlace) .held .frames)
-    ≡ any (λ s. shareFrame s (sessionOf (getD places i noPlace))) (inPlaces i places)
+    ≡ anyOf (λ s. shareFrame s (sessionOf (getD places i noPlace))) (inPlaces i places)
 met-shares places i words w h =
     some-cong (λ l k. bitOf (getD words l 0) k) (heldIn (inPlaces i places)) (place .hops) (place .route) (place .frames)
     (λ j g. words-bit 32 words (heldIn (inPlaces i places)) w (getD (place .route) j 0) (getD (place .frames) j 0) (h .link j g) (h .frame j g))

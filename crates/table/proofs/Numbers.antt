@@ -9,7 +9,7 @@ use lib.Dec.{eqb}
 use borrow.Author.Tests.{eq-eqb, eqb-true, eqb-false}
 use Rattle.places.specs.Places.{firsts}
 use Rattle.words.specs.Word.{bitOf, withBit, Words}
-use Rattle.ledger.specs.Lists.{any, anyTwo}
+use Rattle.ledger.specs.Lists.{anyOf, anyTwo}
 use Rattle.ledger.specs.Sessions.{Session}
 use Rattle.ledger.specs.Sound.{sameNumber, numberTwice}
 use Rattle.ledger.proofs.Lists.{any-snoc}
@@ -20,7 +20,7 @@ use Rattle.table.proofs.Banks.{words-bit, words-same, words-none, words
 
 -- some of the first i sessions has the number 64 × a + b
 pub seenIn : List Place → ℕ → ℕ → ℕ → Bool
-seenIn places i a b = any (λ s. eqb (64 * a + b) (s .number)) (inPlaces i places)
+seenIn places i a b = anyOf (λ s. eqb (64 * a + b) (s .number)) (inPlaces i places)
 
 pub none-seen : (places : List Place) → Words 1024 (replicate 1024 0) (seenIn places 0)
 unfolding firsts seenIn
@@ -28,11 +28,11 @@ none-seen places = words-none 1024
 
 -- the bit of a number
 pub number-seen : (places : List Place) (i : ℕ) (seen : List ℕ) → Words 1024 seen (seenIn places i) → (n : ℕ) → n ≡ getD places i noPlace .number → n < 65536
-    → bitOf (getD seen (n / 64) 0) (n % 64) ≡ any (λ s. sameNumber s (sessionOf (getD places i noPlace))) (inPlaces i places)
+    → bitOf (getD seen (n / 64) 0) (n % 64) ≡ anyOf (λ s. sameNumber s (sessionOf (getD places i noPlace))) (inPlaces i places)
 unfolding seenIn
 number-seen places i seen w n e h =
     words-bit 1024 seen (seenIn places i) w (n / 64) (n % 64) (omega (arith, h)) (omega arith)
-    ∙ ap (λ (m : ℕ). any (λ s. eqb m (s .number)) (inPlaces i places)) {x = 64 * (n / 64) + n % 64} {y = getD places i noPlace .number} (omega (arith, e))
+    ∙ ap (λ (m : ℕ). anyOf (λ s. eqb m (s .number)) (inPlaces i places)) {x = 64 * (n / 64) + n % 64} {y = getD places i noPlace .number} (omega (arith, e))
 
 same-parts : (n a b : ℕ) → b < 64 → (eqb (n / 64) a && eqb (n % 64) b) ≡ eqb (64 * a + b) n
 same-parts n a b h = go (eqb (64 * a + b) n) refl
@@ -63,7 +63,7 @@ number-put places i seen w n e h x ex =
     (words-same 1024 _ (λ a b. seenIn places i a b || (eqb (n / 64) a && eqb (n % 64) b)) (seenIn places (i + 1))
     (λ a b ha hb.
     ap (λ (x : Bool). seenIn places i a b || x) (same-parts n a b hb ∙ ap (λ (m : ℕ). eqb (64 * a + b) m) e)
-    ∙ sym (ap (any (λ s. eqb (64 * a + b) (s .number))) (in-snoc i places) ∙ any-snoc (λ s. eqb (64 * a + b) (s .number)) (inPlaces i places) (sessionOf (getD places i noPlace))))
+    ∙ sym (ap (anyOf (λ s. eqb (64 * a + b) (s .number))) (in-snoc i places) ∙ any-snoc (λ s. eqb (64 * a + b) (s .number)) (inPlaces i places) (sessionOf (getD places i noPlace))))
     (words-put 1024 seen (seenIn places i) w (n / 64) (n % 64) (omega (arith, h))))
 
 -- "a number is live twice", by twos

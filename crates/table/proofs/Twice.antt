@@ -7,7 +7,7 @@ use native.Mathlib.Nat.{add-zero}
 use native.Mathlib.Omega.{arith}
 use lib.ListN.{getD}
 use Rattle.places.specs.Places.{firsts}
-use Rattle.ledger.specs.Lists.{any, anyTwo}
+use Rattle.ledger.specs.Lists.{anyOf, anyTwo}
 use Rattle.ledger.specs.Sessions.{Session}
 use Rattle.ledger.proofs.Lists.{anyTwo-snoc}
 use Rattle.table.specs.declared.Place.{Place}
@@ -20,7 +20,7 @@ module _ (r : Session → Session → Bool) (places : List Place) where
     pub within : i ≤ n
     pub none : anyTwo r (inPlaces i places) ≡ false
 
-  two-next : (i : ℕ) → anyTwo r (inPlaces (i + 1) places) ≡ (anyTwo r (inPlaces i places) || any (λ s. r s (sessionOf (getD places i noPlace))) (inPlaces i places))
+  two-next : (i : ℕ) → anyTwo r (inPlaces (i + 1) places) ≡ (anyTwo r (inPlaces i places) || anyOf (λ s. r s (sessionOf (getD places i noPlace))) (inPlaces i places))
   two-next i = ap (anyTwo r) (in-snoc i places) ∙ anyTwo-snoc r (inPlaces i places) (sessionOf (getD places i noPlace))
 
   still : (m k : ℕ) → anyTwo r (inPlaces m places) ≡ true → anyTwo r (inPlaces (m + k) places) ≡ true
@@ -28,10 +28,10 @@ module _ (r : Session → Session → Bool) (places : List Place) where
   still m (suc k) e =
       ap (λ (x : ℕ). anyTwo r (inPlaces x places)) (omega arith)
       ∙ two-next (m + k)
-      ∙ ap (λ (b : Bool). b || any (λ s. r s (sessionOf (getD places (m + k) noPlace))) (inPlaces (m + k) places)) (still m k e)
+      ∙ ap (λ (b : Bool). b || anyOf (λ s. r s (sessionOf (getD places (m + k) noPlace))) (inPlaces (m + k) places)) (still m k e)
 
   module _ (n i : ℕ) (h : NoTwo n i) where
-    module _ (l : i < n) (b : Bool) (eb : b ≡ any (λ s. r s (sessionOf (getD places i noPlace))) (inPlaces i places)) where
+    module _ (l : i < n) (b : Bool) (eb : b ≡ anyOf (λ s. r s (sessionOf (getD places i noPlace))) (inPlaces i places)) where
       pub two-found : b ≡ true → true ≡ anyTwo r (inPlaces n places)
       two-found e =
           sym (ap (λ (x : ℕ). anyTwo r (inPlaces x places)) {x = n} {y = i + 1 + (n - (i + 1))} (omega arith)

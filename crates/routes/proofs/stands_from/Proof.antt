@@ -5,13 +5,13 @@ use borrow.Author.Needs.{needs}
 use borrow.Author.Tests.{eq-eqb, ne-eqb}
 use lib.Dec.{eqb}
 use lib.ListN.{length, drop}
-use Rattle.ledger.specs.Lists.{any}
+use Rattle.ledger.specs.Lists.{anyOf}
 use Rattle.routes.proofs.Sought.{here, not-here, nowhere}
 use Rattle.routes.proofs.stands_from.Statement.{statement}
 use Rattle.routes.proofs.stands_from.Tie as tie
 
 abbrev Inv-loop : tie.InvT-loop
-Inv-loop route from link j₀ j = any (eqb link) (drop from route) ≡ any (eqb link) (drop j route)
+Inv-loop route from link j₀ j = anyOf (eqb link) (drop from route) ≡ anyOf (eqb link) (drop j route)
 
 abbrev μ-loop : tie.MeasureT-loop
 μ-loop route from link j₀ j = length route - j

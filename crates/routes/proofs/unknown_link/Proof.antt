@@ -3,7 +3,7 @@ use mathlib.Core.Path.{_≡_, refl}
 use Prim.Native.Nat.{ℕ, _-_}
 use borrow.Author.Needs.{needs}
 use lib.ListN.{length, drop}
-use Rattle.ledger.specs.Lists.{any}
+use Rattle.ledger.specs.Lists.{anyOf}
 use Rattle.ledger.specs.Routes.{unknown}
 use Rattle.routes.proofs.Tests.{not-known, known}
 use Rattle.routes.proofs.Sought.{here, not-here, nowhere}
@@ -11,7 +11,7 @@ use Rattle.routes.proofs.unknown_link.Statement.{statement}
 use Rattle.routes.proofs.unknown_link.Tie as tie
 
 abbrev Inv-loop : tie.InvT-loop
-Inv-loop count route j₀ j = any (unknown count) route ≡ any (unknown count) (drop j route)
+Inv-loop count route j₀ j = anyOf (unknown count) route ≡ anyOf (unknown count) (drop j route)
 
 abbrev μ-loop : tie.MeasureT-loop
 μ-loop count route j₀ j = length route - j
