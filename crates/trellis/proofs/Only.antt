@@ -1,9 +1,9 @@
--- The rule has one answer, and its cost is the least. Assumes nothing.
+-- The rule has one answer. Assumes nothing.
 use mathlib.Core.Path.{_≡_, refl, sym, _∙_, ap, ap₂}
 use mathlib.Core.List.{List, [], _∷_, reverse, reverse-reverse}
-use Prim.Native.Nat.{ℕ, _≤_}
-use Rattle.lists.proofs.Order.{precedes-antisym, precedes-head}
-use Rattle.trellis.specs.Trellis.{Trellis, entry, _▸_, Leads, total, behind, IsPath, pathCost, pathKey, Least}
+use Prim.Native.Nat.{ℕ}
+use Rattle.lists.proofs.Order.{precedes-antisym}
+use Rattle.trellis.specs.Trellis.{Trellis, entry, _▸_, Leads, behind, IsPath, pathKey, Least}
 use Rattle.trellis.specs.Answer.{found, blocked, AnswerOnly}
 
 -- a path is known by its key
@@ -39,9 +39,3 @@ answer-only t (found c n p) (found c′ n′ p′) h l =
 answer-only t (found c n p) (blocked n′) h l = absurd (l .0 (reverse p) (h .0 .path))
 answer-only t (blocked n) (found c′ n′ p′) h l = absurd (h .0 (reverse p′) (l .0 .path))
 answer-only t (blocked n) (blocked n′) h l = ap blocked (h .1 ∙ sym (l .1))
-
--- the cost of an answer is the least of all, in so many words
-pub least-cost : (t : Trellis) (p q : List ℕ) → Least t p → IsPath t q → pathCost t p ≤ pathCost t q
-least-cost t [] q h l = absurd (h .path)
-least-cost t (i ∷ p) [] h l = absurd l
-least-cost t (i ∷ p) (j ∷ q) h l = precedes-head (total t i p) (total t j q) (i ∷ behind t i p) (j ∷ behind t j q) (h .first (j ∷ q) l)
