@@ -101,7 +101,7 @@ pub data Runs : View → List Step → View → Type 0 where
   over : {v : View} → Runs v [] v
   then : {v last : View} {steps : List Step} (call : Call) → Runs (next v call) steps last → Runs v (did call (reply v call) ∷ steps) last
 
--- DEMAND 3, "for every list of set-ups, quotes and releases, refused ones included, from a fresh network"
+-- DEMAND 3, for every list of set-ups, quotes and releases, refused ones included, from a fresh network
 abbrev pub Demand3Holds : Type 0
 Demand3Holds = (net : Topology) → networkCheck net ≡ given pass → (steps : List Step) (v : View) → Runs (fresh net) steps v → Demand3 net v steps
 

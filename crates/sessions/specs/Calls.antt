@@ -56,7 +56,7 @@ pub data Ran : State → List Step → State → Type 0 where
 abbrev pub RanRuns : Type 0
 RanRuns = (st last : State) (steps : List Step) → Ran st steps last → Runs (viewOf st) steps (viewOf last)
 
--- DEMAND 3 OF THE STORED STATES: for every network that `begin` passed, and "every list of set-ups, quotes and releases, refused ones included", on the
+-- DEMAND 3 OF THE STORED STATES: for every network that `begin` passed, and every list of set-ups, quotes and releases, refused ones included, on the
 -- states that the calls returned
 abbrev pub StoredDemand3 : Type 0
 StoredDemand3 = (network : Network) (r : Begun) → Begins network r → r .verdict ≡ Passed → (last : State) (steps : List Step) → Ran (r .state) steps last
