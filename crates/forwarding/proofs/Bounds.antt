@@ -11,10 +11,11 @@ use Rattle.trellis.proofs.Bound.{step-bound}
 use Rattle.forwarding.specs.declared.Hop.{Hop}
 use Rattle.forwarding.specs.Forwarding.{choices}
 use Rattle.forwarding.specs.Hops.{AllReady}
-use Rattle.forwarding.specs.Schedule.{GoesOn, onwardDelay, boundFrom}
-use Rattle.forwarding.specs.Route.{starts, stage, stages}
-use Rattle.forwarding.specs.Answers.{CountBound, DelayOneHop, DelayBound}
+use Rattle.forwarding.specs.Schedule.{GoesOn, onwardDelay, boundFrom, transitionBound}
+use Rattle.forwarding.specs.Route.{starts, stage, stages, transitions}
+use Rattle.forwarding.specs.LeastDelay.{CountBound, DelayOneHop, DelayWithin, DelayBound}
 use Rattle.forwarding.proofs.Transitions.{allowed-cap, allowed-narrow}
+use Rattle.forwarding.proofs.Counted.{count-only, transitions-counted}
 
 grown-bound : (T : ℕ) (t : Trellis) (g : Hop) (hs : List Hop) → width t ≡ g .frames → AllReady T hs
     → considered (grow t (stages T g hs)) ≤ considered t + boundFrom g hs
@@ -27,10 +28,13 @@ grown-bound T t g (h ∷ hs) e p =
       ap (λ (x : ℕ). x * choices h) e,
     )
 
+transitions-bound : (T : ℕ) (hops : List Hop) → AllReady T hops → transitions T hops ≤ transitionBound hops
+transitions-bound T [] p = omega arith
+transitions-bound T (h ∷ hs) p = omega (arith, grown-bound T (entry (h .frames) (starts h)) h hs refl (p .1))
+
 -- THE COUNT'S BOUND
 pub count-bound : CountBound
-count-bound T [] p = omega arith
-count-bound T (h ∷ hs) p = omega (arith, grown-bound T (entry (h .frames) (starts h)) h hs refl (p .1))
+count-bound T hops n p c = omega (arith, transitions-bound T hops p, count-only hops n (transitions T hops) c (transitions-counted T hops))
 
 onward-cap : (T : ℕ) (g : Hop) (k : ℕ) (hs : List Hop) (is : List ℕ) → AllReady T hs → GoesOn g k hs is → onwardDelay T g k hs is ≤ length hs * T
 onward-cap T g k [] is p o = omega arith
@@ -43,8 +47,11 @@ delay-one-hop T h [] = refl
 delay-one-hop T h (k ∷ is) = refl
 
 -- THE DELAY'S BOUND: a cycle for each later hop
+pub delay-within : DelayWithin
+delay-within T h hs [] p s = absurd s
+delay-within T h hs (k ∷ is) p s = onward-cap T h k hs is p (s .2)
+
 pub delay-bound : DelayBound
 delay-bound T [] fs c l p s = absurd s
-delay-bound T (h ∷ hs) [] c l p s = absurd s
-delay-bound T (h ∷ hs) (k ∷ is) c l p s =
-    omega (arith, onward-cap T h k hs is (p .1) (s .2), mul-le-mul {n₁ = length hs} {m₁ = T} {n₂ = 7} {m₂ = 960} (omega arith) c)
+delay-bound T (h ∷ hs) fs c l p s =
+    omega (arith, delay-within T h hs fs (p .1) s, mul-le-mul {n₁ = length hs} {m₁ = T} {n₂ = 7} {m₂ = 960} (omega arith) c)

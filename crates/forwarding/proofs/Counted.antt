@@ -8,15 +8,16 @@ use lib.ListN.{length, take, length-append}
 use Rattle.lists.specs.Count.{oneIf, sumBelow, countBelow}
 use Rattle.lists.specs.Once.{EachOnce}
 use Rattle.lists.proofs.Count.{sum-cong, and-both, both-and}
+use Rattle.lists.proofs.Once.{same-members}
 use Rattle.trellis.specs.Trellis.{Stage, Trellis, entry, width, Leads, IsPath}
 use Rattle.trellis.specs.Paths.{listIf, gather}
 use Rattle.trellis.specs.Considered.{endsPath, considered}
 use Rattle.trellis.proofs.Paths.{path-below, listed-if-in, listed-if-of, gather-in, gather-of, once-if, once-gather, ends-path, path-ends}
 use Rattle.trellis.proofs.Ladder.{ladder}
 use Rattle.forwarding.specs.declared.Hop.{Hop}
-use Rattle.forwarding.specs.Schedule.{IsSchedule, Transition, IsConsidered, CountOf}
+use Rattle.forwarding.specs.Schedule.{IsSchedule, Transition, IsConsidered, CountOf, CountOnly}
 use Rattle.forwarding.specs.Route.{starts, routeTrellis, transitions, TransitionsCounted}
-use Rattle.forwarding.specs.Inner.{hopAt, stageAt}
+use Rattle.forwarding.specs.Inner.{hopAt, stageAfter}
 use Rattle.forwarding.proofs.Schedules.{schedules-paths}
 use Rattle.forwarding.proofs.ByHops.{route-ladder, first-hops}
 
@@ -127,7 +128,7 @@ module _ (t : Trellis) (f : ℕ → Stage) where
 -- ---- of a route: a frame that ends some schedule
 module _ (T : ℕ) (hops : List Hop) where
   abbrev upTo : ℕ → Trellis
-  upTo = ladder (entry (hopAt hops 0 .frames) (starts (hopAt hops 0))) (stageAt T hops)
+  upTo = ladder (entry (hopAt hops 0 .frames) (starts (hopAt hops 0))) (stageAfter T hops)
 
   ends-schedule : (j k : ℕ) → j < length hops → endsPath (upTo j) k ≡ true → (fs : List ℕ) × IsSchedule (take (suc j) hops) (fs ++ (k ∷ []))
   ends-schedule j k l e =
@@ -149,12 +150,12 @@ module _ (T : ℕ) (h : Hop) (hs : List Hop) where
   abbrev start : Trellis
   start = entry (h .frames) (starts h)
 
-  is-considered : (x : Transition) → IsStep start (stageAt T hops) (length hs) x → IsConsidered hops x
+  is-considered : (x : Transition) → IsStep start (stageAfter T hops) (length hs) x → IsConsidered hops x
   is-considered x s =
       let w = ends-schedule T hops (x .hop) (x .from) (omega (arith, s .stage)) (s .reaches) in
       record { later = omega (arith, s .stage); before = w .0; ends = w .1; frame = s .goal; allowed = s .allows }
 
-  considered-is : (x : Transition) → IsConsidered hops x → IsStep start (stageAt T hops) (length hs) x
+  considered-is : (x : Transition) → IsConsidered hops x → IsStep start (stageAfter T hops) (length hs) x
   considered-is x c =
       let l = schedule-ends T hops (x .hop) (x .from) (c .before) (omega (arith, c .later)) (c .ends) in
       record {
@@ -167,12 +168,18 @@ module _ (T : ℕ) (h : Hop) (hs : List Hop) where
 
   route-counted : CountOf hops (transitions T hops)
   route-counted = record {
-    pairs = steps start (stageAt T hops) (length hs);
-    once = steps-once start (stageAt T hops) (length hs);
-    all = λ x. (λ m. is-considered x (steps-are start (stageAt T hops) (length hs) x m), λ c. are-steps start (stageAt T hops) (length hs) x (considered-is x c));
-    number = ap considered (route-ladder T h hs) ∙ steps-number start (stageAt T hops) refl (length hs);
+    pairs = steps start (stageAfter T hops) (length hs);
+    once = steps-once start (stageAfter T hops) (length hs);
+    each = λ x. (λ m. is-considered x (steps-are start (stageAfter T hops) (length hs) x m), λ c. are-steps start (stageAfter T hops) (length hs) x (considered-is x c));
+    number = ap considered (route-ladder T h hs) ∙ steps-number start (stageAfter T hops) refl (length hs);
   }
 
 pub transitions-counted : TransitionsCounted
-transitions-counted T [] = record { pairs = []; once = tt; all = λ x. (λ m. absurd (List·Memᴰ·not-nil m), λ c. absurd (omega (arith, c .later))); number = refl }
+transitions-counted T [] = record { pairs = []; once = tt; each = λ x. (λ m. absurd (List·Memᴰ·not-nil m), λ c. absurd (omega (arith, c .later))); number = refl }
 transitions-counted T (h ∷ hs) = route-counted T h hs
+
+pub count-only : CountOnly
+count-only hops n m c d =
+    c .number
+    ∙ same-members (c .pairs) (d .pairs) (c .once) (d .once) (λ x l. d .each x .1 (c .each x .0 l)) (λ x l. c .each x .1 (d .each x .0 l))
+    ∙ sym (d .number)

@@ -11,10 +11,10 @@ use borrow.Author.Tests.{ltb-true, ltb-false, lt-ltb, le-ltb}
 use Rattle.lists.specs.Count.{oneIf, sumBelow, countBelow}
 use Rattle.lists.proofs.Count.{sum-cong, sum-split, count-all}
 use Rattle.forwarding.specs.declared.Hop.{Hop}
-use Rattle.forwarding.specs.Forwarding.{reference, referenceInto, leastHold, gap, hold, holdInto, HoldOnly, choices}
+use Rattle.forwarding.specs.Forwarding.{reference, referenceInto, leastHold, gap, hold, holdInto, HoldOnly, choices, ChoicesAreZ}
 
 -- D leads from the reference frame r to the frame i of a link with K frames, and is one of the K numbers from Y on
-pub record Fits (Y K r i D : ℕ) : Type 0 where
+pub record FitsFrom (Y K r i D : ℕ) : Type 0 where
   pub least : Y ≤ D
   pub most : D < Y + K
   pub meets : (r + D) % K ≡ i
@@ -56,7 +56,7 @@ gap-only K a i g h l e =
     ]
 
 -- THE HOLD FITS, AND NOTHING ELSE DOES
-pub hold-fits : (Y K r i : ℕ) → i < K → Fits Y K r i (hold Y K r i)
+pub hold-fits : (Y K r i : ℕ) → i < K → FitsFrom Y K r i (hold Y K r i)
 unfolding hold
 hold-fits Y K r i l =
     let a : ℕ = (r + Y) % K in
@@ -67,7 +67,7 @@ hold-fits Y K r i l =
       meets = ap (λ (x : ℕ). x % K) (sym (add-assoc r Y (gap K a i))) ∙ sym (mod-add-mod (r + Y) K (gap K a i)) ∙ gap-meets K a i p l;
     }
 
-pub hold-fitting : (Y K r i D : ℕ) → Fits Y K r i D → D ≡ hold Y K r i
+pub hold-fitting : (Y K r i D : ℕ) → FitsFrom Y K r i D → D ≡ hold Y K r i
 unfolding hold
 hold-fitting Y K r i D d =
     let a : ℕ = (r + Y) % K in
@@ -86,21 +86,21 @@ into-gap g h k i = refl
 
 -- of a transition: its hold fits, and nothing else does
 module _ (g h : Hop) (k i : ℕ) where
-  pub into-fits : i < h .frames → Fits (leastHold h) (h .frames) (referenceInto g h k) i (holdInto g h k i)
+  pub into-fits : i < h .frames → FitsFrom (leastHold h) (h .frames) (referenceInto g h k) i (holdInto g h k i)
   unfolding holdInto
   into-fits l = hold-fits (leastHold h) (h .frames) (referenceInto g h k) i l
 
-  pub into-fitting : (D : ℕ) → Fits (leastHold h) (h .frames) (referenceInto g h k) i D → D ≡ holdInto g h k i
+  pub into-fitting : (D : ℕ) → FitsFrom (leastHold h) (h .frames) (referenceInto g h k) i D → D ≡ holdInto g h k i
   unfolding holdInto
   into-fitting D d = hold-fitting (leastHold h) (h .frames) (referenceInto g h k) i D d
 
 -- THE HOLD IS THE ONLY NUMBER THAT FITS, in document 01's words
 pub hold-only : HoldOnly
 unfolding leastHold
-hold-only g h k i l =
-    let f = into-fits g h k i l in (
+hold-only h r i l =
+    let f = hold-fits (leastHold h) (h .frames) r i l in (
       record { least = f .least; most = omega (arith, f .most); meets = f .meets },
-      λ D d. into-fitting g h k i D (record { least = d .least; most = omega (arith, d .most); meets = d .meets }),
+      λ D d. hold-fitting (leastHold h) (h .frames) r i D (record { least = d .least; most = omega (arith, d .most); meets = d .meets }),
     )
 
 -- a reference frame is a frame of the link
@@ -128,9 +128,12 @@ pub choices-range : (h : Hop) → leastHold h + choices h ≡ h .range + 1
 unfolding choices
 choices-range h = omega (arith, least-range h)
 
-pub choices-in : (h : Hop) → h .range ≤ h .frames → choices h ≤ h .frames
+pub choices-are-z : ChoicesAreZ
 unfolding choices leastHold
-choices-in h l = omega arith
+choices-are-z h = omega arith
+
+pub choices-in : (h : Hop) → h .range ≤ h .frames → choices h ≤ h .frames
+choices-in h l = omega (arith, choices-are-z h)
 
 -- each choice is a hold within the cycle
 pub choice-in : (h : Hop) (Y W d : ℕ) → Y ≡ leastHold h → W ≡ choices h → d < W → h .range ≤ h .frames → (d < h .frames) × (Y + d ≤ h .frames)

@@ -2,8 +2,8 @@ pub mod Holds
 pub mod Rates
 pub mod Transitions
 pub mod Schedules
+pub mod ByHops
+pub mod Counted
 pub mod Bounds
 pub mod Answers
-pub mod ByHops
 pub mod Starred
-pub mod Counted

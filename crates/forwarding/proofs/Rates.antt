@@ -80,6 +80,6 @@ module _ (T : ℕ) (g h : Hop) (k : ℕ) (pg : HopReady T g) (ph : HopReady T h)
 pub whole-frame : WholeFrame
 whole-frame T g h k pg ph i = begins-after T g h k pg ph i
 
--- and the reference frame is the first that will do
+-- and it waits no longer than it must
 pub not-yet-whole : NotYetWhole
 not-yet-whole T g h k pg ph t = begins-before T g h k pg ph t

@@ -9,9 +9,9 @@ use Rattle.forwarding.specs.Route.{routeAnswer}
 use Rattle.forwarding.specs.QuestionFour.{Case, starred, StarredRight}
 
 -- the whole table is computed by the rule
-computed : map (λ (c : Case). routeAnswer 48 (c .route)) starred ≡ map (λ (c : Case). c .expected) starred
+table-computed : map (λ (c : Case). routeAnswer 48 (c .route)) starred ≡ map (λ (c : Case). c .expected) starred
 unfolding routeAnswer starred reference referenceInto leastHold gap hold holdInto mayHold isFree delay bitOf wordOf
-computed = refl
+table-computed = refl
 
 same-at : (f g : Case → Answer) (l : List Case) → map f l ≡ map g l → (c : Case) → List·Memᴰ c l → f c ≡ g c
 same-at f g [] e c m = absurd (List·Memᴰ·not-nil m)
@@ -20,4 +20,4 @@ same-at f g (x ∷ xs) e c m =
 
 -- THE STARRED CASES: each answer of the table is the rule's
 pub starred-right : StarredRight
-starred-right = same-at (λ c. routeAnswer 48 (c .route)) (λ c. c .expected) starred computed
+starred-right = same-at (λ c. routeAnswer 48 (c .route)) (λ c. c .expected) starred table-computed

@@ -9,9 +9,8 @@ use borrow.Author.Tests.{leb-true, leb-false, le-leb, lt-ltb, le-ltb}
 use Rattle.lists.specs.Count.{oneIf, countBelow}
 use Rattle.lists.proofs.Count.{sum-le, and-both, and-left-le}
 use Rattle.forwarding.specs.declared.Hop.{Hop}
-use Rattle.forwarding.specs.Forwarding.{referenceInto, leastHold, isFree, mayHold, holdInto, isAllowed, choices, delay, frameTime}
+use Rattle.forwarding.specs.Forwarding.{referenceInto, leastHold, isFree, mayHold, holdInto, isAllowed, choices, delay, frameTime, IsDelay}
 use Rattle.forwarding.specs.Hops.{HopReady}
-use Rattle.forwarding.specs.Inner.{Delayed}
 use Rattle.forwarding.proofs.Holds.{choices-range, choices-in, count-holds}
 
 -- where K divides T, K frames are a cycle
@@ -28,7 +27,7 @@ delay-frames T K D p e =
     ap (λ (x : ℕ). x / K) (ap (λ (x : ℕ). D * x) t ∙ sym (mul-assoc D K q) ∙ ap (λ (x : ℕ). x * q) (mul-comm D K) ∙ mul-assoc K D q)
     ∙ mul-div-cancel-left (D * q) p
 
-pub delayed : (D time : ℕ) → Delayed D time (D * time)
+pub delayed : (D time : ℕ) → IsDelay D time (D * time)
 delayed D time = record { product = refl; ruled = λ T K p e q. ap (λ (x : ℕ). D * x) q ∙ sym (delay-frames T K D p e) }
 
 -- no transition takes longer than a cycle

@@ -32,14 +32,14 @@ gap K a i = (i + K - a) % K
 unfoldable pub hold : ℕ → ℕ → ℕ → ℕ → ℕ
 hold Y K r i = Y + gap K ((r + Y) % K) i
 
+-- "The hold D is the only number from 1 to K with (r + D) mod K = i": THE HOLD IS ONE, AND THERE IS NO OTHER
+abbrev pub HoldOnly : Type 0
+HoldOnly = (h : Hop) (r i : ℕ) → i < h .frames
+    → IsHold (h .frames) r i (hold (leastHold h) (h .frames) r i) × ((D : ℕ) → IsHold (h .frames) r i D → D ≡ hold (leastHold h) (h .frames) r i)
+
 -- the hold from frame k of the hop g to frame i of the hop h after it
 unfoldable pub holdInto : Hop → Hop → ℕ → ℕ → ℕ
 holdInto g h k i = hold (leastHold h) (h .frames) (referenceInto g h k) i
-
--- "The hold D is the only number from 1 to K with (r + D) mod K = i": THE HOLD IS ONE, AND THERE IS NO OTHER
-abbrev pub HoldOnly : Type 0
-HoldOnly = (g h : Hop) (k i : ℕ) → i < h .frames
-    → IsHold (h .frames) (referenceInto g h k) i (holdInto g h k i) × ((D : ℕ) → IsHold (h .frames) (referenceInto g h k) i D → D ≡ holdInto g h k i)
 
 -- the hold's range: "D is at most that link's Z"
 unfoldable pub mayHold : Hop → ℕ → Bool
@@ -57,6 +57,10 @@ isAllowed g h k i = mayHold h (holdInto g h k i) && isFree h i
 unfoldable pub choices : Hop → ℕ
 choices h = h .range + 1 - leastHold h
 
+-- as the least hold is 1, these are Z
+abbrev pub ChoicesAreZ : Type 0
+ChoicesAreZ = (h : Hop) → choices h ≡ h .range
+
 -- a frame's time: "A frame lasts T/K ticks"
 unfoldable pub frameTime : ℕ → ℕ → ℕ
 frameTime T K = T / K
@@ -64,3 +68,8 @@ frameTime T K = T / K
 -- the delay of a hold of D frames of a link with K, in ticks: "Its delay is D × T / K" (002 counts frames of the first link, each T / K of hop 0 ticks)
 unfoldable pub delay : ℕ → ℕ → ℕ → ℕ
 delay T K D = D * T / K
+
+-- the delay d of a hold D by the time of a frame: the rule's delay on every link with that time whose K divides T (check 7)
+pub record IsDelay (D time d : ℕ) : Type 0 where
+  pub product : d ≡ D * time
+  pub ruled : (T K : ℕ) → 0 < K → T % K ≡ 0 → time ≡ frameTime T K → d ≡ delay T K D

@@ -5,7 +5,7 @@ use Prim.Native.Nat.{ℕ, _%_, _<_, _≤_}
 use lib.ListN.{getD}
 use Rattle.forwarding.specs.declared.Hop.{Hop}
 
--- what stands in no place of an array of hops
+-- what stands in a place of an array that no hop stands in
 abbrev pub noHop : Hop
 noHop = record { frames = 0; range = 0; free = 0 }
 
@@ -18,6 +18,7 @@ pub record HopReady (T : ℕ) (h : Hop) : Type 0 where
   -- from check 8: Z is not above K
   pub in-cycle : h .range ≤ h .frames
 
+-- each hop of a list is
 abbrev pub AllReady : ℕ → List Hop → Type 0
 AllReady T [] = Unit {0}
 AllReady T (h ∷ hs) = HopReady T h × AllReady T hs

@@ -3,6 +3,6 @@ pub mod Hops
 pub mod Rates
 pub mod Schedule
 pub mod Route
-pub mod Answers
+pub mod LeastDelay
 pub mod QuestionFour
 pub mod Inner

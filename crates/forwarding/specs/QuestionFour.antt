@@ -54,7 +54,7 @@ abbrev B8 : (ℕ → Bool) → Hop
 B8 = link 8 8
 
 -- what the document does not give: computed by its rules
-abbrev computed {ℓ} : {A : Type ℓ} → A → A
+abbrev computed {ℓ} : {X : Type ℓ} → X → X
 computed x = x
 
 -- row by row as in the document; W-201: "A{3} C{7} is now refused as blocked, A{3} C{10} has delay 9 and A{3} C{11} has delay 12"

@@ -31,7 +31,7 @@ abbrev pub WholeFrame : Type 0
 WholeFrame = (T : ℕ) (g h : Hop) (k : ℕ) → HopReady T g → HopReady T h → (i : ℕ)
     → (k + 1) * frameTime T (g .frames) ≤ (referenceInto g h k + holdInto g h k i) * frameTime T (h .frames)
 
--- and the reference frame is the first that will do: when it begins, the last bit has not arrived
+-- and it waits no longer than it must: when the reference frame begins the last bit has not arrived, so that the frame after it is the first that will do
 abbrev pub NotYetWhole : Type 0
 NotYetWhole = (T : ℕ) (g h : Hop) (k : ℕ) → HopReady T g → HopReady T h → 0 < T
     → referenceInto g h k * frameTime T (h .frames) < (k + 1) * frameTime T (g .frames)

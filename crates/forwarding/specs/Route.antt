@@ -11,7 +11,7 @@ use Rattle.forwarding.specs.declared.Hop.{Hop}
 use Rattle.forwarding.specs.Forwarding.{isFree, holdInto, isAllowed, delay}
 use Rattle.forwarding.specs.Schedule.{IsSchedule, scheduleDelay, scheduleKey, CountOf}
 
--- hop 0: a free frame is begun at, at no delay
+-- hop 0: a frame of the hop that is free is begun at, at no delay
 abbrev pub startIf : Bool → Reach
 startIf true = after 0
 startIf false = never
@@ -46,13 +46,13 @@ routeTrellis T (h ∷ hs) = grow (entry (h .frames) (starts h)) (stages T h hs)
 abbrev pub SchedulesArePaths : Type 0
 SchedulesArePaths = (T : ℕ) (hops : List Hop) → ArePaths (routeTrellis T hops) (IsSchedule hops) (scheduleDelay T hops) (scheduleKey T hops)
 
--- the count of transitions considered, and that it is their number
+-- the count of transitions considered as a number, and that it is theirs
 abbrev pub transitions : ℕ → List Hop → ℕ
 transitions T hops = considered (routeTrellis T hops)
 
 abbrev pub TransitionsCounted : Type 0
 TransitionsCounted = (T : ℕ) (hops : List Hop) → CountOf hops (transitions T hops)
 
--- the answer of a route over its free frames; what it is: `specs/Answers`
+-- the answer of a route over its free frames, the least of the list of all paths; what it is in document 01's words: `specs/LeastDelay`
 unfoldable pub routeAnswer : ℕ → List Hop → Answer
 routeAnswer T hops = answer (routeTrellis T hops)

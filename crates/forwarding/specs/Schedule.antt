@@ -52,19 +52,20 @@ scheduleDelay T [] fs = 0
 scheduleDelay T (h ∷ hs) [] = 0
 scheduleDelay T (h ∷ hs) (k ∷ is) = onwardDelay T h k hs is
 
--- the last frame, "Then, going back hop by hop, the smaller hold wins, then the smaller preceding frame": back to frame k of the hop g
+-- "Among equals the smaller last frame wins. Then, going back hop by hop, the smaller hold wins, then the smaller preceding frame": the last frame, the hold into it,
+-- the frame before, and so on, back to frame k of the hop g
 abbrev pub goingBack : Hop → ℕ → List Hop → List ℕ → List ℕ
 goingBack g k [] is = k ∷ []
 goingBack g k (h ∷ hs) [] = k ∷ []
 goingBack g k (h ∷ hs) (i ∷ is) = goingBack h i hs is ++ (holdInto g h k i ∷ k ∷ [])
 
--- what decides between schedules, the first difference first: the delay, the last frame, the hold into it, the frame before, and so on
+-- what decides between schedules, by the first difference: the delay, and then those
 abbrev pub scheduleKey : ℕ → List Hop → List ℕ → List ℕ
 scheduleKey T [] fs = []
 scheduleKey T (h ∷ hs) [] = []
 scheduleKey T (h ∷ hs) (k ∷ is) = scheduleDelay T (h ∷ hs) (k ∷ is) ∷ goingBack h k hs is
 
--- "The answer is a schedule of least delay. Among equals the smaller last frame wins", and so on: it is first among all
+-- "The answer is a schedule of least delay", ties as written: it is first among all
 pub record LeastSchedule (T : ℕ) (hops : List Hop) (fs : List ℕ) : Type 0 where
   pub schedule : IsSchedule hops fs
   pub first : (gs : List ℕ) → IsSchedule hops gs → Precedes (scheduleKey T hops fs) (scheduleKey T hops gs)
@@ -83,14 +84,18 @@ pub record IsConsidered (hops : List Hop) (x : Transition) : Type 0 where
   pub frame : x .to < getD hops (suc (x .hop)) noHop .frames
   pub allowed : isAllowed (getD hops (x .hop) noHop) (getD hops (suc (x .hop)) noHop) (x .from) (x .to) ≡ true
 
--- "the count of transitions considered": how many there are
+-- "the count of transitions considered": how many there are, the length of a list that has each of them once and nothing else
 pub record CountOf (hops : List Hop) (n : ℕ) : Type 0 where
   pub pairs : List Transition
   pub once : EachOnce pairs
-  pub all : (x : Transition) → List·Memᴰ x pairs ↔ IsConsidered hops x
+  pub each : (x : Transition) → List·Memᴰ x pairs ↔ IsConsidered hops x
   pub number : n ≡ length pairs
 
--- "It is at most the sum of K of hop j−1 times Z of hop j": from the hop g on (as many holds as Z: `choices`)
+-- THE COUNT IS ONE NUMBER
+abbrev pub CountOnly : Type 0
+CountOnly = (hops : List Hop) (n m : ℕ) → CountOf hops n → CountOf hops m → n ≡ m
+
+-- "It is at most the sum of K of hop j−1 times Z of hop j": from the hop g on; as many holds as Z (`ChoicesAreZ`)
 abbrev pub boundFrom : Hop → List Hop → ℕ
 boundFrom g [] = 0
 boundFrom g (h ∷ hs) = g .frames * choices h + boundFrom h hs

@@ -1,9 +1,8 @@
 // Forwarding (document 01, with the reference frame of W-201): holds, delays and reference frames of the hops of a route.
 ghost use mathlib.Core.Path.{_≡_};
 ghost use Prim.Native.Nat.{_+_, _*_, _<_, _≤_};
-ghost use Rattle.forwarding.specs.Forwarding.{referenceInto, leastHold, holdInto, choices, frameTime};
+ghost use Rattle.forwarding.specs.Forwarding.{referenceInto, leastHold, holdInto, choices, frameTime, IsDelay};
 ghost use Rattle.forwarding.specs.Hops.{noHop};
-ghost use Rattle.forwarding.specs.Inner.{Delayed};
 
 // A hold counts frames of the outgoing link.
 // Form: a hold and a delay are tuple structs, so holds of unequal links are never summed as delays.
@@ -78,7 +77,7 @@ pub fn frame_time(t: u16, frames: u16) -> Delay
 // Checks 3, 7 and 8: a hold is at most Z, Z at most K, and K frames last T ticks, at most 960.
 pub fn delay_of(hold: Hold, frame: Delay) -> Delay
     requires { ⌜ hold .0 * frame .0 ≤ 960 ⌝ }
-    ensures { λ r. ⌜ Delayed (hold .0) (frame .0) (r .0) ⌝ }
+    ensures { λ r. ⌜ IsDelay (hold .0) (frame .0) (r .0) ⌝ }
 {
     Delay(hold.0 * frame.0)
 }

@@ -9,7 +9,7 @@ use Rattle.refusals.specs.Refusals.{given, pass, refuseIf, orElse}
 use Rattle.refusals.proofs.Refusals.{past, not-refused, both-passed}
 use Rattle.network.specs.Network.{Topology}
 use Rattle.forwarding.specs.Route.{routeAnswer}
-use Rattle.forwarding.specs.Answers.{RouteAnswer}
+use Rattle.forwarding.specs.LeastDelay.{RouteAnswer}
 use Rattle.forwarding.proofs.Answers.{answer-rules, found-given}
 use Rattle.ledger.specs.Sessions.{Session, View, isLive, hopsOf}
 use Rattle.ledger.specs.Routes.{routeCheck}

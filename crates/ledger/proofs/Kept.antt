@@ -10,7 +10,7 @@ use borrow.Author.Tests.{leb-false}
 use Rattle.lists.proofs.Count as tests
 use Rattle.refusals.specs.Refusals.{Ruling, given, refused, pass}
 use Rattle.network.specs.Network.{Topology}
-use Rattle.forwarding.specs.Answers.{Given}
+use Rattle.forwarding.specs.LeastDelay.{Given}
 use Rattle.ledger.specs.Lists.{allOf, anyOf, anyTwo, keep}
 use Rattle.ledger.specs.Sessions.{Held, Session, holds, heldIn, isLive, hopsOf}
 use Rattle.ledger.specs.Routes.{routeCheck}

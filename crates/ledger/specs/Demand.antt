@@ -11,9 +11,9 @@ use Rattle.refusals.specs.Refusals.{given, refused, pass}
 use Rattle.network.specs.Network.{Topology}
 use Rattle.network.specs.Checks.{networkCheck}
 use Rattle.forwarding.specs.declared.Hop.{Hop}
-use Rattle.forwarding.specs.Schedule.{IsSchedule}
-use Rattle.forwarding.specs.Route.{transitions, routeAnswer}
-use Rattle.forwarding.specs.Answers.{Given}
+use Rattle.forwarding.specs.Schedule.{IsSchedule, CountOf}
+use Rattle.forwarding.specs.Route.{routeAnswer}
+use Rattle.forwarding.specs.LeastDelay.{Given}
 use Rattle.ledger.specs.Lists.{anyOf}
 use Rattle.ledger.specs.Sessions.{Held, Session, View, names, holds, isLive, hopsOf}
 use Rattle.ledger.specs.Sound.{intact}
@@ -56,7 +56,7 @@ pub record LiveNumbers (v : View) (ns : List ℕ) : Type 0 where
 pub data Served (T : ℕ) (hops : List Hop) : Reply → Type 0 where
   scheduled : (held : Held) (count : ℕ) → routeAnswer T hops ≡ found (held .delay) count (held .frames)
       → Given T hops (held .delay) count (held .frames) → Served T hops (schedule held count)
-  none : (count : ℕ) → routeAnswer T hops ≡ blocked count → count ≡ transitions T hops
+  none : (count : ℕ) → routeAnswer T hops ≡ blocked count → CountOf hops count
       → ((fs : List ℕ) → IsSchedule hops fs → ⊥) → Served T hops (refusal 18 count)
 
 abbrev pub ServedCall : Topology → List Session → Call → Reply → Type 0

@@ -10,7 +10,7 @@ pub record Topology : Type 0 where
   pub ticks : ℕ
   pub links : List Link
 
--- what stands in no place of an array of links
+-- what stands in a place of an array that no link stands in
 abbrev pub noLink : Link
 noLink = record { frames = 0; range = 0; closed = 0 }
 

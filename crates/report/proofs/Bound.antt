@@ -18,8 +18,7 @@ use Rattle.network_file.proofs.RoundTrip.{read-passes}
 use Rattle.forwarding.specs.declared.Hop.{Hop}
 use Rattle.forwarding.specs.Forwarding.{choices}
 use Rattle.forwarding.specs.Hops.{noHop, AllReady, Ready}
-use Rattle.forwarding.specs.Schedule.{GoesOn, IsSchedule, boundFrom}
-use Rattle.forwarding.specs.Route.{transitions}
+use Rattle.forwarding.specs.Schedule.{GoesOn, IsSchedule, boundFrom, CountOf}
 use Rattle.forwarding.proofs.Holds.{choices-in}
 use Rattle.forwarding.proofs.Bounds.{count-bound, delay-bound}
 use Rattle.forwarding.proofs.ByHops.{all-ready}
@@ -71,9 +70,9 @@ bound-most T g (h ∷ hs) few p =
     let most : choices h ≤ 64 = omega (arith, choices-in h (p .0 .in-cycle), p .0 .few-frames) in
     omega (arith, mul-le-mul {n₁ = g .frames} {m₁ = choices h} {n₂ = 64} {m₂ = 64} few most, bound-most T h hs (p .0 .few-frames) (p .1))
 
-count-most : (T : ℕ) (hops : List Hop) → length hops ≤ 8 → AllReady T hops → transitions T hops < 100000
-count-most T [] l p = omega (arith, count-bound T [] p)
-count-most T (h ∷ hs) l p = omega (arith, count-bound T (h ∷ hs) p, bound-most T h hs (p .0 .few-frames) (p .1))
+count-most : (T : ℕ) (hops : List Hop) (n : ℕ) → length hops ≤ 8 → AllReady T hops → CountOf hops n → n < 100000
+count-most T [] n l p c = omega (arith, count-bound T [] n p c)
+count-most T (h ∷ hs) n l p c = omega (arith, count-bound T (h ∷ hs) n p c, bound-most T h hs (p .0 .few-frames) (p .1))
 
 -- ---- the line of what is answered
 module _ (net : Topology) (ss : List Session) (ok : networkCheck net ≡ given pass) where
@@ -94,12 +93,12 @@ module _ (net : Topology) (ss : List Session) (ok : networkCheck net ≡ given p
       let ready = route-ready net ss route ok e in
       let f = schedule-fits (net .ticks) (hopsOf net ss route) (held .frames) p (g .schedule) in
       let d = delay-bound (net .ticks) (hopsOf net ss route) (held .frames) (ready .cycle) (omega (arith, hops-long route, ready .few-hops)) p (g .schedule) in
-      let c = count-most (net .ticks) (hopsOf net ss route) (omega (arith, hops-long route, ready .few-hops)) p in
-      omega (arith, served-long place letter (held .delay) count (held .frames) h (omega (arith, d, g .delay-is)) (omega (arith, c, g .count-is)) (f .1), f .0, hops-long route)
+      let c = count-most (net .ticks) (hopsOf net ss route) count (omega (arith, hops-long route, ready .few-hops)) p (g .count-is) in
+      omega (arith, served-long place letter (held .delay) count (held .frames) h (omega (arith, d, g .delay-is)) c (f .1), f .0, hops-long route)
   route-line place letter h route e r (none count q is nowhere) =
       let ready = route-ready net ss route ok e in
-      let c = count-most (net .ticks) (hopsOf net ss route) (omega (arith, hops-long route, ready .few-hops)) (hops-ready route e) in
-      omega (arith, blocked-long place letter count h (omega (arith, c, is)))
+      let c = count-most (net .ticks) (hopsOf net ss route) count (omega (arith, hops-long route, ready .few-hops)) (hops-ready route e) is in
+      omega (arith, blocked-long place letter count h c)
 
   call-line : (place letter : ℕ) → place < 100000 → (call : Call) (o : Ruling) → callCheck net ss call ≡ o → length (line place letter (unless o (served net ss call))) ≤ 22 + 3 * length (linksOf call)
   call-line place letter h call (refused k) e =

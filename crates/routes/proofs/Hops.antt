@@ -9,11 +9,11 @@ use native.Mathlib.Omega.{arith}
 use lib.ListN.{length, getD, take, set, replicate, length-map}
 use lib.Seq.{take-suc, take-all, length-take-le}
 use Rattle.lists.proofs.Count.{or-neither}
-use Rattle.words.specs.Word.{bitOf, wordOf, freeAt, freeWord}
-use Rattle.words.proofs.Words.{word-lt, bit-below, word-ext}
 use Rattle.places.specs.Places.{firsts}
 use Rattle.places.proofs.Firsts.{getD-firsts, firsts-filled, firsts-more}
 use Rattle.refusals.specs.Refusals.{given, pass}
+use Rattle.words.specs.Word.{bitOf, wordOf, freeAt, freeWord}
+use Rattle.words.proofs.Words.{word-lt, bit-below, word-ext}
 use Rattle.network.specs.declared.Link.{Link}
 use Rattle.network.specs.declared.Network.{Network}
 use Rattle.network.specs.Network.{Topology, noLink, topologyOf}

@@ -4,14 +4,13 @@ use mathlib.Core.Bool.{Bool, true, false, cond, _&&_}
 use mathlib.Core.Option.{some, none}
 use Prim.Native.Nat.{ℕ, _*_, _<_, _≤_}
 use native.Mathlib.Omega.{arith}
-use borrow.Author.Tests.{lt-ltb, le-ltb, ltb-true, lt-leb}
 use lib.Dec.{ltb}
+use borrow.Author.Tests.{lt-ltb, le-ltb, ltb-true, lt-leb}
 use Rattle.lists.proofs.Count.{and-both}
 use Rattle.words.specs.Word.{bitOf}
 use Rattle.forwarding.specs.declared.Hop.{Hop}
-use Rattle.forwarding.specs.Forwarding.{isFree, mayHold, holdInto, frameTime, delay}
+use Rattle.forwarding.specs.Forwarding.{isFree, mayHold, holdInto, frameTime, delay, IsDelay}
 use Rattle.forwarding.specs.Hops.{HopReady}
-use Rattle.forwarding.specs.Inner.{Delayed}
 use Rattle.forwarding.proofs.Transitions.{delay-frames, delay-le, hold-may}
 use Rattle.routes.specs.Inner.{stepIf}
 
@@ -53,6 +52,6 @@ module _ (T : ℕ) (g h : Hop) (k i : ℕ) (b : Bool) (eb : b ≡ (ltb i (h .fra
     unfolding mayHold
     over-range l = sym (by-hold ∙ rw (f, ← eD, lt-leb D (h .range) l))
 
-    pub step-delay : HopReady T h → D ≤ h .range → (time : ℕ) → time ≡ frameTime T (h .frames) → (d : ℕ) → Delayed D time d → some d ≡ stepIf T g h k i
+    pub step-delay : HopReady T h → D ≤ h .range → (time : ℕ) → time ≡ frameTime T (h .frames) → (d : ℕ) → IsDelay D time d → some d ≡ stepIf T g h k i
     step-delay p l time et d q =
         sym (by-hold ∙ rw (f, ← eD, hold-may h D l, q .ruled T (h .frames) (p .some-frame) (p .divides) et))

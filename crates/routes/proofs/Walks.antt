@@ -6,9 +6,9 @@ use mathlib.Core.Option.{Option, some, none}
 use Prim.Native.Nat.{ℕ, _+_, _*_, _<_, _≤_}
 use native.Mathlib.Nat.{zero-add, add-zero, add-assoc}
 use native.Mathlib.Omega.{arith}
-use borrow.Author.Tests.{ltb-true}
 use lib.Dec.{ltb}
 use lib.ListN.{getD, drop}
+use borrow.Author.Tests.{ltb-true}
 use Rattle.lists.proofs.Count.{and-both}
 use Rattle.places.specs.Places.{firsts}
 use Rattle.places.proofs.Firsts.{next-first, no-first}

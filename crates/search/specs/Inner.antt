@@ -15,7 +15,7 @@ use Rattle.words.specs.Word.{bitOf}
 use Rattle.forwarding.specs.declared.Hop.{Hop}
 use Rattle.forwarding.specs.Hops.{HopReady, Ready}
 use Rattle.forwarding.specs.Route.{stageOf}
-use Rattle.forwarding.specs.Inner.{hopAt, stageAt}
+use Rattle.forwarding.specs.Inner.{hopAt, stageAfter}
 
 -- a cell: 0 where no schedule leads to the frame, and else the least delay and 1
 abbrev pub cellReach : ℕ → Reach
@@ -128,7 +128,7 @@ abbrev pub begins : List ℕ → ℕ → Reach
 begins first i = cellReach (getD first i 0)
 
 abbrev pub trellisTo : ℕ → List Hop → List ℕ → ℕ → Trellis
-trellisTo t hops first = ladder (entry (hopAt hops 0 .frames) (begins first)) (stageAt t hops)
+trellisTo t hops first = ladder (entry (hopAt hops 0 .frames) (begins first)) (stageAfter t hops)
 
 -- cells that say what the row of a trellis says
 abbrev pub Agrees : List ℕ → Trellis → Type 0
@@ -151,7 +151,7 @@ pub record Swept (t : ℕ) (hops : List Hop) (first : List ℕ) (j : ℕ) (cells
   pub long : length preds ≡ 512
   pub rows : Agrees cells (trellisTo t hops first j)
   pub froms : (m : ℕ) → m < j → (i : ℕ) → i < hopAt hops (suc m) .frames
-      → (c h : ℕ) × (wayOf c h (fromAt preds (suc m) i) ≡ into (row (trellisTo t hops first m)) (stageAt t hops m) i)
+      → (c h : ℕ) × (wayOf c h (fromAt preds (suc m) i) ≡ into (row (trellisTo t hops first m)) (stageAfter t hops m) i)
   pub counted : count ≡ scanned (trellisTo t hops first j)
 
 -- what the frames of the last hop offer as the end

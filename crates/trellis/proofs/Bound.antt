@@ -8,7 +8,7 @@ use native.Mathlib.Omega.{arith}
 use lib.ListN.{getD}
 use Rattle.lists.specs.Count.{oneIf, countBelow}
 use Rattle.lists.proofs.Count.{sum-le, sum-bound, and-right-le}
-use Rattle.trellis.specs.Trellis.{Reach, never, after, costOf, Stage, Trellis, entry, _▸_, width, Leads, total}
+use Rattle.trellis.specs.Trellis.{Reach, never, after, costOf, Stage, Trellis, entry, _▸_, width, Leads, costTo}
 use Rattle.trellis.specs.Considered.{endsPath, considered}
 use Rattle.trellis.proofs.Survivor.{row, back}
 use Rattle.trellis.proofs.Optimal.{Survives, survives}
@@ -25,7 +25,7 @@ step-bound t st w h =
 
 -- no path costs more than b
 abbrev pub Capped : Trellis → ℕ → Type 0
-Capped t b = (i : ℕ) (p : List ℕ) → Leads t i p → total t i p ≤ b
+Capped t b = (i : ℕ) (p : List ℕ) → Leads t i p → costTo t i p ≤ b
 
 pub capped-entry : (n : ℕ) (s : ℕ → Reach) (b : ℕ) → ((i : ℕ) → costOf (s i) ≤ b) → Capped (entry n s) b
 capped-entry n s b h i p l = h i

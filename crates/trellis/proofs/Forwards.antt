@@ -5,7 +5,7 @@ use mathlib.Core.List.{List, [], _∷_, _++_, append-assoc, reverse, reverseAux,
 use Prim.Native.Nat.{ℕ, _+_, _<_}
 use native.Mathlib.Omega.{arith}
 use Rattle.lists.specs.Order.{Precedes}
-use Rattle.trellis.specs.Trellis.{Reach, after, Stage, Trellis, entry, _▸_, grow, Leads, total, behind, IsPath, pathCost, pathKey, Least}
+use Rattle.trellis.specs.Trellis.{Reach, after, Stage, Trellis, entry, _▸_, grow, Leads, costTo, behind, IsPath, pathCost, pathKey, Least}
 use Rattle.trellis.specs.Considered.{considered}
 use Rattle.trellis.specs.Answer.{Answer, found, blocked, answer, IsAnswer}
 use Rattle.trellis.specs.Forwards.{ArePaths}
@@ -58,14 +58,14 @@ cut t (st ∷ sts) q h =
     cut-back t st sts q (c .node) (c .before) (c .rest) (c .joined) (c .leads) (c .goes-on)
 
 pub go-on-cost : (t : Trellis) (sts : List Stage) (k : ℕ) (p is : List ℕ) → Onward k sts is
-    → pathCost (grow t sts) (reverseAux is (k ∷ p)) ≡ total t k p + onwardCost k sts is
+    → pathCost (grow t sts) (reverseAux is (k ∷ p)) ≡ costTo t k p + onwardCost k sts is
 go-on-cost t [] k p [] o = omega arith
 go-on-cost t [] k p (i ∷ is) o = absurd o
 go-on-cost t (st ∷ sts) k p [] o = absurd o
 go-on-cost t (st ∷ sts) k p (i ∷ is) o = go-on-cost (t ▸ st) sts i (k ∷ p) is (o .2) ∙ omega arith
 
 pub go-on-key : (t : Trellis) (sts : List Stage) (k : ℕ) (p is : List ℕ) → Onward k sts is
-    → pathKey (grow t sts) (reverseAux is (k ∷ p)) ≡ (total t k p + onwardCost k sts is) ∷ (onwardBack k sts is ++ behind t k p)
+    → pathKey (grow t sts) (reverseAux is (k ∷ p)) ≡ (costTo t k p + onwardCost k sts is) ∷ (onwardBack k sts is ++ behind t k p)
 go-on-key t [] k p [] o = ap (λ (x : ℕ). x ∷ k ∷ behind t k p) (omega arith)
 go-on-key t [] k p (i ∷ is) o = absurd o
 go-on-key t (st ∷ sts) k p [] o = absurd o
@@ -95,9 +95,9 @@ module _ (t : Trellis) (S : List ℕ → Type 0) (cost : List ℕ → ℕ) (key 
   abbrev pub First : List ℕ → Type 0
   First w = S w × ((v : List ℕ) → S v → Precedes (key w) (key v))
 
-  abbrev pub Reads : Answer → Type 0
-  Reads (found c m w) = First w × (cost w ≡ c) × (m ≡ considered t)
-  Reads (blocked m) = ((w : List ℕ) → S w → ⊥) × (m ≡ considered t)
+  abbrev pub Says : Answer → Type 0
+  Says (found c m w) = First w × (cost w ≡ c) × (m ≡ considered t)
+  Says (blocked m) = ((w : List ℕ) → S w → ⊥) × (m ≡ considered t)
 
   is-one : (w : List ℕ) → IsPath t (reverse w) → S w
   is-one w h = rw (reverse-reverse w) at (r .read (reverse w) h)
@@ -117,17 +117,17 @@ module _ (t : Trellis) (S : List ℕ → Type 0) (cost : List ℕ → ℕ) (key 
             rw (r .keys w (h .0), e) (h .1 (reverse q) v);
       }
 
-  is-read : (a : Answer) → IsAnswer t a → Reads a
-  is-read (found c m w) h = let u = least-first w (h .0) in (u, sym (r .costs w (u .0)) ∙ h .1, h .2)
-  is-read (blocked m) h = (λ w l. h .0 (reverse w) (r .path w l), h .1)
+  is-said : (a : Answer) → IsAnswer t a → Says a
+  is-said (found c m w) h = let u = least-first w (h .0) in (u, sym (r .costs w (u .0)) ∙ h .1, h .2)
+  is-said (blocked m) h = (λ w l. h .0 (reverse w) (r .path w l), h .1)
 
-  read-is : (a : Answer) → Reads a → IsAnswer t a
-  read-is (found c m w) h = (first-least w (h .0), r .costs w (h .0 .0) ∙ h .1, h .2)
-  read-is (blocked m) h = (λ q l. h .0 (reverse q) (r .read q l), h .1)
+  said-is : (a : Answer) → Says a → IsAnswer t a
+  said-is (found c m w) h = (first-least w (h .0), r .costs w (h .0 .0) ∙ h .1, h .2)
+  said-is (blocked m) h = (λ q l. h .0 (reverse q) (r .read q l), h .1)
 
   -- THE ANSWER IN THOSE WORDS, AND THERE IS NO OTHER
-  pub answer-reads : Reads (answer t)
-  answer-reads = is-read (answer t) (answer-right t)
+  pub answer-says : Says (answer t)
+  answer-says = is-said (answer t) (answer-right t)
 
-  pub reads-only : (a : Answer) → Reads a → a ≡ answer t
-  reads-only a h = answer-only t a (answer t) (read-is a h) (answer-right t)
+  pub says-only : (a : Answer) → Says a → a ≡ answer t
+  says-only a h = answer-only t a (answer t) (said-is a h) (answer-right t)

@@ -8,7 +8,7 @@ use native.Mathlib.Omega.{arith}
 use lib.ListN.{getD, length}
 use Rattle.lists.specs.Order.{Precedes, precedes}
 use Rattle.lists.proofs.Order.{precedes-refl, precedes-trans, test-precedes, test-follows}
-use Rattle.trellis.specs.Trellis.{Reach, never, after, Trellis, entry, _▸_, Leads, total, behind, key, IsPath, pathKey}
+use Rattle.trellis.specs.Trellis.{Reach, never, after, Trellis, entry, _▸_, Leads, costTo, behind, key, IsPath, pathKey}
 use Rattle.trellis.specs.Paths.{reached, allPaths}
 use Rattle.trellis.specs.Considered.{endsPath, considered}
 use Rattle.trellis.specs.Answer.{blocked, leastBy, answerFrom, answer, IsAnswer, AnswerRight}
@@ -45,7 +45,7 @@ module _ (t : Trellis) where
   closes i = lastOffer (getD (row t) i never)
 
   -- a path to i has the node offer itself, at the cost of the survivor
-  last-offers : (i : ℕ) (p : List ℕ) (x : Reach) → Survives t i (back t i) x → Leads t i p → lastOffer x ≡ offer (total t i (back t i)) 0
+  last-offers : (i : ℕ) (p : List ℕ) (x : Reach) → Survives t i (back t i) x → Leads t i p → lastOffer x ≡ offer (costTo t i (back t i)) 0
   last-offers i p never s h = absurd (s p h)
   last-offers i p (after c) s h = rw (s .costs)
 
@@ -60,14 +60,14 @@ module _ (t : Trellis) where
   none-ends : IsBest closes (length (row t)) nobody → (p : List ℕ) → IsPath t p → ⊥
   none-ends h [] l = l
   none-ends h (i ∷ p) l =
-      offer-not-none (closes i) (total t i (back t i)) 0 (h i (omega (arith, path-below t i p l, length-row t)))
+      offer-not-none (closes i) (costTo t i (back t i)) 0 (h i (omega (arith, path-below t i p l, length-row t)))
       (last-offers i p (getD (row t) i never) (survives t i) l)
 
-  all-after : (c i : ℕ) → IsBest closes (length (row t)) (best c 0 i) → total t i (back t i) ≡ c
+  all-after : (c i : ℕ) → IsBest closes (length (row t)) (best c 0 i) → costTo t i (back t i) ≡ c
       → (q : List ℕ) → IsPath t q → Precedes (key t i (back t i)) (pathKey t q)
   all-after c i h e [] l = absurd l
   all-after c i h e (j ∷ q) l =
-      let c′ : ℕ = total t j (back t j) in
+      let c′ : ℕ = costTo t j (back t j) in
       precedes-trans (key t i (back t i)) (key t j (back t j)) (key t j q)
       (rw e (last-first (λ n. behind t n (back t n)) c i c′ j
       (h .2 j c′ 0 (omega (arith, path-below t j q l, length-row t)) (last-offers j q (getD (row t) j never) (survives t j) l))))

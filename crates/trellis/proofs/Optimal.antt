@@ -11,7 +11,7 @@ use lib.ListN.{getD, length, length-append, List·getD-eq-default, List·getD-ap
 use lib.Seq.{getD-at}
 use Rattle.lists.specs.Order.{Precedes}
 use Rattle.lists.proofs.Order.{precedes-refl, precedes-trans, precedes-add, precedes-put}
-use Rattle.trellis.specs.Trellis.{Reach, never, after, Stage, Trellis, entry, _▸_, width, Leads, total, behind, key}
+use Rattle.trellis.specs.Trellis.{Reach, never, after, Stage, Trellis, entry, _▸_, width, Leads, costTo, behind, key}
 use Rattle.trellis.proofs.Paths.{path-below}
 use Rattle.trellis.proofs.Survivor.{tab, Offer, none, offer, Best, nobody, best, offerIf, offerOf, reachOf, nodeOf, into, row, back}
 use Rattle.trellis.proofs.Select.{IsBest, is-best, offer-not-none}
@@ -38,7 +38,7 @@ length-row (t ▸ st) = length-tab (st .size) (λ i. reachOf (into (row t) st i)
 -- the path p to the node i costs c and comes before every other path to i
 pub record LeastTo (t : Trellis) (i : ℕ) (p : List ℕ) (c : ℕ) : Type 0 where
   pub path : Leads t i p
-  pub costs : total t i p ≡ c
+  pub costs : costTo t i p ≡ c
   pub first : (q : List ℕ) → Leads t i q → Precedes (key t i p) (key t i q)
 
 -- what a row says of the node i, with p as its survivor: no path leads there, or p is least of those that do
@@ -58,14 +58,14 @@ extend g i c r k c′ r′ k′ (inr (e, inr (e₂, inr (e₃, u)))) =
 module _ (t : Trellis) (st : Stage) (i : ℕ) where
   -- a path to k, and a step on to i, make an offer
   offers : (k : ℕ) (p : List ℕ) (x : Reach) → Survives t k (back t k) x → Leads t k p → st .allowed k i ≡ true
-      → offerOf st i x k ≡ offer (total t k (back t k) + st .cost k i) (st .rank k i)
+      → offerOf st i x k ≡ offer (costTo t k (back t k) + st .cost k i) (st .rank k i)
   offers k p never s h a = absurd (s p h)
   offers k p (after c) s h a = rw (a, s .costs)
 
   pub record Offered (k c r : ℕ) : Type 0 where
     pub step : st .allowed k i ≡ true
     pub path : Leads t k (back t k)
-    pub cost-is : total t k (back t k) + st .cost k i ≡ c
+    pub cost-is : costTo t k (back t k) + st .cost k i ≡ c
     pub rank-is : st .rank k i ≡ r
     pub first : (q : List ℕ) → Leads t k q → Precedes (key t k (back t k)) (key t k q)
 
@@ -85,7 +85,7 @@ module _ (t : Trellis) (st : Stage) (i : ℕ) where
     none-leads : IsBest made (length (row t)) nobody → (q : List ℕ) → Leads (t ▸ st) i q → ⊥
     none-leads h [] l = l
     none-leads h (k ∷ p) l =
-        offer-not-none (made k) (total t k (back t k) + st .cost k i) (st .rank k i)
+        offer-not-none (made k) (costTo t k (back t k) + st .cost k i) (st .rank k i)
         (h k (omega (arith, path-below t k p (l .2), length-row t)))
         (offers k p (getD (row t) k never) (ih k) (l .2) (l .1))
 
@@ -98,14 +98,14 @@ module _ (t : Trellis) (st : Stage) (i : ℕ) where
         → (q : List ℕ) → Leads (t ▸ st) i q → Precedes (key (t ▸ st) i (k ∷ back t k)) (key (t ▸ st) i q)
     best-first c r k h o [] l = absurd l
     best-first c r k h o (k′ ∷ p) l =
-        let c′ : ℕ = total t k′ (back t k′) + st .cost k′ i in
+        let c′ : ℕ = costTo t k′ (back t k′) + st .cost k′ i in
         let lower : Precedes (c ∷ r ∷ k ∷ []) (c′ ∷ st .rank k′ i ∷ k′ ∷ []) =
         h .2 k′ c′ (st .rank k′ i) (omega (arith, path-below t k′ p (l .2), length-row t)) (offers k′ p (getD (row t) k′ never) (ih k′) (l .2) (l .1)) in
         precedes-trans (key (t ▸ st) i (k ∷ back t k)) (key (t ▸ st) i (k′ ∷ back t k′)) (key (t ▸ st) i (k′ ∷ p))
         (rw (o .cost-is, o .rank-is) (extend (λ n. behind t n (back t n)) i c r k c′ (st .rank k′ i) k′ lower))
-        (precedes-put i c′ (total t k′ p + st .cost k′ i) (st .rank k′ i ∷ k′ ∷ behind t k′ (back t k′)) (st .rank k′ i ∷ k′ ∷ behind t k′ p)
-        (precedes-put (st .rank k′ i) c′ (total t k′ p + st .cost k′ i) (k′ ∷ behind t k′ (back t k′)) (k′ ∷ behind t k′ p)
-        (precedes-add (st .cost k′ i) (total t k′ (back t k′)) (total t k′ p) (k′ ∷ behind t k′ (back t k′)) (k′ ∷ behind t k′ p)
+        (precedes-put i c′ (costTo t k′ p + st .cost k′ i) (st .rank k′ i ∷ k′ ∷ behind t k′ (back t k′)) (st .rank k′ i ∷ k′ ∷ behind t k′ p)
+        (precedes-put (st .rank k′ i) c′ (costTo t k′ p + st .cost k′ i) (k′ ∷ behind t k′ (back t k′)) (k′ ∷ behind t k′ p)
+        (precedes-add (st .cost k′ i) (costTo t k′ (back t k′)) (costTo t k′ p) (k′ ∷ behind t k′ (back t k′)) (k′ ∷ behind t k′ p)
         (after-step k′ p (getD (row t) k′ never) (ih k′) (l .2)))))
 
     step : (b : Best) → IsBest made (length (row t)) b → Survives (t ▸ st) i (nodeOf b ∷ back t (nodeOf b)) (reachOf b)

@@ -7,6 +7,7 @@ use lib.Dec.{ltb}
 use Rattle.lists.specs.Once.{EachOnce}
 use Rattle.trellis.specs.Trellis.{Reach, never, after, Trellis, entry, _▸_, width, IsPath}
 
+-- whether anything leads there
 abbrev pub reached : Reach → Bool
 reached never = false
 reached (after c) = true

@@ -46,10 +46,10 @@ costOf never = 0
 costOf (after c) = c
 
 -- the cost of a path: that of its beginning and of its steps
-abbrev pub total : Trellis → ℕ → List ℕ → ℕ
-total (entry n s) i p = costOf (s i)
-total (t ▸ st) i [] = 0
-total (t ▸ st) i (k ∷ p) = total t k p + st .cost k i
+abbrev pub costTo : Trellis → ℕ → List ℕ → ℕ
+costTo (entry n s) i p = costOf (s i)
+costTo (t ▸ st) i [] = 0
+costTo (t ▸ st) i (k ∷ p) = costTo t k p + st .cost k i
 
 -- going back from the last node: the rank of the step into it and the node before, and so on
 abbrev pub behind : Trellis → ℕ → List ℕ → List ℕ
@@ -59,7 +59,7 @@ behind (t ▸ st) i (k ∷ p) = st .rank k i ∷ k ∷ behind t k p
 
 -- what decides between paths, first things first: the cost, the last node, then going back the rank of the step and the node before
 abbrev pub key : Trellis → ℕ → List ℕ → List ℕ
-key t i p = total t i p ∷ i ∷ behind t i p
+key t i p = costTo t i p ∷ i ∷ behind t i p
 
 -- a path as the list of all its nodes, the latest first; its cost and its key
 abbrev pub IsPath : Trellis → List ℕ → Type 0
@@ -68,7 +68,7 @@ IsPath t (i ∷ p) = Leads t i p
 
 abbrev pub pathCost : Trellis → List ℕ → ℕ
 pathCost t [] = 0
-pathCost t (i ∷ p) = total t i p
+pathCost t (i ∷ p) = costTo t i p
 
 abbrev pub pathKey : Trellis → List ℕ → List ℕ
 pathKey t [] = []

@@ -1,9 +1,9 @@
 -- `routes::link_twice` meets its contract. The invariant: no link before j stands again after its place. Assumes nothing.
 use mathlib.Core.Path.{_≡_, refl}
 use Prim.Native.Nat.{_-_}
-use borrow.Author.Needs.{needs}
 use lib.Dec.{eqb}
 use lib.ListN.{length, drop}
+use borrow.Author.Needs.{needs}
 use Rattle.ledger.specs.Lists.{anyTwo}
 use Rattle.ledger.specs.Routes.{linkTwice}
 use Rattle.routes.proofs.Sought.{here-again, not-again, nowhere-again}

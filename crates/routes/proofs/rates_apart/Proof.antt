@@ -1,12 +1,12 @@
 -- `routes::rates_apart` meets its contract. The invariant: no link before j is apart from the next. Assumes nothing.
-use Rattle.routes.proofs.rates_apart.Statement.{statement}
-use Rattle.routes.proofs.rates_apart.Tie as tie
-use borrow.Author.Needs.{needs}
 use mathlib.Core.Path.{ap}
 use Prim.Native.Nat.{ℕ, _-_}
 use native.Mathlib.Omega.{arith}
 use lib.ListN.{length, getD}
+use borrow.Author.Needs.{needs}
 use Rattle.network.specs.Network.{noLink, topologyOf}
+use Rattle.routes.proofs.rates_apart.Statement.{statement}
+use Rattle.routes.proofs.rates_apart.Tie as tie
 use Rattle.routes.proofs.Links.{known-place, at-place, at-frames}
 use Rattle.routes.proofs.Routes.{Compared, none-compared, two-apart, two-agree, all-agree}
 

@@ -1,12 +1,12 @@
 -- `routes::route_hops` meets its contract. The invariant: the hops before j are laid. Assumes nothing.
-use Rattle.routes.proofs.route_hops.Statement.{statement}
-use Rattle.routes.proofs.route_hops.Tie as tie
-use borrow.Author.Needs.{needs}
 use mathlib.Core.Path.{ap}
 use Prim.Native.Nat.{ℕ, _-_}
 use native.Mathlib.Omega.{arith}
 use lib.ListN.{length, getD}
+use borrow.Author.Needs.{needs}
 use Rattle.network.specs.Network.{noLink}
+use Rattle.routes.proofs.route_hops.Statement.{statement}
+use Rattle.routes.proofs.route_hops.Tie as tie
 use Rattle.routes.proofs.Links.{at-place, at-frames}
 use Rattle.routes.proofs.Routes.{route-long, passed-place}
 use Rattle.routes.proofs.Hops.{Laid, none-laid, one-laid, all-laid}

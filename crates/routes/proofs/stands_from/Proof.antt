@@ -1,10 +1,10 @@
 -- `routes::stands_from` meets its contract. The invariant: the link does not stand before j. Assumes nothing.
 use mathlib.Core.Path.{_≡_, refl}
 use Prim.Native.Nat.{ℕ, _-_}
-use borrow.Author.Needs.{needs}
-use borrow.Author.Tests.{eq-eqb, ne-eqb}
 use lib.Dec.{eqb}
 use lib.ListN.{length, drop}
+use borrow.Author.Needs.{needs}
+use borrow.Author.Tests.{eq-eqb, ne-eqb}
 use Rattle.ledger.specs.Lists.{anyOf}
 use Rattle.routes.proofs.Sought.{here, not-here, nowhere}
 use Rattle.routes.proofs.stands_from.Statement.{statement}

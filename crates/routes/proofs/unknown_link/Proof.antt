@@ -1,8 +1,8 @@
 -- `routes::unknown_link` meets its contract. The invariant: the links before j are known. Assumes nothing.
 use mathlib.Core.Path.{_≡_, refl}
 use Prim.Native.Nat.{ℕ, _-_}
-use borrow.Author.Needs.{needs}
 use lib.ListN.{length, drop}
+use borrow.Author.Needs.{needs}
 use Rattle.ledger.specs.Lists.{anyOf}
 use Rattle.ledger.specs.Routes.{unknown}
 use Rattle.routes.proofs.Tests.{not-known, known}

@@ -1,7 +1,7 @@
 -- `routes::walk` meets its contract. The invariant: the frames before j are a schedule so far, with their delay. Assumes nothing.
 use Prim.Native.Nat.{_-_}
-use borrow.Author.Needs.{needs}
 use native.Mathlib.Omega.{arith}
+use borrow.Author.Needs.{needs}
 use borrow.Author.Tests.{not-true, not-false}
 use Rattle.routes.proofs.Walks.{Along, first-unfit, first-along, no-step, step-small, one-step, all-steps}
 use Rattle.routes.proofs.walk.Statement.{statement}
