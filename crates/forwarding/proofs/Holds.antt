@@ -84,16 +84,6 @@ pub into-gap : (g h : Hop) (k i : ℕ) → holdInto g h k i ≡ leastHold h + ga
 unfolding holdInto hold
 into-gap g h k i = refl
 
--- of a transition: its hold fits, and nothing else does
-module _ (g h : Hop) (k i : ℕ) where
-  pub into-fits : i < h .frames → FitsFrom (leastHold h) (h .frames) (referenceInto g h k) i (holdInto g h k i)
-  unfolding holdInto
-  into-fits l = hold-fits (leastHold h) (h .frames) (referenceInto g h k) i l
-
-  pub into-fitting : (D : ℕ) → FitsFrom (leastHold h) (h .frames) (referenceInto g h k) i D → D ≡ holdInto g h k i
-  unfolding holdInto
-  into-fitting D d = hold-fitting (leastHold h) (h .frames) (referenceInto g h k) i D d
-
 -- THE HOLD IS THE ONLY NUMBER THAT FITS, in document 01's words
 pub hold-only : HoldOnly
 unfolding leastHold

@@ -14,7 +14,7 @@ abbrev pub RouteAnswer : ℕ → List Hop → Answer → Type 0
 RouteAnswer T hops (found d n fs) = LeastSchedule T hops fs × (scheduleDelay T hops fs ≡ d) × CountOf hops n
 RouteAnswer T hops (blocked n) = ((fs : List ℕ) → IsSchedule hops fs → ⊥) × CountOf hops n
 
--- IT IS THE ANSWER, AND THERE IS NO OTHER
+-- `routeAnswer` IS AN ANSWER IN THESE WORDS, AND THERE IS NO OTHER
 abbrev pub AnswerRules : Type 0
 AnswerRules = (T : ℕ) (hops : List Hop) → RouteAnswer T hops (routeAnswer T hops)
 
