@@ -2,7 +2,7 @@
 use mathlib.Core.Path.{_≡_, refl, _∙_, ap, ap₂}
 use mathlib.Core.Bool.{Bool, true, false, false≢true, _&&_}
 use mathlib.Core.List.{List, [], _∷_, _++_, reverse, append-nil}
-use Prim.Native.Nat.{ℕ, _+_, _<_}
+use Prim.Native.Nat.{ℕ, _+_}
 use native.Mathlib.Omega.{arith}
 use lib.Dec.{ltb}
 use borrow.Author.Tests.{lt-ltb, ltb-true}
@@ -14,20 +14,15 @@ use Rattle.forwarding.specs.Forwarding.{isFree, holdInto, isAllowed, del
 use Rattle.forwarding.specs.Schedule.{GoesOn, IsSchedule, goesOn, isSchedule, TestTells, onwardDelay, scheduleDelay, goingBack, scheduleKey}
 use Rattle.forwarding.specs.Route.{startIf, starts, stages, routeTrellis, SchedulesArePaths}
 
--- ---- hop 0
--- a free frame of the hop is begun at, and nothing else
+-- ---- hop 0: a free frame is begun at, and no other, at no delay
+free-starts : (h : Hop) (k : ℕ) → isFree h k ≡ true → starts h k ≡ after 0
+free-starts h k f = ap startIf f
+
 start-free : (b : Bool) (c : ℕ) → startIf b ≡ after c → b ≡ true
 start-free true c e = refl
 start-free false c e = cc
 
-free-starts : (h : Hop) (k : ℕ) → k < h .frames → isFree h k ≡ true → starts h k ≡ after 0
-free-starts h k l f = ap startIf (both-and (ltb k (h .frames)) (isFree h k) (lt-ltb k (h .frames) l) f)
-
-starts-free : (h : Hop) (k c : ℕ) → starts h k ≡ after c → isFree h k ≡ true
-starts-free h k c e = and-both (ltb k (h .frames)) (isFree h k) (start-free (ltb k (h .frames) && isFree h k) c e) .1
-
--- at no delay
-pub start-cost : (b : Bool) → costOf (startIf b) ≡ 0
+start-cost : (b : Bool) → costOf (startIf b) ≡ 0
 start-cost true = refl
 start-cost false = refl
 
@@ -58,15 +53,15 @@ module _ (T : ℕ) where
   module _ (h : Hop) (hs : List Hop) where
     path : (fs : List ℕ) → IsSchedule (h ∷ hs) fs → IsPath (routeTrellis T (h ∷ hs)) (reverse fs)
     path [] s = absurd s
-    path (k ∷ is) s = go-on (entry (h .frames) (starts h)) (stages T h hs) k [] is (s .0, (0, free-starts h k (s .0) (s .1))) (on-steps h k hs is (s .2))
+    path (k ∷ is) s = go-on (entry (h .frames) (starts h)) (stages T h hs) k [] is (s .0, (0, free-starts h k (s .1))) (on-steps h k hs is (s .2))
 
     read : (p : List ℕ) → IsPath (routeTrellis T (h ∷ hs)) p → IsSchedule (h ∷ hs) (reverse p)
     read p l =
         let w : FromStart (h .frames) (starts h) (stages T h hs) (reverse p) = from-start (h .frames) (starts h) (stages T h hs) p l in
-        rw (w .is) (w .below, starts-free h (w .node) (w .begins .0) (w .begins .1), steps-on h (w .node) hs (w .rest) (w .goes-on))
+        rw (w .is) (w .below, start-free (isFree h (w .node)) (w .begins .0) (w .begins .1), steps-on h (w .node) hs (w .rest) (w .goes-on))
 
     whole-delay : (k : ℕ) (is : List ℕ) → costOf (starts h k) + onwardCost k (stages T h hs) is ≡ onwardDelay T h k hs is
-    whole-delay k is = omega (arith, start-cost (ltb k (h .frames) && isFree h k), steps-delay h k hs is)
+    whole-delay k is = omega (arith, start-cost (isFree h k), steps-delay h k hs is)
 
     costs : (fs : List ℕ) → IsSchedule (h ∷ hs) fs → pathCost (routeTrellis T (h ∷ hs)) (reverse fs) ≡ scheduleDelay T (h ∷ hs) fs
     costs [] s = absurd s

@@ -1,8 +1,7 @@
 -- A route as a trellis: a stage for each hop, a node for each frame; its schedules are the paths. Assumes nothing.
-use mathlib.Core.Bool.{Bool, true, false, _&&_}
+use mathlib.Core.Bool.{Bool, true, false}
 use mathlib.Core.List.{List, [], _∷_}
 use Prim.Native.Nat.{ℕ}
-use lib.Dec.{ltb}
 use Rattle.trellis.specs.Trellis.{Reach, never, after, Stage, Trellis, entry, grow}
 use Rattle.trellis.specs.Considered.{considered}
 use Rattle.trellis.specs.Answer.{Answer, answer}
@@ -11,13 +10,13 @@ use Rattle.forwarding.specs.declared.Hop.{Hop}
 use Rattle.forwarding.specs.Forwarding.{isFree, holdInto, isAllowed, delay}
 use Rattle.forwarding.specs.Schedule.{IsSchedule, scheduleDelay, scheduleKey, CountOf}
 
--- hop 0: a frame of the hop that is free is begun at, at no delay
+-- hop 0: a free frame is begun at, at no delay
 abbrev pub startIf : Bool → Reach
 startIf true = after 0
 startIf false = never
 
 abbrev pub starts : Hop → ℕ → Reach
-starts h i = startIf (ltb i (h .frames) && isFree h i)
+starts h i = startIf (isFree h i)
 
 -- the hop h after the hop g: a step for each allowed transition, the smaller hold first among equal costs; `cost` is what a hold costs
 abbrev pub stageOf : (ℕ → ℕ) → Hop → Hop → Stage

@@ -1,7 +1,7 @@
 -- A path cut in two: what is found after a border needs only the costs handed over at it. Assumes nothing.
 use mathlib.Core.Path.{_≡_, refl, sym, _∙_, ap, ap₂}
-use mathlib.Core.List.{List, [], _∷_, _++_, reverse, reverse-cons, reverse-append}
-use Prim.Native.Nat.{ℕ, _+_}
+use mathlib.Core.List.{List, [], _∷_, _++_, append-nil, reverse, reverse-cons, reverse-append}
+use Prim.Native.Nat.{ℕ, zero, suc, _+_, _<_}
 use native.Mathlib.Omega.{arith}
 use lib.ListN.{getD, length}
 use lib.Seq.{ext-getD}
@@ -11,6 +11,7 @@ use Rattle.trellis.specs.Answer.{Answer, found, blocked, answer}
 use Rattle.trellis.proofs.Survivor.{tab, Best, nobody, best, bestOf, nodeOf, into, row, back, lastOffer, final, scanned, answerOf, survivor}
 use Rattle.trellis.proofs.Optimal.{length-tab, tab-at}
 use Rattle.trellis.proofs.Least.{scanned-right, survivor-least}
+use Rattle.trellis.proofs.Ladder.{ladder}
 
 -- the trellis that begins at the border after t, with the costs that t's row hands over
 abbrev pub handover : List Reach → Trellis
@@ -33,7 +34,7 @@ module _ (back₁ : ℕ → List ℕ) (m : ℕ) where
     pub paths : (i : ℕ) → back t i ≡ back u i ++ back₁ (oldest i (back u i))
     pub counts : scanned t ≡ m + scanned u
 
-  continue-one : (t u : Trellis) (st : Stage) → Continues t u → Continues (t ▸ st) (u ▸ st)
+  pub continue-one : (t u : Trellis) (st : Stage) → Continues t u → Continues (t ▸ st) (u ▸ st)
   continue-one t u st h = record {
     rows = rw (h .rows);
     paths = λ i. rw (h .rows) (ap (λ (x : List ℕ). nodeOf (into (row u) st i) ∷ x) (h .paths (nodeOf (into (row u) st i))));
@@ -94,3 +95,36 @@ split-answer t sts =
     same : (b : Best) → final u ≡ b → survivor (grow t sts) ≡ joined (back t) (scanned t) (answerOf u (scanned u) (final u))
     same nobody e = rw (ends-same, e) (ap blocked (c .counts))
     same (best d r i) e = rw (ends-same, e) (ap₂ (found d) (c .counts) (path-same i))
+
+-- ---- two trellises that begin with the same costs, however they say it, and go on alike
+same-tab : (n : ℕ) (s s′ : ℕ → Reach) → ((i : ℕ) → i < n → s i ≡ s′ i) → tab n s ≡ tab n s′
+same-tab zero s s′ h = refl
+same-tab (suc n) s s′ h = ap₂ (λ (l : List Reach) (x : Reach). l ++ (x ∷ [])) (same-tab n s s′ (λ i l. h i (omega arith))) (h n (omega arith))
+
+begun-alike : (n : ℕ) (s s′ : ℕ → Reach) (f : ℕ → Stage) → ((i : ℕ) → i < n → s i ≡ s′ i) → (j : ℕ)
+    → Continues (λ i. []) 0 (ladder (entry n s) f j) (ladder (entry n s′) f j)
+begun-alike n s s′ f h zero = record { rows = same-tab n s s′ h; paths = λ i. refl; counts = refl }
+begun-alike n s s′ f h (suc j) = continue-one (λ i. []) 0 (ladder (entry n s) f j) (ladder (entry n s′) f j) (f j) (begun-alike n s s′ f h j)
+
+pub same-survivor : (n : ℕ) (s s′ : ℕ → Reach) (f : ℕ → Stage) → ((i : ℕ) → i < n → s i ≡ s′ i) → (j : ℕ)
+    → survivor (ladder (entry n s) f j) ≡ survivor (ladder (entry n s′) f j)
+same-survivor n s s′ f h j = same (final u) refl
+  where
+    t : Trellis
+    t = ladder (entry n s) f j
+
+    u : Trellis
+    u = ladder (entry n s′) f j
+
+    c : Continues (λ i. []) 0 t u
+    c = begun-alike n s s′ f h j
+
+    ends-same : final t ≡ final u
+    ends-same = ap (λ (r : List Reach). bestOf (λ i. lastOffer (getD r i never)) (length r)) (c .rows)
+
+    counts-same : scanned t ≡ scanned u
+    counts-same = omega (arith, c .counts)
+
+    same : (b : Best) → final u ≡ b → survivor t ≡ answerOf u (scanned u) (final u)
+    same nobody e = rw (ends-same, e) (ap blocked counts-same)
+    same (best d r i) e = rw (ends-same, e) (ap₂ (found d) counts-same (ap (λ (l : List ℕ). reverse (i ∷ l)) (c .paths i ∙ append-nil (back u i))))
