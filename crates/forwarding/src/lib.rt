@@ -35,7 +35,8 @@ pub fn reference_frame(k: u16, before: Hop, hop: Hop) -> u16
     requires { ⌜ (k < before .frames) × (before .frames ≤ 64) × (0 < hop .frames) × (hop .frames ≤ 64) ⌝ }
     ensures { λ r. ⌜ r ≡ referenceInto before hop k ⌝ }
 {
-    ((k + 1) * hop.frames - 1) / before.frames
+    let frames = hop.frames;
+    ((k + 1) * frames - 1) / before.frames
 }
 
 // The least hold into a hop.

@@ -12,12 +12,12 @@ add-result c = search needs
 
 mul-result : tie.Need-mul-result
 mul-result c =
-    let a = c .before .args in
+    let a = c .args in
     record { fits = omega (arith, mul-le-mul {n₁ = a .k + 1} {m₁ = a .hop .frames} {n₂ = 64} {m₂ = 64} (omega arith) (omega arith)) }
 
 sub-result : tie.Need-sub-result
 sub-result c =
-    let a = c .before .args in
+    let a = c .args in
     omega (arith, mul-pos {m = a .k + 1} {n = a .hop .frames} (omega arith) (omega arith))
 
 div-result : tie.Need-div-result
