@@ -1,6 +1,6 @@
 -- The count of transitions considered is the number of those that document 01 names. Assumes nothing.
 use mathlib.Core.Path.{_≡_, refl, sym, _∙_, ap, ap₂, subst}
-use mathlib.Core.Bool.{Bool, true, false, _&&_}
+use mathlib.Core.Bool.{Bool, true, _&&_}
 use mathlib.Core.List.{List, [], _∷_, _++_, reverse, reverse-cons, reverse-append, List·Memᴰ, List·Memᴰ·head, List·Memᴰ·not-nil, List·Memᴰ·eq-of-singleton}
 use Prim.Native.Nat.{ℕ, zero, suc, _+_, _<_}
 use native.Mathlib.Omega.{arith}
@@ -12,7 +12,7 @@ use Rattle.lists.proofs.Once.{same-members}
 use Rattle.trellis.specs.Trellis.{Stage, Trellis, entry, width, Leads, IsPath}
 use Rattle.trellis.specs.Paths.{listIf, gather}
 use Rattle.trellis.specs.Considered.{endsPath, considered}
-use Rattle.trellis.proofs.Paths.{path-below, listed-if-in, listed-if-of, gather-in, gather-of, once-if, once-gather, ends-path, path-ends}
+use Rattle.trellis.proofs.Paths.{path-below, listed-if-in, listed-if-of, gather-in, gather-of, length-if, length-gather, once-if, once-gather, ends-path, path-ends}
 use Rattle.trellis.proofs.Ladder.{ladder}
 use Rattle.forwarding.specs.declared.Hop.{Hop}
 use Rattle.forwarding.specs.Schedule.{IsSchedule, Transition, IsConsidered, CountOf, CountOnly}
@@ -20,15 +20,6 @@ use Rattle.forwarding.specs.Route.{starts, routeTrellis, transitions, Tr
 use Rattle.forwarding.specs.Inner.{hopAt, stageAfter}
 use Rattle.forwarding.proofs.Schedules.{schedules-paths}
 use Rattle.forwarding.proofs.ByHops.{route-ladder, first-hops}
-
--- ---- how long gathered lists are
-length-gather {ℓ} : {A : Type ℓ} (n : ℕ) (g : ℕ → List A) → length (gather n g) ≡ sumBelow n (λ k. length (g k))
-length-gather zero g = refl
-length-gather (suc n) g = length-append (gather n g) (g n) ∙ ap (λ (x : ℕ). x + length (g n)) (length-gather n g)
-
-length-if {ℓ} : {A : Type ℓ} (b : Bool) (x : A) → length (listIf b (x ∷ [])) ≡ oneIf b
-length-if true x = refl
-length-if false x = refl
 
 -- ---- the steps of a trellis, stage by stage
 module _ (t : Trellis) (f : ℕ → Stage) where

@@ -147,18 +147,15 @@ gap-counted Y K f i p y l =
 
 -- of a transition, from its reference frame f and the least hold Y
 module _ (g h : Hop) (k i f Y : ℕ) (e : f ≡ referenceInto g h k) (y : Y ≡ leastHold h) (p : k < g .frames) (l : i < h .frames) where
-  pub from-in : f < h .frames
-  from-in = rw e (reference-in g h k (omega arith) p)
-
-  pub from-least : Y ≤ h .frames
-  from-least = rw y (least-in h (omega arith))
+  pub from-within : (f < h .frames) × (Y ≤ h .frames)
+  from-within = (rw e (reference-in g h k (omega arith) p), rw y (least-in h (omega arith)))
 
   pub hold-in : (i + 2 * h .frames - (f + Y)) % h .frames < h .frames
   hold-in = mod-lt (i + 2 * h .frames - (f + Y)) (omega arith)
 
   pub hold-counted : (i + 2 * h .frames - (f + Y)) % h .frames + Y ≡ holdInto g h k i
   unfolding holdInto
-  hold-counted = gap-counted Y (h .frames) f i from-in from-least l ∙ rw (e, y)
+  hold-counted = gap-counted Y (h .frames) f i (from-within .0) (from-within .1) l ∙ rw (e, y)
 
 -- a sum over the frames of a link by their gaps is a sum over all gaps
 gap-sum : (K a : ℕ) (G : ℕ → ℕ) → a < K → sumBelow K (λ i. G (gap K a i)) ≡ sumBelow K G

@@ -18,7 +18,7 @@ pub record HopReady (T : ℕ) (h : Hop) : Type 0 where
   -- from check 8: Z is not above K
   pub in-cycle : h .range ≤ h .frames
 
--- each hop of a list is
+-- each hop of a list is ready
 abbrev pub AllReady : ℕ → List Hop → Type 0
 AllReady T [] = Unit {0}
 AllReady T (h ∷ hs) = HopReady T h × AllReady T hs

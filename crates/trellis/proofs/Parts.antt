@@ -1,7 +1,8 @@
 -- A path cut in two: what is found after a border needs only the costs handed over at it. Assumes nothing.
 use mathlib.Core.Path.{_≡_, refl, sym, _∙_, ap, ap₂}
-use mathlib.Core.List.{List, [], _∷_, _++_, append-nil, reverse, reverse-cons, reverse-append}
+use mathlib.Core.List.{List, [], _∷_, _++_, reverse, reverse-cons, reverse-append}
 use Prim.Native.Nat.{ℕ, zero, suc, _+_, _<_}
+use native.Mathlib.Nat.{zero-add}
 use native.Mathlib.Omega.{arith}
 use lib.ListN.{getD, length}
 use lib.Seq.{ext-getD}
@@ -34,7 +35,7 @@ module _ (back₁ : ℕ → List ℕ) (m : ℕ) where
     pub paths : (i : ℕ) → back t i ≡ back u i ++ back₁ (oldest i (back u i))
     pub counts : scanned t ≡ m + scanned u
 
-  pub continue-one : (t u : Trellis) (st : Stage) → Continues t u → Continues (t ▸ st) (u ▸ st)
+  continue-one : (t u : Trellis) (st : Stage) → Continues t u → Continues (t ▸ st) (u ▸ st)
   continue-one t u st h = record {
     rows = rw (h .rows);
     paths = λ i. rw (h .rows) (ap (λ (x : List ℕ). nodeOf (into (row u) st i) ∷ x) (h .paths (nodeOf (into (row u) st i))));
@@ -72,31 +73,31 @@ abbrev pub joined : (ℕ → List ℕ) → ℕ → Answer → Answer
 joined earlier m (found c n w) = found c (m + n) (reverse (earlier (first w)) ++ w)
 joined earlier m (blocked n) = blocked (m + n)
 
+-- what survivor search answers goes on in the same way
+module _ (back₁ : ℕ → List ℕ) (m : ℕ) (t u : Trellis) (c : Continues back₁ m t u) where
+  ends-same : final t ≡ final u
+  ends-same = ap (λ (r : List Reach). bestOf (λ i. lastOffer (getD r i never)) (length r)) (c .rows)
+
+  path-same : (i : ℕ) → reverse (i ∷ back t i) ≡ reverse (back₁ (first (reverse (i ∷ back u i)))) ++ reverse (i ∷ back u i)
+  path-same i =
+      ap (λ (l : List ℕ). reverse (i ∷ l)) (c .paths i)
+      ∙ reverse-append (i ∷ back u i) (back₁ (oldest i (back u i)))
+      ∙ ap (λ (k : ℕ). reverse (back₁ k) ++ reverse (i ∷ back u i)) (sym (first-oldest i (back u i)))
+
+  survivor-joined : survivor t ≡ joined back₁ m (survivor u)
+  survivor-joined = same (final u) refl
+    where
+      same : (b : Best) → final u ≡ b → survivor t ≡ joined back₁ m (answerOf u (scanned u) (final u))
+      same nobody e = rw (ends-same, e) (ap blocked (c .counts))
+      same (best d r i) e = rw (ends-same, e) (ap₂ (found d) (c .counts) (path-same i))
+
 -- THE ANSWER OVER A PATH CUT IN TWO is the later part's, begun at the costs handed over, and gone on with in the earlier part
 pub split-answer : (t : Trellis) (sts : List Stage) → answer (grow t sts) ≡ joined (back t) (considered t) (answer (grow (handover (row t)) sts))
 split-answer t sts =
-    sym (survivor-least (grow t sts)) ∙ same (final u) refl ∙ ap₂ (joined (back t)) (scanned-right t) (survivor-least u)
-  where
-    u : Trellis
-    u = grow (handover (row t)) sts
+    let u : Trellis = grow (handover (row t)) sts in
+    sym (survivor-least (grow t sts)) ∙ survivor-joined (back t) (scanned t) (grow t sts) u (split t sts) ∙ ap₂ (joined (back t)) (scanned-right t) (survivor-least u)
 
-    c : Continues (back t) (scanned t) (grow t sts) u
-    c = split t sts
-
-    ends-same : final (grow t sts) ≡ final u
-    ends-same = ap (λ (r : List Reach). bestOf (λ i. lastOffer (getD r i never)) (length r)) (c .rows)
-
-    path-same : (i : ℕ) → reverse (i ∷ back (grow t sts) i) ≡ reverse (back t (first (reverse (i ∷ back u i)))) ++ reverse (i ∷ back u i)
-    path-same i =
-        ap (λ (l : List ℕ). reverse (i ∷ l)) (c .paths i)
-        ∙ reverse-append (i ∷ back u i) (back t (oldest i (back u i)))
-        ∙ ap (λ (k : ℕ). reverse (back t k) ++ reverse (i ∷ back u i)) (sym (first-oldest i (back u i)))
-
-    same : (b : Best) → final u ≡ b → survivor (grow t sts) ≡ joined (back t) (scanned t) (answerOf u (scanned u) (final u))
-    same nobody e = rw (ends-same, e) (ap blocked (c .counts))
-    same (best d r i) e = rw (ends-same, e) (ap₂ (found d) (c .counts) (path-same i))
-
--- ---- two trellises that begin with the same costs, however they say it, and go on alike
+-- ---- two trellises that begin at the same costs, whatever is said of nodes that they don't have, and go on alike
 same-tab : (n : ℕ) (s s′ : ℕ → Reach) → ((i : ℕ) → i < n → s i ≡ s′ i) → tab n s ≡ tab n s′
 same-tab zero s s′ h = refl
 same-tab (suc n) s s′ h = ap₂ (λ (l : List Reach) (x : Reach). l ++ (x ∷ [])) (same-tab n s s′ (λ i l. h i (omega arith))) (h n (omega arith))
@@ -106,25 +107,11 @@ begun-alike : (n : ℕ) (s s′ : ℕ → Reach) (f : ℕ → Stage) → ((i : �
 begun-alike n s s′ f h zero = record { rows = same-tab n s s′ h; paths = λ i. refl; counts = refl }
 begun-alike n s s′ f h (suc j) = continue-one (λ i. []) 0 (ladder (entry n s) f j) (ladder (entry n s′) f j) (f j) (begun-alike n s s′ f h j)
 
+nothing-joined : (a : Answer) → joined (λ i. []) 0 a ≡ a
+nothing-joined (found c n w) = ap (λ (m : ℕ). found c m w) (zero-add n)
+nothing-joined (blocked n) = ap blocked (zero-add n)
+
 pub same-survivor : (n : ℕ) (s s′ : ℕ → Reach) (f : ℕ → Stage) → ((i : ℕ) → i < n → s i ≡ s′ i) → (j : ℕ)
     → survivor (ladder (entry n s) f j) ≡ survivor (ladder (entry n s′) f j)
-same-survivor n s s′ f h j = same (final u) refl
-  where
-    t : Trellis
-    t = ladder (entry n s) f j
-
-    u : Trellis
-    u = ladder (entry n s′) f j
-
-    c : Continues (λ i. []) 0 t u
-    c = begun-alike n s s′ f h j
-
-    ends-same : final t ≡ final u
-    ends-same = ap (λ (r : List Reach). bestOf (λ i. lastOffer (getD r i never)) (length r)) (c .rows)
-
-    counts-same : scanned t ≡ scanned u
-    counts-same = omega (arith, c .counts)
-
-    same : (b : Best) → final u ≡ b → survivor t ≡ answerOf u (scanned u) (final u)
-    same nobody e = rw (ends-same, e) (ap blocked counts-same)
-    same (best d r i) e = rw (ends-same, e) (ap₂ (found d) counts-same (ap (λ (l : List ℕ). reverse (i ∷ l)) (c .paths i ∙ append-nil (back u i))))
+same-survivor n s s′ f h j =
+    survivor-joined (λ i. []) 0 (ladder (entry n s) f j) (ladder (entry n s′) f j) (begun-alike n s s′ f h j) ∙ nothing-joined (survivor (ladder (entry n s′) f j))

@@ -3,12 +3,14 @@ use mathlib.Core.Path.{_≡_, refl, sym, _∙_, ap}
 use mathlib.Core.Bool.{Bool, true, false, _&&_}
 use mathlib.Core.List.{List, [], _∷_, _++_, map, List·Memᴰ, List·Memᴰ·head, List·Memᴰ·tail, Memᴰ·append-left, Memᴰ·append-right, List·Memᴰ·append-cases, List·Memᴰ·eq-of-singleton, List·Memᴰ·not-nil, Memᴰ·map, Memᴰ·of-map, Memᴰ·cast, head-eq-of-cons-eq, tail-eq-of-cons-eq}
 use mathlib.Core.Logic.{⊎-elim}
-use Prim.Native.Nat.{ℕ, zero, suc, _<_}
+use Prim.Native.Nat.{ℕ, zero, suc, _+_, _<_}
 use native.Mathlib.Nat.{eq-or-lt-of-le, le-of-suc-le-suc, not-suc-le-zero}
 use native.Mathlib.Omega.{arith}
 use lib.Dec.{ltb}
+use lib.ListN.{length, length-append}
 use borrow.Author.Tests.{ltb-true, lt-ltb}
 use Rattle.lists.specs.Once.{EachOnce}
+use Rattle.lists.specs.Count.{oneIf, sumBelow}
 use Rattle.lists.proofs.Count.{and-both, both-and}
 use Rattle.trellis.specs.Trellis.{Reach, never, after, Trellis, entry, _▸_, width, Leads, IsPath}
 use Rattle.trellis.specs.Paths.{reached, listIf, gather, pathsTo, allPaths, AllPathsListed}
@@ -48,6 +50,15 @@ gather-of zero g m = absurd (List·Memᴰ·not-nil m)
 gather-of (suc n) g m =
     ⊎-elim (λ l. let w = gather-of n g l in record { place = w .place; below = omega (arith, w .below); there = w .there })
     (λ r. record { place = n; below = omega arith; there = r }) (List·Memᴰ·append-cases (gather n g) m)
+
+-- how many
+pub length-if {ℓ} : {A : Type ℓ} (b : Bool) (x : A) → length (listIf b (x ∷ [])) ≡ oneIf b
+length-if true x = refl
+length-if false x = refl
+
+pub length-gather {ℓ} : {A : Type ℓ} (n : ℕ) (g : ℕ → List A) → length (gather n g) ≡ sumBelow n (λ k. length (g k))
+length-gather zero g = refl
+length-gather (suc n) g = length-append (gather n g) (g n) ∙ ap (λ (x : ℕ). x + length (g n)) (length-gather n g)
 
 -- every listed one is a path, and every path is listed
 pub listed-leads : (t : Trellis) (i : ℕ) (p : List ℕ) → List·Memᴰ p (pathsTo t i) → Leads t i p

@@ -1,7 +1,7 @@
 -- `forwarding::hold_into` meets its contract. Assumes nothing.
 use native.Mathlib.Omega.{arith}
 use borrow.Author.Needs.{needs}
-use Rattle.forwarding.proofs.Holds.{from-in, from-least, hold-in, hold-counted}
+use Rattle.forwarding.proofs.Holds.{from-within, hold-in, hold-counted}
 use Rattle.forwarding.proofs.hold_into.Statement.{statement}
 use Rattle.forwarding.proofs.hold_into.Tie as tie
 
@@ -21,17 +21,13 @@ add-t10 : tie.Need-add-t10
 add-t10 c =
     let s = c .before .before in
     let a = s .args in
-    let e = c .before .reference-frame .ensures in
-    let y = c .least-hold .ensures in
-    omega (arith, from-in (a .before) (a .hop) (a .k) (a .i) _ _ e y (s .pre .0) (s .pre .2), from-least (a .before) (a .hop) (a .k) (a .i) _ _ e y (s .pre .0) (s .pre .2))
+    omega (arith, from-within (a .before) (a .hop) (a .k) (a .i) _ _ (c .before .reference-frame .ensures) (c .least-hold .ensures) (s .pre .0) (s .pre .2))
 
 sub-t11 : tie.Need-sub-t11
 sub-t11 c =
     let s = c .before .before in
     let a = s .args in
-    let e = c .before .reference-frame .ensures in
-    let y = c .least-hold .ensures in
-    omega (arith, from-in (a .before) (a .hop) (a .k) (a .i) _ _ e y (s .pre .0) (s .pre .2), from-least (a .before) (a .hop) (a .k) (a .i) _ _ e y (s .pre .0) (s .pre .2))
+    omega (arith, from-within (a .before) (a .hop) (a .k) (a .i) _ _ (c .before .reference-frame .ensures) (c .least-hold .ensures) (s .pre .0) (s .pre .2))
 
 rem-t12 : tie.Need-rem-t12
 rem-t12 c = search needs
@@ -42,7 +38,7 @@ add-t13 c =
     let a = s .args in
     let e = c .before .reference-frame .ensures in
     let y = c .least-hold .ensures in
-    omega (arith, hold-in (a .before) (a .hop) (a .k) (a .i) _ _ e y (s .pre .0) (s .pre .2), from-least (a .before) (a .hop) (a .k) (a .i) _ _ e y (s .pre .0) (s .pre .2))
+    omega (arith, hold-in (a .before) (a .hop) (a .k) (a .i) _ _ e y (s .pre .0) (s .pre .2), from-within (a .before) (a .hop) (a .k) (a .i) _ _ e y (s .pre .0) (s .pre .2))
 
 returns : tie.Need-returns
 returns c =
