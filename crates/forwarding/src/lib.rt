@@ -11,6 +11,12 @@ pub struct Hold(pub u16);
 // A delay counts ticks.
 pub struct Delay(pub u16);
 
+// What an answer, a session and a lookup hold: a frame for each hop, hop 0 first, in eight places, and the delay. A field that is added later stands here.
+pub struct Held {
+    pub frames: [u8; 8],
+    pub delay: Delay,
+}
+
 // A hop of a route: its link's frames per cycle (K), its forwarding range (Z), and its free frames as a word, bit i for frame i.
 pub struct Hop {
     pub frames: u16,

@@ -10,9 +10,11 @@ use Rattle.trellis.specs.Answer as trellis
 use Rattle.refusals.specs.Refusals.{Ruling, Outcome, given, refused, refuseIf, orElse}
 use Rattle.words.specs.Word.{freeFrames}
 use Rattle.network.specs.Network.{Topology}
+use Rattle.forwarding.specs.declared.Hop.{Hop}
 use Rattle.forwarding.specs.Route.{routeAnswer}
 use Rattle.ledger.specs.Lists.{keep}
-use Rattle.ledger.specs.Sessions.{Held, Session, View, holds, heldIn, isLive, linkAt, freeOf, hopsOf}
+use Rattle.ledger.specs.Held.{Holding, heldOver}
+use Rattle.ledger.specs.Sessions.{Session, View, Slot, holds, heldIn, isLive, linkAt, freeOf, hopsOf}
 use Rattle.ledger.specs.Routes.{unknown, routeCheck}
 use Rattle.ledger.specs.Sound.{intact, brokenCheck}
 
@@ -25,14 +27,17 @@ pub data Call : Type 0 where
 -- a call's answer: a schedule with the count of transitions considered; that a session's frames are freed; or "A refusal returns its
 -- number, 18 also the count" (0 with any other)
 pub data Reply : Type 0 where
-  schedule : (held : Held) (count : ℕ) → Reply
+  schedule : (held : Holding) (count : ℕ) → Reply
   freed : Reply
   refusal : (number count : ℕ) → Reply
 
--- the answer of "Least-delay schedule"; 18: "No schedule exists"
-abbrev pub replyOf : trellis.Answer → Reply
-replyOf (found delay count frames) = schedule record { frames = frames; delay = delay } count
-replyOf (blocked count) = refusal 18 count
+-- the answer of "Least-delay schedule" over hops; 18: "No schedule exists"
+abbrev pub replyOf : List Hop → trellis.Answer → Reply
+replyOf hops (found delay count nodes) = schedule (heldOver hops delay nodes) count
+replyOf hops (blocked count) = refusal 18 count
+
+abbrev pub answerOver : ℕ → List Hop → Reply
+answerOver T hops = replyOf hops (routeAnswer T hops)
 
 -- the first check that refuses, or else the answer
 abbrev pub unless : Ruling → Reply → Reply
@@ -51,14 +56,14 @@ callCheck net ss (Quote route) = routeCheck net route
 callCheck net ss (Release n) = refuseIf (not (isLive n ss)) 19
 
 -- what a call that no check refused answers: the answer over the frames then free, or that the session's frames are freed
-unfoldable pub served : Topology → List Session → Call → Reply
-served net ss (SetUp n route) = replyOf (routeAnswer (net .ticks) (hopsOf net ss route))
-served net ss (Quote route) = replyOf (routeAnswer (net .ticks) (hopsOf net ss route))
-served net ss (Release n) = freed
+unfoldable pub granted : Topology → List Session → Call → Reply
+granted net ss (SetUp n route) = answerOver (net .ticks) (hopsOf net ss route)
+granted net ss (Quote route) = answerOver (net .ticks) (hopsOf net ss route)
+granted net ss (Release n) = freed
 
 -- THE ANSWER OF A CALL on a state that shows v, whatever state it is
 unfoldable pub reply : View → Call → Reply
-reply v call = unless (orElse (brokenCheck v) (callCheck (v .network) (v .live) call)) (served (v .network) (v .live) call)
+reply v call = unless (orElse (brokenCheck v) (callCheck (v .network) (v .live) call)) (granted (v .network) (v .live) call)
 
 -- A QUOTE: "Where 0 and 13 don't refuse, it depends on T, the route and those links' K, Z and free frames alone", which are its hops
 abbrev pub QuoteDepends : Type 0
@@ -79,7 +84,7 @@ effect (SetUp n route) (schedule held count) = enters record { number = n; route
 effect (SetUp n route) freed = leaves
 effect (SetUp n route) (refusal k count) = leaves
 effect (Quote route) r = leaves
-effect (Release n) (schedule held count) = leaves
+effect (Release n) (schedule held count) = strikes n
 effect (Release n) freed = strikes n
 effect (Release n) (refusal k count) = leaves
 
@@ -87,14 +92,18 @@ abbrev pub otherThan : ℕ → Session → Bool
 otherThan n s = not (eqb (s .number) n)
 
 -- the sessions after an effect: a new one stands last, and the others keep their order
-abbrev pub apply : List Session → Effect → List Session
-apply ss (enters s) = ss ++ (s ∷ [])
-apply ss (strikes n) = keep (otherThan n) ss
-apply ss leaves = ss
+abbrev pub liveAfter : List Session → Effect → List Session
+liveAfter ss (enters s) = ss ++ (s ∷ [])
+liveAfter ss (strikes n) = keep (otherThan n) ss
+liveAfter ss leaves = ss
+
+-- what an effect leaves of a view: the one place that makes a view from a view
+unfoldable pub left : View → Effect → View
+left v f = record { network = v .network; live = liveAfter (v .live) f }
 
 -- WHAT A CALL LEAVES of a state that shows v
 unfoldable pub next : View → Call → View
-next v call = record { network = v .network; live = apply (v .live) (effect call (reply v call)) }
+next v call = left v (effect call (reply v call))
 
 -- EVERY CALL KEEPS A STATE FROM BEING BROKEN: "0 can only meet a caller that builds a state by hand"
 abbrev pub NextIntact : Type 0
@@ -110,8 +119,7 @@ lookup v n = orElse (brokenCheck v) (lookIn n (v .live))
 
 -- A RELEASE "frees exactly that session's frames": a frame is held after it exactly when it was held before and isn't that session's
 abbrev pub ReleaseFrees : Type 0
-ReleaseFrees = (v : View) (n : ℕ) (s : Session) → intact v ≡ true → lookup v n ≡ given s → (l i : ℕ)
-    → heldIn (next v (Release n) .live) l i ≡ (heldIn (v .live) l i && not (holds l i s))
+ReleaseFrees = (v : View) (n : ℕ) (s : Session) → lookup v n ≡ given s → (x : Slot) → heldIn (next v (Release n) .live) x ≡ (heldIn (v .live) x && not (holds x s))
 
 -- free frames of a link: "a call on the stored state gives their number (refusal 13 for a link that isn't there)"
 unfoldable pub freeCount : View → ℕ → Outcome ℕ

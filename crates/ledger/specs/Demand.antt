@@ -15,7 +15,8 @@ use Rattle.forwarding.specs.Schedule.{IsSchedule, CountOf}
 use Rattle.forwarding.specs.Route.{routeAnswer}
 use Rattle.forwarding.specs.LeastDelay.{Given}
 use Rattle.ledger.specs.Lists.{anyOf}
-use Rattle.ledger.specs.Sessions.{Held, Session, View, names, holds, isLive, hopsOf}
+use Rattle.ledger.specs.Held.{heldOver}
+use Rattle.ledger.specs.Sessions.{Session, View, Slot, holds, isLive, hopsOf}
 use Rattle.ledger.specs.Sound.{intact}
 use Rattle.ledger.specs.Calls.{Call, SetUp, Quote, Release, Reply, schedule, freed, refusal, callCheck, reply, next, lookup}
 use Rattle.ledger.specs.Ledger.{Step, did, callOf, ledger, acceptedSetUp, acceptedRelease, acceptedReleaseOf, countSteps}
@@ -28,23 +29,21 @@ fresh net = record { network = net; live = [] }
 abbrev pub FreshIntact : Type 0
 FreshIntact = (net : Topology) → networkCheck net ≡ given pass → intact (fresh net) ≡ true
 
--- session n is live and holds frame i of link l: "A session is live there when lookup gives it, and it holds the frames shown"
-pub record HoldsFrame (v : View) (n l i : ℕ) : Type 0 where
+-- session n is live and holds the frame: "A session is live there when lookup gives it, and it holds the frames shown"
+pub record HoldsSlot (v : View) (n : ℕ) (x : Slot) : Type 0 where
   pub session : Session
   pub shown : lookup v n ≡ given session
-  pub named : holds l i session ≡ true
+  pub named : holds x session ≡ true
 
--- "an accepted set-up's answer named it and no later release of that number was accepted"
-pub record NamedAndKept (steps : List Step) (l i : ℕ) : Type 0 where
-  pub number : ℕ
-  pub route : List ℕ
-  pub held : Held
+-- "an accepted set-up's answer named it and no later release of that number was accepted"; the set-up, with what its answer gave, is the entry
+pub record NamedAndKept (steps : List Step) (x : Slot) : Type 0 where
+  pub entry : Session
   pub count : ℕ
   pub before : List Step
   pub later : List Step
-  pub accepted : steps ≡ before ++ (did (SetUp number route) (schedule held count) ∷ later)
-  pub named : names route (held .frames) l i ≡ true
-  pub kept : anyOf (acceptedReleaseOf number) later ≡ false
+  pub accepted : steps ≡ before ++ (did (SetUp (entry .number) (entry .route)) (schedule (entry .held) count) ∷ later)
+  pub named : holds x entry ≡ true
+  pub kept : anyOf (acceptedReleaseOf (entry .number)) later ≡ false
 
 -- the numbers of the live sessions, each once, "live ... when lookup gives it"
 pub record LiveNumbers (v : View) (ns : List ℕ) : Type 0 where
@@ -53,32 +52,31 @@ pub record LiveNumbers (v : View) (ns : List ℕ) : Type 0 where
 
 -- the answer over hops: the rule's answer, and in so many words a schedule of least delay, with its delay and count, or "refused as blocked
 -- exactly when there was none", with the count
-pub data Served (T : ℕ) (hops : List Hop) : Reply → Type 0 where
-  scheduled : (held : Held) (count : ℕ) → routeAnswer T hops ≡ found (held .delay) count (held .frames)
-      → Given T hops (held .delay) count (held .frames) → Served T hops (schedule held count)
-  none : (count : ℕ) → routeAnswer T hops ≡ blocked count → CountOf hops count
-      → ((fs : List ℕ) → IsSchedule hops fs → ⊥) → Served T hops (refusal 18 count)
+pub data LeastOrBlocked (T : ℕ) (hops : List Hop) : Reply → Type 0 where
+  least : (d count : ℕ) (w : List ℕ) → routeAnswer T hops ≡ found d count w → Given T hops d count w → LeastOrBlocked T hops (schedule (heldOver hops d w) count)
+  none : (count : ℕ) → routeAnswer T hops ≡ blocked count → CountOf hops count → ((fs : List ℕ) → IsSchedule hops fs → ⊥) → LeastOrBlocked T hops (refusal 18 count)
 
-abbrev pub ServedCall : Topology → List Session → Call → Reply → Type 0
-ServedCall net ss (SetUp n route) r = Served (net .ticks) (hopsOf net ss route) r
-ServedCall net ss (Quote route) r = Served (net .ticks) (hopsOf net ss route) r
-ServedCall net ss (Release n) r = r ≡ freed
+-- what is due to a call that no check refused
+abbrev pub Due : Topology → List Session → Call → Reply → Type 0
+Due net ss (SetUp n route) r = LeastOrBlocked (net .ticks) (hopsOf net ss route) r
+Due net ss (Quote route) r = LeastOrBlocked (net .ticks) (hopsOf net ss route) r
+Due net ss (Release n) r = r ≡ freed
 
 -- a call's answer is right against the ledger ss before it: "every other check refuses exactly under its condition", never 0, and what no
--- check refused is served over the frames that are then free
+-- check refused gets what is due over the frames that are then free
 pub record Right (net : Topology) (ss : List Session) (call : Call) (r : Reply) : Type 0 where
   pub other : (k : ℕ) → callCheck net ss call ≡ refused k → r ≡ refusal k 0
   pub only : (k count : ℕ) → r ≡ refusal k count → (k ≡ 18 → ⊥) → callCheck net ss call ≡ refused k
   pub blocked : (count : ℕ) → r ≡ refusal 18 count → callCheck net ss call ≡ given pass
   pub unbroken : (count : ℕ) → r ≡ refusal 0 count → ⊥
-  pub served : callCheck net ss call ≡ given pass → ServedCall net ss call r
+  pub due : callCheck net ss call ≡ given pass → Due net ss call r
 
 -- DEMAND 3, of the calls with their answers on the fresh network `net`; v is what the state after them shows
 pub record Demand3 (net : Topology) (v : View) (steps : List Step) : Type 0 where
   -- "a frame is held exactly when an accepted set-up's answer named it and no later release of that number was accepted"
-  pub held : (l i : ℕ) → ((n : ℕ) × HoldsFrame v n l i) ↔ NamedAndKept steps l i
+  pub held : (x : Slot) → ((n : ℕ) × HoldsSlot v n x) ↔ NamedAndKept steps x
   -- "a held frame has exactly one live session"
-  pub oneHolder : (l i n m : ℕ) → HoldsFrame v n l i → HoldsFrame v m l i → n ≡ m
+  pub oneHolder : (x : Slot) (n m : ℕ) → HoldsSlot v n x → HoldsSlot v m x → n ≡ m
   -- "accepted set-ups = live sessions + accepted releases"
   pub numbers : List ℕ
   pub live : LiveNumbers v numbers
@@ -91,8 +89,8 @@ pub record Demand3 (net : Topology) (v : View) (steps : List Step) : Type 0 wher
   pub entryShown : (e : Session) → List·Memᴰ e (ledger steps) → lookup v (e .number) ≡ given e
   pub noneShown : (n : ℕ) → isLive n (ledger steps) ≡ false → lookup v n ≡ refused 19
   -- "No frame stands in two entries"
-  pub oneEntry : (l i j k : ℕ) (d : Session) → j < k → k < length (ledger steps)
-      → holds l i (getD (ledger steps) j d) ≡ true → holds l i (getD (ledger steps) k d) ≡ true → ⊥
+  pub oneEntry : (x : Slot) (j k : ℕ) (d : Session) → j < k → k < length (ledger steps)
+      → holds x (getD (ledger steps) j d) ≡ true → holds x (getD (ledger steps) k d) ≡ true → ⊥
   -- a list of calls leaves the network as it is
   pub network : v .network ≡ net
 

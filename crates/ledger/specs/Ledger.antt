@@ -1,11 +1,11 @@
 -- The ledger of a list (document 01), kept from the calls' arguments and answers alone. Assumes nothing.
-use mathlib.Core.Bool.{Bool, true, false}
+use mathlib.Core.Bool.{Bool, true, false, not, _&&_}
 use mathlib.Core.List.{List, [], _∷_}
 use Prim.Native.Nat.{ℕ, _+_}
 use lib.Dec.{eqb}
 use Rattle.lists.specs.Count.{oneIf}
 use Rattle.ledger.specs.Sessions.{Session}
-use Rattle.ledger.specs.Calls.{Call, Reply, Effect, enters, strikes, leaves, effect, apply}
+use Rattle.ledger.specs.Calls.{Call, SetUp, Quote, Release, Reply, schedule, freed, refusal, Effect, effect, liveAfter}
 
 -- a call of the list with the answer that it got
 pub data Step : Type 0 where
@@ -20,35 +20,39 @@ effectOf (did call r) = effect call r
 -- the ledger: "It begins empty"
 abbrev pub ledgerFrom : List Session → List Step → List Session
 ledgerFrom ss [] = ss
-ledgerFrom ss (s ∷ steps) = ledgerFrom (apply ss (effectOf s)) steps
+ledgerFrom ss (s ∷ steps) = ledgerFrom (liveAfter ss (effectOf s)) steps
 
 abbrev pub ledger : List Step → List Session
 ledger steps = ledgerFrom [] steps
 
--- an accepted set-up, an accepted release, and one of this number
-abbrev pub isEntering : Effect → Bool
-isEntering (enters s) = true
-isEntering (strikes n) = false
-isEntering leaves = false
+-- whether an answer is a schedule, and whether it is a refusal
+abbrev pub isGiven : Reply → Bool
+isGiven (schedule held count) = true
+isGiven freed = false
+isGiven (refusal number count) = false
 
-abbrev pub isStriking : Effect → Bool
-isStriking (enters s) = false
-isStriking (strikes n) = true
-isStriking leaves = false
+abbrev pub isRefusal : Reply → Bool
+isRefusal (schedule held count) = false
+isRefusal freed = false
+isRefusal (refusal number count) = true
 
-abbrev pub isStrikingOf : ℕ → Effect → Bool
-isStrikingOf n (enters s) = false
-isStrikingOf n (strikes m) = eqb n m
-isStrikingOf n leaves = false
-
+-- "A set-up is accepted when its answer is a schedule"
 abbrev pub acceptedSetUp : Step → Bool
-acceptedSetUp s = isEntering (effectOf s)
+acceptedSetUp (did (SetUp n route) r) = isGiven r
+acceptedSetUp (did (Quote route) r) = false
+acceptedSetUp (did (Release n) r) = false
 
+-- "a release when it isn't refused"
 abbrev pub acceptedRelease : Step → Bool
-acceptedRelease s = isStriking (effectOf s)
+acceptedRelease (did (SetUp n route) r) = false
+acceptedRelease (did (Quote route) r) = false
+acceptedRelease (did (Release n) r) = not (isRefusal r)
 
+-- an accepted release of this number
 abbrev pub acceptedReleaseOf : ℕ → Step → Bool
-acceptedReleaseOf n s = isStrikingOf n (effectOf s)
+acceptedReleaseOf m (did (SetUp n route) r) = false
+acceptedReleaseOf m (did (Quote route) r) = false
+acceptedReleaseOf m (did (Release n) r) = eqb m n && not (isRefusal r)
 
 -- how many steps of the list pass a test
 abbrev pub countSteps : (Step → Bool) → List Step → ℕ

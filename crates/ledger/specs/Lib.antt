@@ -1,5 +1,7 @@
 pub mod Lists
+pub mod Held
 pub mod Sessions
+pub mod Inner
 pub mod Routes
 pub mod Sound
 pub mod Calls

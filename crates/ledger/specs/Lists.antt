@@ -22,3 +22,10 @@ module _ {A : Type 0} where
   abbrev pub keep : (A → Bool) → List A → List A
   keep p [] = []
   keep p (x ∷ xs) = cond (p x) (x ∷ keep p xs) (keep p xs)
+
+  -- two lists that are as long as each other and agree place by place
+  abbrev pub sameList : (A → A → Bool) → List A → List A → Bool
+  sameList r [] [] = true
+  sameList r [] (y ∷ ys) = false
+  sameList r (x ∷ xs) [] = false
+  sameList r (x ∷ xs) (y ∷ ys) = r x y && sameList r xs ys

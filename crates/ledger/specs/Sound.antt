@@ -1,15 +1,17 @@
 -- Refusal 0: when a stored state is broken, by what it shows. Assumes nothing.
 use mathlib.Core.Bool.{Bool, true, false, not, _&&_, _||_}
-use mathlib.Core.List.{List, [], _∷_}
+use mathlib.Core.List.{List, []}
 use Prim.Native.Nat.{ℕ}
 use lib.ListN.{length}
 use lib.Dec.{eqb, leb}
 use Rattle.refusals.specs.Refusals.{Ruling, given, refused, refuseIf}
 use Rattle.network.specs.Network.{Topology}
 use Rattle.network.specs.Checks.{networkCheck}
+use Rattle.forwarding.specs.declared.Hop.{Hop}
 use Rattle.forwarding.specs.Schedule.{isSchedule, scheduleDelay}
-use Rattle.ledger.specs.Lists.{allOf, anyTwo}
-use Rattle.ledger.specs.Sessions.{Session, View, holds, hopsOf}
+use Rattle.ledger.specs.Lists.{allOf, anyOf, anyTwo}
+use Rattle.ledger.specs.Held.{Holding, heldOver, nodesIn, sameHeld}
+use Rattle.ledger.specs.Sessions.{Session, View, holds, slotsOf, hopsOf}
 use Rattle.ledger.specs.Routes.{routeCheck}
 
 -- whether a check passes
@@ -32,25 +34,22 @@ sameNumber s u = eqb (u .number) (s .number)
 unfoldable pub numberTwice : List Session → Bool
 numberTwice ss = anyTwo sameNumber ss
 
--- "a route fails 12 to 15, its frames are no schedule over unclosed frames, the stored delay isn't theirs"
-unfoldable pub goodSession : Topology → Session → Bool
-goodSession net s =
-    passes (routeCheck net (s .route))
-    && (isSchedule (hopsOf net [] (s .route)) (s .held .frames)
-    && eqb (s .held .delay) (scheduleDelay (net .ticks) (hopsOf net [] (s .route)) (s .held .frames)))
+-- "its frames are no schedule over unclosed frames, the stored delay isn't theirs"; and "every stored field added later, by the rule that gives it":
+-- what is stored is what that schedule holds
+unfoldable pub goodHeld : ℕ → List Hop → Holding → Bool
+goodHeld T hops held =
+    isSchedule hops (nodesIn hops held) && sameHeld held (heldOver hops (scheduleDelay T hops (nodesIn hops held)) (nodesIn hops held))
 
--- some frame of a route with its frames passes a test
-abbrev pub someFrame : (ℕ → ℕ → Bool) → List ℕ → List ℕ → Bool
-someFrame p [] fs = false
-someFrame p (l ∷ ls) [] = false
-someFrame p (l ∷ ls) (i ∷ is) = p l i || someFrame p ls is
+-- "a route fails 12 to 15", and what is held
+unfoldable pub goodSession : Topology → Session → Bool
+goodSession net s = passes (routeCheck net (s .route)) && goodHeld (net .ticks) (hopsOf net [] (s .route)) (s .held)
 
 -- "two sessions hold one frame"
-abbrev pub shareFrame : Session → Session → Bool
-shareFrame s u = someFrame (λ l i. holds l i s) (u .route) (u .held .frames)
+abbrev pub shareSlot : Session → Session → Bool
+shareSlot s u = anyOf (λ x. holds x s) (slotsOf u)
 
 unfoldable pub frameTwice : List Session → Bool
-frameTwice ss = anyTwo shareFrame ss
+frameTwice ss = anyTwo shareSlot ss
 
 -- what a state shows keeps the rules
 unfoldable pub sound : View → Bool
