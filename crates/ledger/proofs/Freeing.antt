@@ -8,12 +8,12 @@ use borrow.Author.Tests.{eqb-true, eqb-false}
 use Rattle.refusals.specs.Refusals.{given}
 use Rattle.refusals.proofs.Refusals.{not-given}
 use Rattle.ledger.specs.Lists.{keep}
-use Rattle.ledger.specs.Sessions.{Session, View, holds, heldIn, isLive}
+use Rattle.ledger.specs.Sessions.{Session, View, Slot, holds, heldIn, isLive}
 use Rattle.ledger.specs.Sound.{intact}
-use Rattle.ledger.specs.Calls.{Release, Reply, freed, callCheck, served, reply, effect, otherThan, apply, next, lookIn, ReleaseFrees}
-use Rattle.ledger.proofs.Intact.{Intact, intact-is}
+use Rattle.ledger.specs.Calls.{Release, Reply, freed, callCheck, granted, reply, effect, otherThan, liveAfter, left, next, lookIn, ReleaseFrees}
+use Rattle.ledger.proofs.Intact.{intact-is}
 use Rattle.ledger.proofs.Answered.{reply-intact}
-use Rattle.ledger.proofs.Shown.{lookup-intact, looked-up, shown}
+use Rattle.ledger.proofs.Shown.{lookup-given, looked-up, shown}
 use Rattle.ledger.proofs.Holders.{one-holder}
 
 -- ---- a frame held by one or by others
@@ -29,24 +29,24 @@ own-frame true false = refl
 own-frame false a = refl
 
 -- ---- the sessions other than s, the only one of its number and the only one with its frame
-module _ (n l i : ℕ) (s : Session) (named : s .number ≡ n) where
+module _ (n : ℕ) (x : Slot) (s : Session) (named : s .number ≡ n) where
   others-hold : (ss : List Session) → ((u : Session) → List·Memᴰ u ss → u .number ≡ n → u ≡ s)
-      → ((u : Session) → List·Memᴰ u ss → holds l i u ≡ true → holds l i s ≡ true → u ≡ s)
-      → heldIn (keep (otherThan n) ss) l i ≡ (heldIn ss l i && not (holds l i s))
+      → ((u : Session) → List·Memᴰ u ss → holds x u ≡ true → holds x s ≡ true → u ≡ s)
+      → heldIn (keep (otherThan n) ss) x ≡ (heldIn ss x && not (holds x s))
   others-hold [] one sole = refl
-  others-hold (x ∷ xs) one sole =
-      go (eqb (x .number) n) refl
-      (others-hold xs (λ u m e. one u (List·Memᴰ·tail m) e) (λ u m p q. sole u (List·Memᴰ·tail m) p q))
+  others-hold (t ∷ ss) one sole =
+      go (eqb (t .number) n) refl
+      (others-hold ss (λ u m e. one u (List·Memᴰ·tail m) e) (λ u m p q. sole u (List·Memᴰ·tail m) p q))
     where
-      go : (b : Bool) → eqb (x .number) n ≡ b → heldIn (keep (otherThan n) xs) l i ≡ (heldIn xs l i && not (holds l i s))
-          → heldIn (cond (not b) (x ∷ keep (otherThan n) xs) (keep (otherThan n) xs)) l i ≡ ((holds l i x || heldIn xs l i) && not (holds l i s))
+      go : (b : Bool) → eqb (t .number) n ≡ b → heldIn (keep (otherThan n) ss) x ≡ (heldIn ss x && not (holds x s))
+          → heldIn (cond (not b) (t ∷ keep (otherThan n) ss) (keep (otherThan n) ss)) x ≡ ((holds x t || heldIn ss x) && not (holds x s))
       go true e ih =
-          ih ∙ own-frame (holds l i s) (heldIn xs l i)
-          ∙ ap (λ (u : Session). (holds l i u || heldIn xs l i) && not (holds l i s)) (sym (one x (List·Memᴰ·head refl) (eqb-true (x .number) n e)))
+          ih ∙ own-frame (holds x s) (heldIn ss x)
+          ∙ ap (λ (u : Session). (holds x u || heldIn ss x) && not (holds x s)) (sym (one t (List·Memᴰ·head refl) (eqb-true (t .number) n e)))
       go false e ih =
-          ap (λ (b : Bool). holds l i x || b) ih
-          ∙ frame-by-frame (holds l i s) (holds l i x) (heldIn xs l i)
-          (λ p q. eqb-false (x .number) n e (ap (λ (u : Session). u .number) (sole x (List·Memᴰ·head refl) q p) ∙ named))
+          ap (λ (b : Bool). holds x t || b) ih
+          ∙ frame-by-frame (holds x s) (holds x t) (heldIn ss x)
+          (λ p q. eqb-false (t .number) n e (ap (λ (u : Session). u .number) (sole t (List·Memᴰ·head refl) q p) ∙ named))
 
 -- ---- what a release leaves
 given-live : (n : ℕ) (ss : List Session) (s : Session) → lookIn n ss ≡ given s → isLive n ss ≡ true
@@ -58,34 +58,34 @@ given-live n (u ∷ ss) s h = go (eqb (u .number) n) h (given-live n ss s)
     go false k ih = ih k
 
 release-freed : (v : View) (n : ℕ) → intact v ≡ true → isLive n (v .live) ≡ true → reply v (Release n) ≡ freed
-unfolding callCheck served
+unfolding callCheck granted
 release-freed v n e live = reply-intact v (Release n) e ∙ rw live
 
 release-left : (v : View) (n : ℕ) → intact v ≡ true → isLive n (v .live) ≡ true → next v (Release n) .live ≡ keep (otherThan n) (v .live)
-unfolding next
-release-left v n e live = ap (λ (r : Reply). apply (v .live) (effect (Release n) r)) (release-freed v n e live)
+unfolding next left
+release-left v n e live = ap (λ (r : Reply). liveAfter (v .live) (effect (Release n) r)) (release-freed v n e live)
 
 -- A RELEASE FREES EXACTLY ITS SESSION'S FRAMES
 pub release-frees : ReleaseFrees
-release-frees v n s e g l i = ap (λ (ss : List Session). heldIn ss l i) left ∙ others-hold n l i s (found .1) (v .live) one sole
+release-frees v n s g x = ap (λ (ss : List Session). heldIn ss x) rest ∙ others-hold n x s (found .1) (v .live) one sole
   where
-    ok : Intact (v .network) (v .live)
-    ok = intact-is v e
+    i : intact v ≡ true
+    i = lookup-given v n s g .0
 
     looked : lookIn n (v .live) ≡ given s
-    looked = sym (lookup-intact v n e) ∙ g
+    looked = lookup-given v n s g .1
 
     found : List·Memᴰ s (v .live) × (s .number ≡ n)
     found = looked-up n (v .live) s looked
 
     one : (u : Session) → List·Memᴰ u (v .live) → u .number ≡ n → u ≡ s
-    one u m q = given-same u s (sym (shown (v .live) u (ok .numbers) m) ∙ ap (λ (k : ℕ). lookIn k (v .live)) q ∙ looked)
+    one u m q = given-same u s (sym (shown (v .live) u (intact-is v i .numbers) m) ∙ ap (λ (k : ℕ). lookIn k (v .live)) q ∙ looked)
       where
         given-same : (a b : Session) → given a ≡ given b → a ≡ b
         given-same a b w = cc
 
-    sole : (u : Session) → List·Memᴰ u (v .live) → holds l i u ≡ true → holds l i s ≡ true → u ≡ s
-    sole u m p q = one-holder (v .live) u s l i (ok .frames) m (found .0) p q
+    sole : (u : Session) → List·Memᴰ u (v .live) → holds x u ≡ true → holds x s ≡ true → u ≡ s
+    sole u m p q = one-holder (v .live) u s x (intact-is v i .frames) m (found .0) p q
 
-    left : next v (Release n) .live ≡ keep (otherThan n) (v .live)
-    left = release-left v n e (given-live n (v .live) s looked)
+    rest : next v (Release n) .live ≡ keep (otherThan n) (v .live)
+    rest = release-left v n i (given-live n (v .live) s looked)

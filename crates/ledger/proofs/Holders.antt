@@ -1,43 +1,42 @@
 -- A frame has one holder at most. Assumes nothing.
-use mathlib.Core.Path.{_≡_, sym, ap, subst, _∙_}
+use mathlib.Core.Path.{_≡_, sym, ap, ap₂, _∙_}
 use mathlib.Core.Logic.{_⊎_, inl, inr, ⊎-elim}
-use mathlib.Core.Bool.{Bool, true, false, _&&_}
+use mathlib.Core.Bool.{Bool, true, false}
 use mathlib.Core.List.{List, [], _∷_, List·Memᴰ, List·Memᴰ·cases-cons, List·Memᴰ·not-nil}
-use Prim.Native.Nat.{ℕ}
 use lib.Dec.{eqb}
 use borrow.Author.Tests.{eqb-true}
 use Rattle.lists.proofs.Count as tests
 use Rattle.ledger.specs.Lists.{anyOf, anyTwo}
-use Rattle.ledger.specs.Sessions.{Session, names, holds}
-use Rattle.ledger.specs.Sound.{someFrame, shareFrame, frameTwice}
+use Rattle.ledger.specs.Sessions.{Session, Slot, slot, sameSlot, slotsOf, holds}
+use Rattle.ledger.specs.Sound.{shareSlot, frameTwice}
 use Rattle.ledger.proofs.Lists.{clash, either, left-or, right-or, none-member}
 
--- a frame that a route with its frames names and that passes a test is a frame of them that passes it
-named-some : (p : ℕ → ℕ → Bool) (route fs : List ℕ) (l i : ℕ) → names route fs l i ≡ true → p l i ≡ true → someFrame p route fs ≡ true
-named-some p [] fs l i h k = h
-named-some p (r ∷ rs) [] l i h k = h
-named-some p (r ∷ rs) (f ∷ fs) l i h k =
-    ⊎-elim
-    (λ w. let both = tests.and-both (eqb r l) (eqb f i) w in
-    left-or (p r f) (someFrame p rs fs)
-    (subst (λ (x : ℕ). p x f ≡ true) (sym (eqb-true r l (both .0))) (subst (λ (x : ℕ). p l x ≡ true) (sym (eqb-true f i (both .1))) k)))
-    (λ w. right-or (p r f) (someFrame p rs fs) (named-some p rs fs l i w k))
-    (either (eqb r l && eqb f i) (names rs fs l i) h)
+same-slot : (x y : Slot) → sameSlot x y ≡ true → y ≡ x
+same-slot x y h =
+    let both = tests.and-both (eqb (y .link) (x .link)) (eqb (y .frame) (x .frame)) h in
+    ap₂ slot (eqb-true (y .link) (x .link) (both .0)) (eqb-true (y .frame) (x .frame) (both .1))
+
+-- where a frame stands that passes a test, some frame passes it
+slot-some : (p : Slot → Bool) (x : Slot) (xs : List Slot) → anyOf (sameSlot x) xs ≡ true → p x ≡ true → anyOf p xs ≡ true
+slot-some p x [] h k = h
+slot-some p x (y ∷ ys) h k =
+    ⊎-elim (λ e. left-or (p y) (anyOf p ys) (ap p (same-slot x y e) ∙ k)) (λ e. right-or (p y) (anyOf p ys) (slot-some p x ys e k))
+    (either (sameSlot x y) (anyOf (sameSlot x) ys) h)
 
 -- sessions that hold one frame share it
-pub not-shared : {X : Type 0} (s u : Session) (l i : ℕ) → shareFrame s u ≡ false → holds l i s ≡ true → holds l i u ≡ true → X
-not-shared s u l i a h k = clash (shareFrame s u) (named-some (λ l i. holds l i s) (u .route) (u .held .frames) l i k h) a
+pub not-shared : {X : Type 0} (s u : Session) (x : Slot) → shareSlot s u ≡ false → holds x s ≡ true → holds x u ≡ true → X
+not-shared s u x a h k = clash (shareSlot s u) (slot-some (λ y. holds y s) x (slotsOf u) k h) a
 
-pub one-holder : (ss : List Session) (s u : Session) (l i : ℕ) → frameTwice ss ≡ false → List·Memᴰ s ss → List·Memᴰ u ss
-    → holds l i s ≡ true → holds l i u ≡ true → s ≡ u
+pub one-holder : (ss : List Session) (s u : Session) (x : Slot) → frameTwice ss ≡ false → List·Memᴰ s ss → List·Memᴰ u ss
+    → holds x s ≡ true → holds x u ≡ true → s ≡ u
 unfolding frameTwice
-one-holder [] s u l i h m k p q = absurd (List·Memᴰ·not-nil m)
-one-holder (x ∷ ss) s u l i h m k p q =
-    let both = tests.or-neither (anyOf (shareFrame x) ss) (anyTwo shareFrame ss) h in
-    go (both .0) (List·Memᴰ·cases-cons m) (List·Memᴰ·cases-cons k) (λ a b. one-holder ss s u l i (both .1) a b p q)
+one-holder [] s u x h m k p q = absurd (List·Memᴰ·not-nil m)
+one-holder (t ∷ ss) s u x h m k p q =
+    let both = tests.or-neither (anyOf (shareSlot t) ss) (anyTwo shareSlot ss) h in
+    go (both .0) (List·Memᴰ·cases-cons m) (List·Memᴰ·cases-cons k) (λ a b. one-holder ss s u x (both .1) a b p q)
   where
-    go : anyOf (shareFrame x) ss ≡ false → (s ≡ x) ⊎ List·Memᴰ s ss → (u ≡ x) ⊎ List·Memᴰ u ss → (List·Memᴰ s ss → List·Memᴰ u ss → s ≡ u) → s ≡ u
+    go : anyOf (shareSlot t) ss ≡ false → (s ≡ t) ⊎ List·Memᴰ s ss → (u ≡ t) ⊎ List·Memᴰ u ss → (List·Memᴰ s ss → List·Memᴰ u ss → s ≡ u) → s ≡ u
     go apart (inl a) (inl b) ih = a ∙ sym b
-    go apart (inl a) (inr b) ih = not-shared x u l i (none-member (shareFrame x) ss apart b) (ap (holds l i) (sym a) ∙ p) q
-    go apart (inr a) (inl b) ih = not-shared x s l i (none-member (shareFrame x) ss apart a) (ap (holds l i) (sym b) ∙ q) p
+    go apart (inl a) (inr b) ih = not-shared t u x (none-member (shareSlot t) ss apart b) (ap (holds x) (sym a) ∙ p) q
+    go apart (inr a) (inl b) ih = not-shared t s x (none-member (shareSlot t) ss apart a) (ap (holds x) (sym b) ∙ q) p
     go apart (inr a) (inr b) ih = ih a b

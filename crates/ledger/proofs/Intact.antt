@@ -5,20 +5,23 @@ use mathlib.Core.List.{List, []}
 use Prim.Native.Nat.{ℕ, _≤_}
 use native.Mathlib.Omega.{arith}
 use lib.ListN.{length}
-use lib.Dec.{eqb, leb}
-use borrow.Author.Tests.{eq-eqb, eqb-true, le-leb, leb-true, not-true}
+use lib.Dec.{leb}
+use borrow.Author.Tests.{le-leb, leb-true, not-true}
 use Rattle.lists.proofs.Count as tests
 use Rattle.refusals.specs.Refusals.{Ruling, given, refused, pass, refuseIf, orElse}
 use Rattle.refusals.proofs.Refusals.{past, not-refused}
 use Rattle.network.specs.Network.{Topology}
 use Rattle.network.specs.Checks.{networkCheck}
+use Rattle.forwarding.specs.declared.Hop.{Hop}
 use Rattle.forwarding.specs.Schedule.{IsSchedule, isSchedule, scheduleDelay}
 use Rattle.forwarding.proofs.Schedules.{told-schedule, schedule-told}
 use Rattle.ledger.specs.Lists.{allOf}
+use Rattle.ledger.specs.Held.{heldOver, nodesIn, sameHeld}
 use Rattle.ledger.specs.Sessions.{Session, View, hopsOf}
 use Rattle.ledger.specs.Routes.{badLength, unknownLink, linkTwice, ratesApart, ratesOf, routeCheck}
-use Rattle.ledger.specs.Sound.{passes, goodNetwork, fewSessions, numberTwice, goodSession, frameTwice, sound, derived, intact}
+use Rattle.ledger.specs.Sound.{passes, goodNetwork, fewSessions, numberTwice, goodHeld, goodSession, frameTwice, sound, derived, intact}
 use Rattle.ledger.specs.Demand.{fresh, FreshIntact}
+use Rattle.ledger.proofs.Held.{same-is, is-same}
 
 -- the test whether a check passes
 pub passes-given : (r : Ruling) → passes r ≡ true → r ≡ given pass
@@ -30,7 +33,7 @@ given-passes r e = rw e
 
 -- ---- a route that passed 12 to 15
 pub record GoodRoute (net : Topology) (route : List ℕ) : Type 0 where
-  pub length : badLength (length route) ≡ false
+  pub few : badLength (length route) ≡ false
   pub known : unknownLink net route ≡ false
   pub once : linkTwice route ≡ false
   pub rates : ratesApart (ratesOf net route) ≡ false
@@ -44,38 +47,39 @@ route-good net route e =
     let a : (badLength (length route) ≡ false) × (k ≡ given pass) = past (badLength (length route)) 12 k pass e in
     let b : (unknownLink net route ≡ false) × (o ≡ given pass) = past (unknownLink net route) 13 o pass (a .1) in
     let c : (linkTwice route ≡ false) × (r ≡ given pass) = past (linkTwice route) 14 r pass (b .1) in
-    record { length = a .0; known = b .0; once = c .0; rates = not-refused (ratesApart (ratesOf net route)) 15 (c .1) }
+    record { few = a .0; known = b .0; once = c .0; rates = not-refused (ratesApart (ratesOf net route)) 15 (c .1) }
 
 -- ---- a session that keeps the rules
 pub record GoodSession (net : Topology) (s : Session) : Type 0 where
   pub route : routeCheck net (s .route) ≡ given pass
-  pub schedule : IsSchedule (hopsOf net [] (s .route)) (s .held .frames)
-  pub delay : s .held .delay ≡ scheduleDelay (net .ticks) (hopsOf net [] (s .route)) (s .held .frames)
+  pub schedule : IsSchedule (hopsOf net [] (s .route)) (nodesIn (hopsOf net [] (s .route)) (s .held))
+  pub held : s .held ≡ heldOver (hopsOf net [] (s .route))
+      (scheduleDelay (net .ticks) (hopsOf net [] (s .route)) (nodesIn (hopsOf net [] (s .route)) (s .held))) (nodesIn (hopsOf net [] (s .route)) (s .held))
 
 pub session-good : (net : Topology) (s : Session) → goodSession net s ≡ true → GoodSession net s
-unfolding goodSession
+unfolding goodSession goodHeld
 session-good net s e =
-    let T : ℕ = net .ticks in
-    let fs : List ℕ = s .held .frames in
-    let d : ℕ = scheduleDelay T (hopsOf net [] (s .route)) fs in
-    let k : Bool = isSchedule (hopsOf net [] (s .route)) fs in
-    let a = tests.and-both (passes (routeCheck net (s .route))) (k && eqb (s .held .delay) d) e in
-    let b = tests.and-both k (eqb (s .held .delay) d) (a .1) in
+    let hops : List Hop = hopsOf net [] (s .route) in
+    let w : List ℕ = nodesIn hops (s .held) in
+    let k : Bool = isSchedule hops w in
+    let m : Bool = sameHeld (s .held) (heldOver hops (scheduleDelay (net .ticks) hops w) w) in
+    let a = tests.and-both (passes (routeCheck net (s .route))) (k && m) e in
+    let b = tests.and-both k m (a .1) in
     record {
       route = passes-given (routeCheck net (s .route)) (a .0);
-      schedule = told-schedule (hopsOf net [] (s .route)) fs (b .0);
-      delay = eqb-true (s .held .delay) d (b .1);
+      schedule = told-schedule hops w (b .0);
+      held = same-is (s .held) (heldOver hops (scheduleDelay (net .ticks) hops w) w) (b .1);
     }
 
 pub good-session : (net : Topology) (s : Session) → GoodSession net s → goodSession net s ≡ true
-unfolding goodSession
+unfolding goodSession goodHeld
 good-session net s g =
-    let T : ℕ = net .ticks in
-    let fs : List ℕ = s .held .frames in
-    let d : ℕ = scheduleDelay T (hopsOf net [] (s .route)) fs in
-    let k : Bool = isSchedule (hopsOf net [] (s .route)) fs in
-    tests.both-and (passes (routeCheck net (s .route))) (k && eqb (s .held .delay) d) (given-passes (routeCheck net (s .route)) (g .route))
-    (tests.both-and k (eqb (s .held .delay) d) (schedule-told (hopsOf net [] (s .route)) fs (g .schedule)) (eq-eqb (s .held .delay) d (g .delay)))
+    let hops : List Hop = hopsOf net [] (s .route) in
+    let w : List ℕ = nodesIn hops (s .held) in
+    let k : Bool = isSchedule hops w in
+    let m : Bool = sameHeld (s .held) (heldOver hops (scheduleDelay (net .ticks) hops w) w) in
+    tests.both-and (passes (routeCheck net (s .route))) (k && m) (given-passes (routeCheck net (s .route)) (g .route))
+    (tests.both-and k m (schedule-told hops w (g .schedule)) (is-same (s .held) (heldOver hops (scheduleDelay (net .ticks) hops w) w) (g .held)))
 
 -- ---- a state that isn't broken
 pub record Intact (net : Topology) (ss : List Session) : Type 0 where

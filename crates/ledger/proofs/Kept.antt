@@ -12,38 +12,27 @@ use Rattle.refusals.specs.Refusals.{Ruling, given, refused, pass}
 use Rattle.network.specs.Network.{Topology}
 use Rattle.forwarding.specs.LeastDelay.{Given}
 use Rattle.ledger.specs.Lists.{allOf, anyOf, anyTwo, keep}
-use Rattle.ledger.specs.Sessions.{Held, Session, holds, heldIn, isLive, hopsOf}
+use Rattle.ledger.specs.Held.{heldOver}
+use Rattle.ledger.specs.Sessions.{Session, slotsOf, holds, heldIn, isLive, hopsOf}
 use Rattle.ledger.specs.Routes.{routeCheck}
-use Rattle.ledger.specs.Sound.{numberTwice, sameNumber, goodSession, someFrame, shareFrame, frameTwice}
-use Rattle.ledger.specs.Calls.{Call, SetUp, Quote, Release, Reply, unless, full, callCheck, served, effect, otherThan, apply, next, NextIntact}
-use Rattle.ledger.specs.Demand.{Served, scheduled, none}
-use Rattle.ledger.proofs.Lists.{neither-or, eqb-flip, any-cong, all-snoc, anyTwo-snoc, all-keep, anyTwo-keep, length-keep}
+use Rattle.ledger.specs.Sound.{numberTwice, sameNumber, goodSession, shareSlot, frameTwice}
+use Rattle.ledger.specs.Calls.{Call, SetUp, Quote, Release, Reply, unless, full, callCheck, granted, effect, otherThan, liveAfter, left, next, NextIntact}
+use Rattle.ledger.specs.Demand.{LeastOrBlocked, least, none}
+use Rattle.ledger.proofs.Lists.{neither-or, eqb-flip, any-cong, all-snoc, anyTwo-snoc, any-or, all-keep, anyTwo-keep, length-keep}
+use Rattle.ledger.proofs.Held.{held-free}
 use Rattle.ledger.proofs.Intact.{Intact, GoodSession, good-session, intact-is, is-intact}
-use Rattle.ledger.proofs.Schedules.{schedule-unclosed, schedule-unheld, delay-same}
-use Rattle.ledger.proofs.Answered.{answerOn, reply-intact, Admitted, admitted, call-served}
+use Rattle.ledger.proofs.Schedules.{schedule-unclosed, delay-same, over-nodes, over-unheld}
+use Rattle.ledger.proofs.Answered.{answerOn, reply-intact, Admitted, admitted, call-due}
 
 -- ---- a new session beside the others
 number-new : (ss : List Session) (u : Session) → isLive (u .number) ss ≡ false → anyOf (λ s. sameNumber s u) ss ≡ false
 number-new ss u h = any-cong (λ s. sameNumber s u) (λ s. eqb (s .number) (u .number)) ss (λ s. eqb-flip (u .number) (s .number)) ∙ h
 
--- frames that no session of a list holds, its first and the others do not
-unheld-parts : (s : Session) (ss : List Session) (route fs : List ℕ) → someFrame (heldIn (s ∷ ss)) route fs ≡ false
-    → (someFrame (λ l i. holds l i s) route fs ≡ false) × (someFrame (heldIn ss) route fs ≡ false)
-unheld-parts s ss [] fs h = (refl, refl)
-unheld-parts s ss (l ∷ route) [] h = (refl, refl)
-unheld-parts s ss (l ∷ route) (i ∷ fs) h =
-    let a = tests.or-neither (heldIn (s ∷ ss) l i) (someFrame (heldIn (s ∷ ss)) route fs) h in
-    let b = tests.or-neither (holds l i s) (heldIn ss l i) (a .0) in
-    let c = unheld-parts s ss route fs (a .1) in (
-      neither-or (holds l i s) (someFrame (λ k j. holds k j s) route fs) (b .0) (c .0),
-      neither-or (heldIn ss l i) (someFrame (heldIn ss) route fs) (b .1) (c .1),
-    )
-
-unheld-unshared : (ss : List Session) (u : Session) → someFrame (heldIn ss) (u .route) (u .held .frames) ≡ false → anyOf (λ s. shareFrame s u) ss ≡ false
+unheld-unshared : (ss : List Session) (u : Session) → anyOf (heldIn ss) (slotsOf u) ≡ false → anyOf (λ s. shareSlot s u) ss ≡ false
 unheld-unshared [] u h = refl
 unheld-unshared (s ∷ ss) u h =
-    let a = unheld-parts s ss (u .route) (u .held .frames) h in
-    neither-or (shareFrame s u) (anyOf (λ t. shareFrame t u) ss) (a .0) (unheld-unshared ss u (a .1))
+    let a = tests.or-neither (shareSlot s u) (anyOf (heldIn ss) (slotsOf u)) (sym (any-or (λ x. holds x s) (heldIn ss) (slotsOf u)) ∙ h) in
+    neither-or (shareSlot s u) (anyOf (λ t. shareSlot t u) ss) (a .0) (unheld-unshared ss u (a .1))
 
 module _ (net : Topology) (ss : List Session) (h : Intact net ss) where
   few-more : (u : Session) → full ss ≡ false → length (ss ++ (u ∷ [])) ≤ 96
@@ -51,29 +40,29 @@ module _ (net : Topology) (ss : List Session) (h : Intact net ss) where
   few-more u e = omega (arith, leb-false 96 (length ss) e, length-append ss (u ∷ []))
 
   -- ---- an accepted set-up
-  served-good : (n : ℕ) (route : List ℕ) (held : Held) (count : ℕ) → routeCheck net route ≡ given pass
-      → Given (net .ticks) (hopsOf net ss route) (held .delay) count (held .frames) → GoodSession net (record { number = n; route = route; held = held })
-  served-good n route held count e g =
+  given-good : (n : ℕ) (route : List ℕ) (d count : ℕ) (w : List ℕ) → routeCheck net route ≡ given pass
+      → Given (net .ticks) (hopsOf net ss route) d count w → GoodSession net (record { number = n; route = route; held = heldOver (hopsOf net ss route) d w })
+  given-good n route d count w e g =
       record {
         route = e;
-        schedule = schedule-unclosed net ss route (held .frames) (g .schedule);
-        delay = sym (g .delay-is) ∙ delay-same net ss (net .ticks) route (held .frames);
+        schedule = rw (over-nodes net ss route d w (g .schedule)) (schedule-unclosed net ss route w (g .schedule));
+        held = rw (over-nodes net ss route d w (g .schedule), held-free net ss route d w, sym (delay-same net ss (net .ticks) route w), g .delay-is);
       }
 
-  served-intact : (n : ℕ) (route : List ℕ) → Admitted net ss n route → {r : Reply} → Served (net .ticks) (hopsOf net ss route) r
-      → Intact net (apply ss (effect (SetUp n route) r))
+  set-up-intact : (n : ℕ) (route : List ℕ) → Admitted net ss n route → {r : Reply} → LeastOrBlocked (net .ticks) (hopsOf net ss route) r
+      → Intact net (liveAfter ss (effect (SetUp n route) r))
   unfolding numberTwice frameTwice
-  served-intact n route a (scheduled held count e g) =
-      let u : Session = record { number = n; route = route; held = held } in
-      let good : goodSession net u ≡ true = good-session net u (served-good n route held count (a .passed) g) in
+  set-up-intact n route a (least d count w e g) =
+      let u : Session = record { number = n; route = route; held = heldOver (hopsOf net ss route) d w } in
+      let good : goodSession net u ≡ true = good-session net u (given-good n route d count w (a .passed) g) in
       record {
         network = h .network;
         few = few-more u (a .room);
         numbers = anyTwo-snoc sameNumber ss u ∙ neither-or (anyTwo sameNumber ss) (anyOf (λ s. sameNumber s u) ss) (h .numbers) (number-new ss u (a .unused));
         sessions = all-snoc (goodSession net) ss u ∙ tests.both-and (allOf (goodSession net) ss) (goodSession net u) (h .sessions) good;
-        frames = anyTwo-snoc shareFrame ss u ∙ neither-or (anyTwo shareFrame ss) (anyOf (λ s. shareFrame s u) ss) (h .frames) (unheld-unshared ss u (schedule-unheld net ss route (held .frames) (g .schedule)));
+        frames = anyTwo-snoc shareSlot ss u ∙ neither-or (anyTwo shareSlot ss) (anyOf (λ s. shareSlot s u) ss) (h .frames) (unheld-unshared ss u (over-unheld net ss route d w (g .schedule)));
       }
-  served-intact n route a (none count e counted nowhere) = h
+  set-up-intact n route a (none count e counted nowhere) = h
 
   -- ---- an accepted release
   release-intact : (n : ℕ) → Intact net (keep (otherThan n) ss)
@@ -84,23 +73,23 @@ module _ (net : Topology) (ss : List Session) (h : Intact net ss) where
         few = omega (arith, h .few, length-keep (otherThan n) ss);
         numbers = anyTwo-keep sameNumber (otherThan n) ss (h .numbers);
         sessions = all-keep (goodSession net) (otherThan n) ss (h .sessions);
-        frames = anyTwo-keep shareFrame (otherThan n) ss (h .frames);
+        frames = anyTwo-keep shareSlot (otherThan n) ss (h .frames);
       }
 
-  pub answer-intact : (call : Call) → Intact net (apply ss (effect call (answerOn net ss call)))
+  pub answer-intact : (call : Call) → Intact net (liveAfter ss (effect call (answerOn net ss call)))
   answer-intact (SetUp n route) = go (callCheck net ss (SetUp n route)) refl
     where
-      go : (o : Ruling) → callCheck net ss (SetUp n route) ≡ o → Intact net (apply ss (effect (SetUp n route) (unless o (served net ss (SetUp n route)))))
+      go : (o : Ruling) → callCheck net ss (SetUp n route) ≡ o → Intact net (liveAfter ss (effect (SetUp n route) (unless o (granted net ss (SetUp n route)))))
       go (refused k) e = h
-      go (given pass) e = served-intact n route (admitted net ss n route e) (call-served net ss (SetUp n route))
+      go (given pass) e = set-up-intact n route (admitted net ss n route e) (call-due net ss (SetUp n route))
   answer-intact (Quote route) = h
   answer-intact (Release n) = go (callCheck net ss (Release n))
     where
-      go : (o : Ruling) → Intact net (apply ss (effect (Release n) (unless o (served net ss (Release n)))))
+      go : (o : Ruling) → Intact net (liveAfter ss (effect (Release n) (unless o (granted net ss (Release n)))))
       go (refused k) = h
-      go (given pass) = unfold served in release-intact n
+      go (given pass) = unfold granted in release-intact n
 
 -- EVERY CALL KEEPS THE STATE INTACT
 pub next-intact : NextIntact
-unfolding next
+unfolding next left
 next-intact v call e = is-intact (next v call) (rw (reply-intact v call e) (answer-intact (v .network) (v .live) (intact-is v e) call))

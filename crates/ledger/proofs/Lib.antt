@@ -1,4 +1,5 @@
 pub mod Lists
+pub mod Held
 pub mod Intact
 pub mod Free
 pub mod Counted

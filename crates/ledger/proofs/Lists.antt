@@ -10,7 +10,7 @@ use lib.ListN.{length, getD}
 use lib.Dec.{eqb}
 use borrow.Author.Tests.{eq-eqb, eqb-true, ne-eqb, eqb-false}
 use Rattle.lists.proofs.Count as tests
-use Rattle.ledger.specs.Lists.{allOf, anyOf, anyTwo, keep}
+use Rattle.ledger.specs.Lists.{allOf, anyOf, anyTwo, keep, sameList}
 
 -- ---- tests
 pub neither-or : (a b : Bool) → a ≡ false → b ≡ false → a || b ≡ false
@@ -66,6 +66,24 @@ module _ {A : Type 0} where
   pub any-cong : (p q : A → Bool) (xs : List A) → ((x : A) → p x ≡ q x) → anyOf p xs ≡ anyOf q xs
   any-cong p q [] same = refl
   any-cong p q (y ∷ ys) same = rw (same y, any-cong p q ys same)
+
+  -- one or the other test
+  pub any-or : (p q : A → Bool) (xs : List A) → anyOf (λ x. p x || q x) xs ≡ (anyOf p xs || anyOf q xs)
+  any-or p q [] = refl
+  any-or p q (y ∷ ys) = ap (λ (b : Bool). (p y || q y) || b) (any-or p q ys) ∙ or-middle (p y) (q y) (anyOf p ys) (anyOf q ys)
+
+  -- lists that agree place by place are equal, and back
+  pub same-list : (r : A → A → Bool) → ((x y : A) → r x y ≡ true → x ≡ y) → (xs ys : List A) → sameList r xs ys ≡ true → xs ≡ ys
+  same-list r equal [] [] h = refl
+  same-list r equal [] (y ∷ ys) h = absurd (false≢true h)
+  same-list r equal (x ∷ xs) [] h = absurd (false≢true h)
+  same-list r equal (x ∷ xs) (y ∷ ys) h =
+      let both = tests.and-both (r x y) (sameList r xs ys) h in
+      ap₂ _∷_ (equal x y (both .0)) (same-list r equal xs ys (both .1))
+
+  pub list-same : (r : A → A → Bool) → ((x : A) → r x x ≡ true) → (xs : List A) → sameList r xs xs ≡ true
+  list-same r self [] = refl
+  list-same r self (x ∷ xs) = tests.both-and (r x x) (sameList r xs xs) (self x) (list-same r self xs)
 
   -- what a test over a list says of a member
   pub all-member : (p : A → Bool) {x : A} (xs : List A) → allOf p xs ≡ true → List·Memᴰ x xs → p x ≡ true

@@ -7,11 +7,10 @@ use lib.ListN.{length}
 use Rattle.refusals.specs.Refusals.{Ruling}
 use Rattle.network.specs.Network.{Topology}
 use Rattle.forwarding.specs.declared.Hop.{Hop}
-use Rattle.forwarding.specs.Route.{routeAnswer}
 use Rattle.ledger.specs.Sessions.{Session, View, linkAt, hopsOf}
 use Rattle.ledger.specs.Routes.{badLength, unknownLink, ratesOf, routeCheck}
 use Rattle.ledger.specs.Sound.{intact}
-use Rattle.ledger.specs.Calls.{Call, Quote, Reply, refusal, replyOf, unless, callCheck, served, reply, QuoteDepends}
+use Rattle.ledger.specs.Calls.{Call, Quote, Reply, refusal, answerOver, unless, callCheck, granted, reply, QuoteDepends}
 use Rattle.ledger.proofs.Answered.{reply-intact}
 
 -- the K of a route's links are those of its hops
@@ -31,8 +30,8 @@ unbroken v call h = go (intact v) refl
     go false e = absurd (h (broken e))
 
 module _ (v : View) (route : List ℕ) (i : intact v ≡ true) where
-  quote-checked : reply v (Quote route) ≡ unless (routeCheck (v .network) route) (replyOf (routeAnswer (v .network .ticks) (hopsOf (v .network) (v .live) route)))
-  unfolding callCheck served
+  quote-checked : reply v (Quote route) ≡ unless (routeCheck (v .network) route) (answerOver (v .network .ticks) (hopsOf (v .network) (v .live) route))
+  unfolding callCheck granted
   quote-checked = reply-intact v (Quote route) i
 
   bad-length : badLength (length route) ≡ true → reply v (Quote route) ≡ refusal 12 0
@@ -71,5 +70,5 @@ quote-depends v w route hv hw kv kw t e = go (badLength (length route)) refl
     go true b = bad-length v route iv b ∙ sym (bad-length w route iw b)
     go false b =
         quote-checked v route iv
-        ∙ ap₂ (λ (o : Ruling) (r : Reply). unless o r) (same-check b) (ap₂ (λ (T : ℕ) (hops : List Hop). replyOf (routeAnswer T hops)) t e)
+        ∙ ap₂ (λ (o : Ruling) (r : Reply). unless o r) (same-check b) (ap₂ (λ (T : ℕ) (hops : List Hop). answerOver T hops) t e)
         ∙ sym (quote-checked w route iw)

@@ -1,4 +1,4 @@
--- Each answer is right against the sessions before it: every check refuses exactly under its condition, and the rest is served. Assumes nothing.
+-- Each answer is right against the sessions before it: every check refuses exactly under its condition, and the rest gets what is due. Assumes nothing.
 use mathlib.Core.Path.{_≡_, refl, sym, ap, subst, _∙_}
 use mathlib.Core.Bool.{Bool, true, false, not, _||_}
 use mathlib.Core.List.{List}
@@ -10,13 +10,14 @@ use Rattle.trellis.specs.Answer.{found, blocked}
 use Rattle.trellis.specs.Answer as trellis
 use Rattle.refusals.specs.Refusals.{Ruling, given, refused, pass, refuseIf, orElse}
 use Rattle.network.specs.Network.{Topology}
+use Rattle.forwarding.specs.declared.Hop.{Hop}
 use Rattle.forwarding.specs.Route.{routeAnswer}
 use Rattle.ledger.specs.Sessions.{Session, isLive, hopsOf}
 use Rattle.ledger.specs.Routes.{badLength, unknownLink, linkTwice, ratesApart, ratesOf, routeCheck}
-use Rattle.ledger.specs.Calls.{Call, SetUp, Quote, Release, refusal, replyOf, unless, full, callCheck, served}
-use Rattle.ledger.specs.Demand.{ServedCall, Right}
+use Rattle.ledger.specs.Calls.{Call, SetUp, Quote, Release, refusal, replyOf, answerOver, unless, full, callCheck, granted}
+use Rattle.ledger.specs.Demand.{Due, Right}
 use Rattle.ledger.proofs.Lists.{clash}
-use Rattle.ledger.proofs.Answered.{answerOn, call-served}
+use Rattle.ledger.proofs.Answered.{answerOn, call-due}
 
 -- ---- no check of a call after 0 refuses with 0 or with 18
 abbrev special : Ruling → Bool
@@ -53,29 +54,32 @@ call-plain net ss (Release n) = special-if (not (isLive n ss)) 19 refl
 pub not-eighteen : (net : Topology) (ss : List Session) (call : Call) (k : ℕ) → callCheck net ss call ≡ refused k → k ≡ 18 → ⊥
 not-eighteen net ss call k e q = clash (special (refused k)) (ap (λ (j : ℕ). special (refused j)) q) (ap special (sym e) ∙ call-plain net ss call)
 
--- ---- what is served and yet refused has the number 18
-route-refusal : (a : trellis.Answer) (k count : ℕ) → replyOf a ≡ refusal k count → k ≡ 18
-route-refusal (found d n fs) k count e = cc
-route-refusal (blocked n) k count e = cc
+-- ---- what is granted and yet a refusal has the number 18
+answer-refusal : (T : ℕ) (hops : List Hop) (k count : ℕ) → answerOver T hops ≡ refusal k count → k ≡ 18
+answer-refusal T hops k count e = go (routeAnswer T hops) e
+  where
+    go : (a : trellis.Answer) → replyOf hops a ≡ refusal k count → k ≡ 18
+    go (found d n w) g = cc
+    go (blocked n) g = cc
 
-served-refusal : (net : Topology) (ss : List Session) (call : Call) (k count : ℕ) → served net ss call ≡ refusal k count → k ≡ 18
-unfolding served
-served-refusal net ss (SetUp n route) k count e = route-refusal (routeAnswer (net .ticks) (hopsOf net ss route)) k count e
-served-refusal net ss (Quote route) k count e = route-refusal (routeAnswer (net .ticks) (hopsOf net ss route)) k count e
-served-refusal net ss (Release n) k count e = cc
+granted-refusal : (net : Topology) (ss : List Session) (call : Call) (k count : ℕ) → granted net ss call ≡ refusal k count → k ≡ 18
+unfolding granted
+granted-refusal net ss (SetUp n route) k count e = answer-refusal (net .ticks) (hopsOf net ss route) k count e
+granted-refusal net ss (Quote route) k count e = answer-refusal (net .ticks) (hopsOf net ss route) k count e
+granted-refusal net ss (Release n) k count e = cc
 
 module _ (net : Topology) (ss : List Session) (call : Call) where
   other-refused : (k count : ℕ) → answerOn net ss call ≡ refusal k count → (k ≡ 18 → ⊥) → callCheck net ss call ≡ refused k
   other-refused k count e h = go (callCheck net ss call) refl e
     where
-      go : (o : Ruling) → callCheck net ss call ≡ o → unless o (served net ss call) ≡ refusal k count → o ≡ refused k
-      go (given p) w g = absurd (h (served-refusal net ss call k count g))
+      go : (o : Ruling) → callCheck net ss call ≡ o → unless o (granted net ss call) ≡ refusal k count → o ≡ refused k
+      go (given p) w g = absurd (h (granted-refusal net ss call k count g))
       go (refused j) w g = cc
 
   blocked-passed : (count : ℕ) → answerOn net ss call ≡ refusal 18 count → callCheck net ss call ≡ given pass
   blocked-passed count e = go (callCheck net ss call) (call-plain net ss call) e
     where
-      go : (o : Ruling) → special o ≡ false → unless o (served net ss call) ≡ refusal 18 count → o ≡ given pass
+      go : (o : Ruling) → special o ≡ false → unless o (granted net ss call) ≡ refusal 18 count → o ≡ given pass
       go (given pass) w g = refl
       go (refused j) w g = let is : j ≡ 18 = cc in clash (special (refused j)) (ap (λ (k : ℕ). special (refused k)) is) w
 
@@ -88,9 +92,9 @@ module _ (net : Topology) (ss : List Session) (call : Call) where
   pub answer-right : Right net ss call (answerOn net ss call)
   answer-right =
       record {
-        other = λ k e. ap (λ (o : Ruling). unless o (served net ss call)) e;
+        other = λ k e. ap (λ (o : Ruling). unless o (granted net ss call)) e;
         only = other-refused;
         blocked = blocked-passed;
         unbroken = never-broken;
-        served = λ e. subst (λ (o : Ruling). ServedCall net ss call (unless o (served net ss call))) (sym e) (call-served net ss call);
+        due = λ e. subst (λ (o : Ruling). Due net ss call (unless o (granted net ss call))) (sym e) (call-due net ss call);
       }

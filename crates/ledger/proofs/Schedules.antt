@@ -1,16 +1,32 @@
--- A schedule over the frames that sessions leave free: it holds unclosed frames, none of theirs, at the same delay. Assumes nothing.
-use mathlib.Core.Path.{_≡_, refl, ap}
+-- A schedule over the frames that sessions leave free: it holds unclosed frames, none of theirs, at the same delay; and its length. Assumes nothing.
+use mathlib.Core.Path.{_≡_, refl, ap, _∙_}
 use mathlib.Core.Bool.{Bool, false}
 use mathlib.Core.List.{List, [], _∷_}
-use Prim.Native.Nat.{ℕ, _+_}
+use Prim.Native.Nat.{ℕ, suc, _+_}
+use lib.ListN.{length}
 use Rattle.lists.proofs.Count as tests
 use Rattle.network.specs.Network.{Topology}
+use Rattle.forwarding.specs.declared.Hop.{Hop}
 use Rattle.forwarding.specs.Forwarding.{referenceInto, leastHold, holdInto, mayHold, isFree, delay}
 use Rattle.forwarding.specs.Schedule.{GoesOn, IsSchedule, onwardDelay, scheduleDelay}
-use Rattle.ledger.specs.Sessions.{Session, heldIn, linkAt, hopOf, hopsOf}
-use Rattle.ledger.specs.Sound.{someFrame}
+use Rattle.ledger.specs.Lists.{anyOf}
+use Rattle.ledger.specs.Held.{heldOver, nodesIn}
+use Rattle.ledger.specs.Sessions.{Session, slot, slotsAt, heldIn, linkAt, hopOf, hopsOf}
 use Rattle.ledger.proofs.Lists.{neither-or}
+use Rattle.ledger.proofs.Held.{nodes-held, held-free, frames-over}
 use Rattle.ledger.proofs.Free.{free-unheld, free-unclosed}
+
+-- a schedule has a node for each hop
+on-length : (g : Hop) (k : ℕ) (hops : List Hop) (fs : List ℕ) → GoesOn g k hops fs → length fs ≡ length hops
+on-length g k [] [] o = refl
+on-length g k [] (i ∷ fs) o = absurd o
+on-length g k (h ∷ hops) [] o = absurd o
+on-length g k (h ∷ hops) (i ∷ fs) o = ap suc (on-length h i hops fs (o .2))
+
+pub schedule-length : (hops : List Hop) (fs : List ℕ) → IsSchedule hops fs → length fs ≡ length hops
+schedule-length [] fs s = absurd s
+schedule-length (h ∷ hops) [] s = absurd s
+schedule-length (h ∷ hops) (k ∷ fs) s = ap suc (on-length h k hops fs (s .2))
 
 module _ (net : Topology) (ss : List Session) where
   -- on from frame k of link r
@@ -41,15 +57,25 @@ module _ (net : Topology) (ss : List Session) where
   delay-same T (l ∷ route) [] = refl
   delay-same T (l ∷ route) (k ∷ fs) = on-delay T l k route fs
 
-  on-unheld : (r k : ℕ) (route fs : List ℕ) → GoesOn (hopOf net ss r) k (hopsOf net ss route) fs → someFrame (heldIn ss) route fs ≡ false
+  on-unheld : (r k : ℕ) (route fs : List ℕ) → GoesOn (hopOf net ss r) k (hopsOf net ss route) fs → anyOf (heldIn ss) (slotsAt route fs) ≡ false
   on-unheld r k [] fs o = refl
   on-unheld r k (l ∷ route) [] o = refl
   on-unheld r k (l ∷ route) (i ∷ fs) o =
       let a = tests.and-both (mayHold (hopOf net ss l) (holdInto (hopOf net ss r) (hopOf net ss l) k i)) (isFree (hopOf net ss l) i) (o .1) in
-      neither-or (heldIn ss l i) (someFrame (heldIn ss) route fs) (free-unheld net ss l i (a .1)) (on-unheld l i route fs (o .2))
+      neither-or (heldIn ss (slot l i)) (anyOf (heldIn ss) (slotsAt route fs)) (free-unheld net ss l i (a .1)) (on-unheld l i route fs (o .2))
 
-  pub schedule-unheld : (route fs : List ℕ) → IsSchedule (hopsOf net ss route) fs → someFrame (heldIn ss) route fs ≡ false
+  pub schedule-unheld : (route fs : List ℕ) → IsSchedule (hopsOf net ss route) fs → anyOf (heldIn ss) (slotsAt route fs) ≡ false
   schedule-unheld [] fs s = refl
   schedule-unheld (l ∷ route) [] s = refl
   schedule-unheld (l ∷ route) (k ∷ fs) s =
-      neither-or (heldIn ss l k) (someFrame (heldIn ss) route fs) (free-unheld net ss l k (s .1)) (on-unheld l k route fs (s .2))
+      neither-or (heldIn ss (slot l k)) (anyOf (heldIn ss) (slotsAt route fs)) (free-unheld net ss l k (s .1)) (on-unheld l k route fs (s .2))
+
+  -- what it holds: its nodes can be told from that over the unclosed frames, and no session of the list holds a frame of it
+  pub over-nodes : (route : List ℕ) (d : ℕ) (w : List ℕ) → IsSchedule (hopsOf net ss route) w
+      → nodesIn (hopsOf net [] route) (heldOver (hopsOf net ss route) d w) ≡ w
+  over-nodes route d w s =
+      ap (nodesIn (hopsOf net [] route)) (held-free net ss route d w) ∙ nodes-held (hopsOf net [] route) d w (schedule-unclosed route w s)
+
+  pub over-unheld : (route : List ℕ) (d : ℕ) (w : List ℕ) → IsSchedule (hopsOf net ss route) w
+      → anyOf (heldIn ss) (slotsAt route (heldOver (hopsOf net ss route) d w .frames)) ≡ false
+  over-unheld route d w s = rw (frames-over (hopsOf net ss route) d w) (schedule-unheld route w s)

@@ -1,15 +1,15 @@
 -- What lookup shows, and the numbers of the live sessions, each once. Assumes nothing.
 use mathlib.Core.Path.{_≡_, refl, sym, ap, subst, _∙_}
 use mathlib.Core.Logic.{_⊎_, inl, inr}
-use mathlib.Core.Bool.{Bool, true, false, cond}
+use mathlib.Core.Bool.{Bool, true, false, not, cond}
 use mathlib.Core.List.{List, [], _∷_, map, List·Memᴰ, List·Memᴰ·head, List·Memᴰ·tail, List·Memᴰ·cases-cons, List·Memᴰ·not-nil, Memᴰ·map, Memᴰ·of-map}
 use Prim.Native.Nat.{ℕ}
 use lib.Dec.{eqb}
-use borrow.Author.Tests.{eq-eqb, eqb-true}
+use borrow.Author.Tests.{eq-eqb, eqb-true, not-false}
 use Rattle.lists.specs.Once.{EachOnce}
 use Rattle.lists.proofs.Count as tests
 use Rattle.refusals.specs.Refusals.{given, refused}
-use Rattle.refusals.proofs.Refusals.{not-given}
+use Rattle.refusals.proofs.Refusals.{not-given, past}
 use Rattle.ledger.specs.Lists.{anyOf, anyTwo}
 use Rattle.ledger.specs.Sessions.{Session, View, isLive}
 use Rattle.ledger.specs.Sound.{sameNumber, numberTwice, intact}
@@ -21,6 +21,11 @@ use Rattle.ledger.proofs.Intact.{intact-is}
 pub lookup-intact : (v : View) (n : ℕ) → intact v ≡ true → lookup v n ≡ lookIn n (v .live)
 unfolding lookup
 lookup-intact v n e = rw e
+
+-- lookup gives a session of a state that isn't broken alone
+pub lookup-given : (v : View) (n : ℕ) (s : Session) → lookup v n ≡ given s → (intact v ≡ true) × (lookIn n (v .live) ≡ given s)
+unfolding lookup
+lookup-given v n s h = let a = past (not (intact v)) 0 (lookIn n (v .live)) s h in (not-false (intact v) (a .0), a .1)
 
 -- what lookup gives is a session of the list with that number
 pub looked-up : (n : ℕ) (ss : List Session) (s : Session) → lookIn n ss ≡ given s → List·Memᴰ s ss × (s .number ≡ n)
@@ -83,5 +88,5 @@ live-numbers v e =
 
     number-of : (n : ℕ) (s : Session) → lookup v n ≡ given s → List·Memᴰ n (numbersOf (v .live))
     number-of n s h =
-        let w = looked-up n (v .live) s (sym (lookup-intact v n e) ∙ h) in
+        let w = looked-up n (v .live) s (lookup-given v n s h .1) in
         subst (λ (k : ℕ). List·Memᴰ k (numbersOf (v .live))) (w .1) (Memᴰ·map (λ u. u .number) (w .0))

@@ -6,30 +6,30 @@ use Prim.Native.Nat.{ℕ, _+_, _<_}
 use native.Mathlib.Omega.{arith}
 use lib.ListN.{length, getD, length-map}
 use Rattle.refusals.specs.Refusals.{given}
-use Rattle.ledger.specs.Sessions.{Session, View, holds}
-use Rattle.ledger.specs.Sound.{shareFrame, frameTwice, intact}
-use Rattle.ledger.specs.Calls.{Call, Reply, effect, apply, reply, next, lookup}
-use Rattle.ledger.specs.Ledger.{Step, did, effectOf, ledgerFrom, ledger, acceptedSetUp, acceptedRelease, countSteps}
-use Rattle.ledger.specs.Demand.{fresh, HoldsFrame, NamedAndKept, LiveNumbers, Right, Runs, over, then, Demand3Holds, Stepped, EveryListStepped}
+use Rattle.ledger.specs.Sessions.{Session, View, Slot, holds}
+use Rattle.ledger.specs.Sound.{shareSlot, frameTwice, intact}
+use Rattle.ledger.specs.Calls.{Call, Reply, liveAfter, left, reply, next, lookup}
+use Rattle.ledger.specs.Ledger.{Step, did, effectOf, ledgerFrom, ledger, isRefusal, acceptedSetUp, acceptedRelease, countSteps}
+use Rattle.ledger.specs.Demand.{fresh, HoldsSlot, NamedAndKept, LiveNumbers, Right, Runs, over, then, Demand3Holds, Stepped, EveryListStepped}
 use Rattle.ledger.proofs.Lists.{anyTwo-at}
 use Rattle.ledger.proofs.Intact.{intact-is, fresh-intact}
-use Rattle.ledger.proofs.Answered.{reply-intact}
+use Rattle.ledger.proofs.Answered.{answerOn, reply-intact}
 use Rattle.ledger.proofs.Kept.{next-intact}
 use Rattle.ledger.proofs.Entries.{Entered, entry-entered, entered-entry}
-use Rattle.ledger.proofs.Shown.{lookup-intact, looked-up, shown, not-shown, numbersOf, live-numbers}
+use Rattle.ledger.proofs.Shown.{lookup-intact, lookup-given, looked-up, shown, not-shown, numbersOf, live-numbers}
 use Rattle.ledger.proofs.Holders.{not-shared, one-holder}
 use Rattle.ledger.proofs.Refused.{answer-right}
-use Rattle.ledger.proofs.Balance.{strikes-live, balance-step}
+use Rattle.ledger.proofs.Balance.{released-live, balance-step}
 
 -- ---- the calls of a list one after the other
 -- the sessions that they leave are the ledger
 pub runs-live : {v last : View} {steps : List Step} → Runs v steps last → last .live ≡ ledgerFrom (v .live) steps
-unfolding next
+unfolding next left
 runs-live over = refl
 runs-live (then call rest) = runs-live rest
 
 pub runs-network : {v last : View} {steps : List Step} → Runs v steps last → last .network ≡ v .network
-unfolding next
+unfolding next left
 runs-network over = refl
 runs-network (then call rest) = runs-network rest
 
@@ -42,7 +42,7 @@ reply-right v call i = rw (reply-intact v call i) (answer-right (v .network) (v 
 
 runs-right : (before : List Step) {v last : View} {steps : List Step} (call : Call) (r : Reply) (later : List Step) → intact v ≡ true → Runs v steps last
     → steps ≡ before ++ (did call r ∷ later) → Right (v .network) (ledgerFrom (v .live) before) call r
-unfolding next
+unfolding next left
 runs-right [] call r later i over e = absurd (nil≢cons e)
 runs-right [] {v} call r later i (then c rest) e =
     let d : did c (reply v c) ≡ did call r = head-eq-of-cons-eq e in
@@ -51,16 +51,16 @@ runs-right [] {v} call r later i (then c rest) e =
     subst (λ (x : Reply). Right (v .network) (v .live) call x) q (subst (λ (x : Call). Right (v .network) (v .live) x (reply v c)) p (reply-right v c i))
 runs-right (s ∷ before) call r later i over e = absurd (nil≢cons e)
 runs-right (s ∷ before) {v} call r later i (then c rest) e =
-    subst (λ (x : Step). Right (v .network) (ledgerFrom (apply (v .live) (effectOf x)) before) call r) (head-eq-of-cons-eq e)
+    subst (λ (x : Step). Right (v .network) (ledgerFrom (liveAfter (v .live) (effectOf x)) before) call r) (head-eq-of-cons-eq e)
     (runs-right before call r later (next-intact v c i) rest (tail-eq-of-cons-eq e))
 
 runs-balance : {v last : View} {steps : List Step} → intact v ≡ true → Runs v steps last
     → countSteps acceptedSetUp steps + length (v .live) ≡ length (last .live) + countSteps acceptedRelease steps
-unfolding next
+unfolding next left
 runs-balance i over = omega arith
 runs-balance {v} {last} i (then {steps = steps} call rest) =
-    balance-step (v .live) (effect call (reply v call)) (intact-is v i .numbers)
-    (λ n e. strikes-live (v .network) (v .live) call n (ap (effect call) (sym (reply-intact v call i)) ∙ e))
+    balance-step (v .live) call (reply v call) (intact-is v i .numbers)
+    (λ n p h. released-live (v .network) (v .live) n (ap isRefusal (ap (answerOn (v .network) (v .live)) (sym p) ∙ sym (reply-intact v call i)) ∙ h))
     (countSteps acceptedSetUp steps) (countSteps acceptedRelease steps) (length (last .live)) (runs-balance (next-intact v call i) rest)
 
 -- EVERY LIST OF CALLS HAS ITS STEPS: demand 3 speaks of each
@@ -79,49 +79,39 @@ every-list v (call ∷ calls) =
 module _ (v : View) (steps : List Step) (i : intact v ≡ true) (led : v .live ≡ ledger steps) where
   -- a live session stands in the list, under its number
   live-session : (n : ℕ) (s : Session) → lookup v n ≡ given s → List·Memᴰ s (v .live) × (s .number ≡ n)
-  live-session n s e = looked-up n (v .live) s (sym (lookup-intact v n i) ∙ e)
+  live-session n s e = looked-up n (v .live) s (lookup-given v n s e .1)
 
   entry-shown : (s : Session) → List·Memᴰ s (ledger steps) → lookup v (s .number) ≡ given s
   entry-shown s m =
       lookup-intact v (s .number) i ∙ shown (v .live) s (intact-is v i .numbers) (subst (λ (ss : List Session). List·Memᴰ s ss) (sym led) m)
 
-  held-named : (l k n : ℕ) → HoldsFrame v n l k → NamedAndKept steps l k
-  held-named l k n h =
+  held-named : (x : Slot) (n : ℕ) → HoldsSlot v n x → NamedAndKept steps x
+  held-named x n h =
       let s : Session = h .session in
       let m : List·Memᴰ s (v .live) = live-session n s (h .shown) .0 in
       let e : Entered steps s = entry-entered steps s (subst (λ (ss : List Session). List·Memᴰ s ss) led m) in
-      record {
-        number = s .number;
-        route = s .route;
-        held = s .held;
-        count = e .count;
-        before = e .before;
-        later = e .later;
-        accepted = e .accepted;
-        named = h .named;
-        kept = e .kept;
-      }
+      record { entry = s; count = e .count; before = e .before; later = e .later; accepted = e .accepted; named = h .named; kept = e .kept }
 
-  named-held : (l k : ℕ) → NamedAndKept steps l k → (n : ℕ) × HoldsFrame v n l k
-  named-held l k w =
-      let s : Session = record { number = w .number; route = w .route; held = w .held } in
+  named-held : (x : Slot) → NamedAndKept steps x → (n : ℕ) × HoldsSlot v n x
+  named-held x w =
+      let s : Session = w .entry in
       let m : List·Memᴰ s (ledger steps) =
       subst (λ (done : List Step). List·Memᴰ s (ledger done)) (sym (w .accepted)) (entered-entry (w .before) (w .later) [] s (w .count) (w .kept)) in
-      (w .number, record { session = s; shown = entry-shown s m; named = w .named })
+      (s .number, record { session = s; shown = entry-shown s m; named = w .named })
 
-  held-once : (l k n m : ℕ) → HoldsFrame v n l k → HoldsFrame v m l k → n ≡ m
-  held-once l k n m p q =
+  held-once : (x : Slot) (n m : ℕ) → HoldsSlot v n x → HoldsSlot v m x → n ≡ m
+  held-once x n m p q =
       let a = live-session n (p .session) (p .shown) in
       let b = live-session m (q .session) (q .shown) in
-      let same : p .session ≡ q .session = one-holder (v .live) (p .session) (q .session) l k (intact-is v i .frames) (a .0) (b .0) (p .named) (q .named) in
+      let same : p .session ≡ q .session = one-holder (v .live) (p .session) (q .session) x (intact-is v i .frames) (a .0) (b .0) (p .named) (q .named) in
       sym (a .1) ∙ ap (λ (s : Session). s .number) same ∙ b .1
 
-  entry-once : (l k j m : ℕ) (d : Session) → j < m → m < length (ledger steps)
-      → holds l k (getD (ledger steps) j d) ≡ true → holds l k (getD (ledger steps) m d) ≡ true → ⊥
+  entry-once : (x : Slot) (j k : ℕ) (d : Session) → j < k → k < length (ledger steps)
+      → holds x (getD (ledger steps) j d) ≡ true → holds x (getD (ledger steps) k d) ≡ true → ⊥
   unfolding frameTwice
-  entry-once l k j m d a b p q =
+  entry-once x j k d a b p q =
       let apart : frameTwice (ledger steps) ≡ false = subst (λ (ss : List Session). frameTwice ss ≡ false) led (intact-is v i .frames) in
-      not-shared (getD (ledger steps) j d) (getD (ledger steps) m d) l k (anyTwo-at shareFrame (ledger steps) j m d apart a b) p q
+      not-shared (getD (ledger steps) j d) (getD (ledger steps) k d) x (anyTwo-at shareSlot (ledger steps) j k d apart a b) p q
 
 -- DEMAND 3, FOR EVERY LIST OF CALLS
 pub demand3 : Demand3Holds
@@ -130,7 +120,7 @@ demand3 net p steps v runs =
     let i : intact v ≡ true = runs-intact begun runs in
     let led : v .live ≡ ledger steps = runs-live runs in
     record {
-      held = λ l k. (λ w. held-named v steps i led l k (w .0) (w .1), λ w. named-held v steps i led l k w);
+      held = λ x. (λ w. held-named v steps i led x (w .0) (w .1), λ w. named-held v steps i led x w);
       oneHolder = held-once v steps i led;
       numbers = numbersOf (ledger steps);
       live = subst (λ (ss : List Session). LiveNumbers v (numbersOf ss)) led (live-numbers v i);

@@ -1,0 +1,54 @@
+-- What a schedule holds, field by field: the one file of proofs that goes by its fields and by what a node is. Assumes nothing.
+use mathlib.Core.Path.{_≡_, refl, ap, ap₂}
+use mathlib.Core.Bool.{Bool, true, _&&_}
+use mathlib.Core.List.{List}
+use Prim.Native.Nat.{ℕ}
+use lib.Dec.{eqb}
+use borrow.Author.Tests.{eq-eqb, eqb-true}
+use Rattle.lists.proofs.Count as tests
+use Rattle.forwarding.specs.declared.Hop.{Hop}
+use Rattle.ledger.specs.Lists.{sameList}
+use Rattle.ledger.specs.Held.{Holding, heldOver, nodesIn, sameHeld, NodesHeld}
+use Rattle.ledger.specs.Sessions.{HeldFree}
+use Rattle.ledger.proofs.Lists.{same-list, list-same}
+
+-- WHAT A SCHEDULE HOLDS TELLS ITS NODES
+pub nodes-held : NodesHeld
+unfolding heldOver nodesIn
+nodes-held hops delay nodes s = refl
+
+-- WHAT A SCHEDULE HOLDS DOES NOT GO BY WHICH FRAMES ARE FREE
+pub held-free : HeldFree
+unfolding heldOver
+held-free net ss route delay nodes = refl
+
+-- ---- the fields of what a schedule holds: its frames, which its nodes are, and its delay
+pub frames-over : (hops : List Hop) (delay : ℕ) (nodes : List ℕ) → heldOver hops delay nodes .frames ≡ nodes
+unfolding heldOver
+frames-over hops delay nodes = refl
+
+pub delay-over : (hops : List Hop) (delay : ℕ) (nodes : List ℕ) → heldOver hops delay nodes .delay ≡ delay
+unfolding heldOver
+delay-over hops delay nodes = refl
+
+-- ---- the test whether two hold the same
+pub same-is : (a b : Holding) → sameHeld a b ≡ true → a ≡ b
+unfolding sameHeld
+same-is a b e =
+    let both = tests.and-both (sameList eqb (a .frames) (b .frames)) (eqb (a .delay) (b .delay)) e in
+    ap₂ (λ (fs : List ℕ) (d : ℕ). record { frames = fs; delay = d }) (same-list eqb eqb-true (a .frames) (b .frames) (both .0))
+    (eqb-true (a .delay) (b .delay) (both .1))
+
+pub is-same : (a b : Holding) → a ≡ b → sameHeld a b ≡ true
+is-same a b e = rw e (itself b)
+  where
+    itself : (h : Holding) → sameHeld h h ≡ true
+    itself h =
+        unfold sameHeld in
+        tests.both-and (sameList eqb (h .frames) (h .frames)) (eqb (h .delay) (h .delay))
+        (list-same eqb (λ x. eq-eqb x x refl) (h .frames)) (eq-eqb (h .delay) (h .delay) refl)
+
+-- what is held is what its own nodes hold exactly when the delay is the same
+pub same-held : (hops : List Hop) (held : Holding) (delay : ℕ) → sameHeld held (heldOver hops delay (nodesIn hops held)) ≡ eqb (held .delay) delay
+unfolding heldOver nodesIn sameHeld
+same-held hops held delay = ap (λ (b : Bool). b && eqb (held .delay) delay) (list-same eqb (λ x. eq-eqb x x refl) (held .frames))
