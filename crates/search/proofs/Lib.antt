@@ -6,4 +6,4 @@ pub mod Nearest
 pub mod Recovering
 pub mod Sweeping
 pub mod Ending
-pub mod Results
+pub mod Findings

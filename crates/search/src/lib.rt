@@ -14,18 +14,19 @@ ghost use Rattle.trellis.proofs.Survivor.{better, bestOf, lastOffer};
 ghost use Rattle.words.specs.Word.{bitOf};
 ghost use Rattle.forwarding.specs.Hops.{Ready};
 ghost use Rattle.forwarding.specs.Route.{stage};
-ghost use Rattle.search.specs.Reading.{Answered};
+ghost use Rattle.search.specs.Reading.{Finds};
 ghost use Rattle.search.specs.Inner.{cellReach, rows, wayOf, Sized, taken, Offered, stageBy, Leaving, Visited, Entering, Advanced, FirstRow, Sweeps, Swept, endOffers, chainOf, ChainFits};
 
-// What a search found: a schedule, with its delay and the count of transitions considered; or that there is none, with the count.
+// What a search found: a schedule, with its delay; or that there is none.
 pub enum Found {
-    Schedule(Delay, u32),
-    Blocked(u32),
+    Schedule(Delay),
+    Blocked,
 }
 
-// The enum, and beside it the schedule's frames, hop 0 first; unused places hold 0.
-pub struct Answer {
+// The enum, and beside it the count of transitions considered and the schedule's frames, hop 0 first; unused places hold 0.
+pub struct Finding {
     pub found: Found,
+    pub count: u32,
     pub frames: [u8; 8],
 }
 
@@ -285,9 +286,9 @@ fn recover(preds: &[u8; 512], j: usize, f: u8, frames: &mut [u8; 8])
 
 // The least-delay schedule over hops 0 to n - 1, for a cycle of t ticks.
 // Checks 3, 7, 8 and 12 of document 01 have shown what is required. Form: the search counts as it goes.
-pub fn search(t: u16, hops: [Hop; 8], n: usize) -> Answer
+pub fn search(t: u16, hops: [Hop; 8], n: usize) -> Finding
     requires { ⌜ Ready t hops n ⌝ }
-    ensures { λ r. ⌜ Answered t hops n r ⌝ }
+    ensures { λ r. ⌜ Finds t hops n r ⌝ }
 {
     let last = n - 1;
     let start = hops[0];
@@ -301,14 +302,16 @@ pub fn search(t: u16, hops: [Hop; 8], n: usize) -> Answer
     let least = end.cell;
     let mut frames = [0u8; 8];
     if least == 0 {
-        return Answer {
-            found: Found::Blocked(count),
+        return Finding {
+            found: Found::Blocked,
+            count,
             frames,
         };
     }
     recover(&preds, last, end.frame, &mut frames);
-    Answer {
-        found: Found::Schedule(Delay(least - 1), count),
+    Finding {
+        found: Found::Schedule(Delay(least - 1)),
+        count,
         frames,
     }
 }
