@@ -1,9 +1,13 @@
 -- Each text as the pieces that are put for it. Assumes nothing.
 use mathlib.Core.Path.{_≡_, refl}
 use mathlib.Core.List.{List, [], _∷_, _++_, append-nil}
-use Prim.Native.Nat.{ℕ}
+use Prim.Native.Nat.{ℕ, _≤_}
+use native.Mathlib.Omega.{arith}
+use lib.ListN.{length, take}
 use borrow.Author.Tests.{eq-eqb, ne-eqb}
-use Rattle.ledger.specs.Sessions.{Held}
+use Rattle.places.proofs.Firsts.{firsts-take}
+use Rattle.forwarding.specs.declared.Held.{Held}
+use Rattle.ledger.specs.Held.{Holding, holdingOf}
 use Rattle.ledger.specs.Calls.{schedule, freed, refusal}
 use Rattle.text.specs.Digits.{dec, spaced, spacedAll}
 use Rattle.text.specs.Lines.{countText, scheduleText, lineHead, line, liveLine, networkLine}
@@ -17,9 +21,14 @@ pub head-is : (place letter : ℕ) → lineHead place letter ≡ joined (dec pla
 unfolding lineHead joined
 head-is place letter = refl
 
-pub schedule-is : (delay count : ℕ) (frames : List ℕ) → scheduleText delay count frames ≡ joined (spaced delay ∷ spaced count ∷ spacedAll frames ∷ [])
+pub schedule-is : (held : Holding) (count : ℕ) → scheduleText held count ≡ joined (spaced (held .delay) ∷ spaced count ∷ spacedAll (held .frames) ∷ [])
 unfolding scheduleText joined
-schedule-is delay count frames = rw (append-nil (spacedAll frames))
+schedule-is held count = rw (append-nil (spacedAll (held .frames)))
+
+-- from eight places, of which the first `hops` are put
+pub stored-is : (hops : ℕ) (held : Held) (count : ℕ) → hops ≤ 8 → length (held .frames) ≡ 8
+    → scheduleText (holdingOf hops held) count ≡ joined (spaced (held .delay .0) ∷ spaced count ∷ spacedAll (take hops (held .frames)) ∷ [])
+stored-is hops held count h l = rw (← firsts-take hops (held .frames) 0 (omega (arith, l))) (schedule-is (holdingOf hops held) count)
 
 pub refusal-is : (number count : ℕ) → spaced number ++ countText number count ≡ joined (spaced number ∷ countText number count ∷ [])
 unfolding joined
@@ -35,7 +44,7 @@ unfolding countText
 count-some number count h = rw (eq-eqb number 18 h)
 
 -- ---- the lines
-pub served-is : (place letter : ℕ) (held : Held) (count : ℕ) → line place letter (schedule held count) ≡ joined (lineHead place letter ∷ (32 ∷ 111 ∷ 107 ∷ []) ∷ scheduleText (held .delay) count (held .frames) ∷ (10 ∷ []) ∷ [])
+pub served-is : (place letter : ℕ) (held : Holding) (count : ℕ) → line place letter (schedule held count) ≡ joined (lineHead place letter ∷ (32 ∷ 111 ∷ 107 ∷ []) ∷ scheduleText held count ∷ (10 ∷ []) ∷ [])
 unfolding line joined
 served-is place letter held count = refl
 

@@ -9,6 +9,7 @@ use native.Mathlib.Omega.{arith}
 use borrow.Author.Tests.{ltb-true, ltb-false}
 use lib.ListN.{length, getD, length-append}
 use lib.Dec.{ltb}
+use Rattle.ledger.specs.Held.{Holding}
 use Rattle.ledger.specs.Calls.{schedule, freed, refusal}
 use Rattle.text.specs.Digits.{dec, spaced, spacedAll}
 use Rattle.text.specs.Lines.{countText, scheduleText, lineHead, line, liveLine, networkLine, ServedLong, FreedLong, RefusedLong, BlockedLong, LiveLong, NetworkLong}
@@ -62,19 +63,19 @@ head-long place letter h =
     let l : length (dec place) ≤ 5 = dec-long 4 place h in
     omega (arith, long-of (lineHead place letter) (dec place ∷ (32 ∷ []) ∷ (letter ∷ []) ∷ []) (head-is place letter))
 
-schedule-long : (delay count : ℕ) (frames : List ℕ) → delay < 10000 → count < 100000 → ((i : ℕ) → getD frames i 0 < 100) → length (scheduleText delay count frames) ≤ 11 + 3 * length frames
-schedule-long delay count frames d c f =
-    let m : length (spaced delay) ≤ 5 = spaced-long 3 delay d in
+schedule-long : (held : Holding) (count : ℕ) → held .delay < 10000 → count < 100000 → ((i : ℕ) → getD (held .frames) i 0 < 100) → length (scheduleText held count) ≤ 11 + 3 * length (held .frames)
+schedule-long held count d c f =
+    let m : length (spaced (held .delay)) ≤ 5 = spaced-long 3 (held .delay) d in
     let n : length (spaced count) ≤ 6 = spaced-long 4 count c in
-    omega (arith, long-of (scheduleText delay count frames) (spaced delay ∷ spaced count ∷ spacedAll frames ∷ []) (schedule-is delay count frames), frames-long frames f)
+    omega (arith, long-of (scheduleText held count) (spaced (held .delay) ∷ spaced count ∷ spacedAll (held .frames) ∷ []) (schedule-is held count), frames-long (held .frames) f)
 
 -- ---- the lines
 pub served-long : ServedLong
-served-long place letter delay count frames p d c f = omega (
+served-long place letter held count p d c f = omega (
   arith,
-  long-of (line place letter (schedule record { frames = frames; delay = delay } count)) (lineHead place letter ∷ (32 ∷ 111 ∷ 107 ∷ []) ∷ scheduleText delay count frames ∷ (10 ∷ []) ∷ []) (served-is place letter record { frames = frames; delay = delay } count),
+  long-of (line place letter (schedule held count)) (lineHead place letter ∷ (32 ∷ 111 ∷ 107 ∷ []) ∷ scheduleText held count ∷ (10 ∷ []) ∷ []) (served-is place letter held count),
   head-long place letter p,
-  schedule-long delay count frames d c f,
+  schedule-long held count d c f,
 )
 
 pub freed-long : FreedLong

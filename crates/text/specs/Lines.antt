@@ -5,6 +5,7 @@ use mathlib.Core.List.{List, [], _∷_, _++_}
 use Prim.Native.Nat.{ℕ, _+_, _*_, _<_, _≤_}
 use lib.ListN.{length, getD}
 use lib.Dec.{eqb}
+use Rattle.ledger.specs.Held.{Holding}
 use Rattle.ledger.specs.Calls.{Call, SetUp, Quote, Release, Reply, schedule, freed, refusal}
 use Rattle.text.specs.Digits.{dec, spaced, spacedAll}
 
@@ -19,12 +20,12 @@ unfoldable pub countText : ℕ → ℕ → List ℕ
 countText number count = cond (eqb number 18) (spaced count) []
 
 -- "ok with delay, count and frames"
-unfoldable pub scheduleText : ℕ → ℕ → List ℕ → List ℕ
-scheduleText delay count frames = spaced delay ++ (spaced count ++ spacedAll frames)
+unfoldable pub scheduleText : Holding → ℕ → List ℕ
+scheduleText held count = spaced (held .delay) ++ (spaced count ++ spacedAll (held .frames))
 
 -- "then ok with delay, count and frames (ok alone for R), or no with the refusal, for 18 also the count"
 abbrev pub replyText : Reply → List ℕ
-replyText (schedule held count) = (32 ∷ 111 ∷ 107 ∷ []) ++ scheduleText (held .delay) count (held .frames)
+replyText (schedule held count) = (32 ∷ 111 ∷ 107 ∷ []) ++ scheduleText held count
 replyText freed = 32 ∷ 111 ∷ 107 ∷ []
 replyText (refusal number count) = (32 ∷ 110 ∷ 111 ∷ []) ++ (spaced number ++ countText number count)
 
@@ -47,8 +48,8 @@ networkLine n = (110 ∷ 101 ∷ 116 ∷ 32 ∷ 110 ∷ 111 ∷ []) ++ (spaced n
 -- ---- how long a line is at most, for a place of at most five digits
 -- a schedule: a delay of four digits, a count of five and frames of two
 abbrev pub ServedLong : Type 0
-ServedLong = (place letter delay count : ℕ) (frames : List ℕ) → place < 100000 → delay < 10000 → count < 100000 → ((i : ℕ) → getD frames i 0 < 100)
-    → length (line place letter (schedule record { frames = frames; delay = delay } count)) ≤ 22 + 3 * length frames
+ServedLong = (place letter : ℕ) (held : Holding) (count : ℕ) → place < 100000 → held .delay < 10000 → count < 100000 → ((i : ℕ) → getD (held .frames) i 0 < 100)
+    → length (line place letter (schedule held count)) ≤ 22 + 3 * length (held .frames)
 
 -- a release
 abbrev pub FreedLong : Type 0

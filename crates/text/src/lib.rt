@@ -1,9 +1,11 @@
 // The text of the program frames, put into a buffer that the caller lends: its callers know the room. Each function answers the place after what
 // it put, and leaves every other byte.
+use forwarding::Held;
 ghost use mathlib.Core.Path.{_≡_};
 ghost use mathlib.Core.List.{[], _∷_, _++_};
 ghost use Prim.Native.Nat.{_+_, _≤_};
 ghost use lib.ListN.{length};
+ghost use Rattle.ledger.specs.Held.{holdingOf};
 ghost use Rattle.ledger.specs.Calls.{schedule, freed, refusal};
 ghost use Rattle.text.specs.Digits.{dec, spaced, spacedAll, Puts};
 ghost use Rattle.text.specs.Lines.{countText, scheduleText, lineHead, line, liveLine, networkLine};
@@ -78,14 +80,16 @@ fn put_head(out: &mut [u8], at: usize, place: u32, letter: u8) -> usize
     put_byte(out, q, letter)
 }
 
-// Delay, count and frames of a schedule.
-fn put_schedule(out: &mut [u8], at: usize, delay: u16, count: u32, frames: &[u8]) -> usize
-    requires { ⌜ at + length (scheduleText delay count (now frames)) ≤ length (now out) ⌝ }
-    ensures { λ r. ⌜ Puts at (scheduleText delay count (now (frames .entry))) (now (out .entry)) (now (out .exit)) r ⌝ }
+// Delay, count and frames of a schedule. Check 12: a route has at most 8 hops.
+fn put_schedule(out: &mut [u8], at: usize, count: u32, held: Held, hops: usize) -> usize
+    requires { ⌜ (hops ≤ 8) × (at + length (scheduleText (holdingOf hops held) count) ≤ length (now out)) ⌝ }
+    ensures { λ r. ⌜ Puts at (scheduleText (holdingOf hops held) count) (now (out .entry)) (now (out .exit)) r ⌝ }
 {
-    let p = put_spaced(out, at, delay as u32);
+    let frames = held.frames;
+    let delay = held.delay.0 as u32;
+    let p = put_spaced(out, at, delay);
     let q = put_spaced(out, p, count);
-    put_all(out, q, frames)
+    put_all(out, q, &frames[..hops])
 }
 
 // The count of a refusal, which only 18 has.
@@ -99,22 +103,22 @@ fn put_count(out: &mut [u8], at: usize, number: u8, count: u32) -> usize
     put_spaced(out, at, count)
 }
 
-// The line of a call that was answered by a schedule.
+// The line of a call that was answered by a schedule. Check 12: a route has at most 8 hops.
 pub fn put_served(
     out: &mut [u8],
     at: usize,
     place: u32,
     letter: u8,
-    delay: u16,
     count: u32,
-    frames: &[u8],
+    held: Held,
+    hops: usize,
 ) -> usize
-    requires { ⌜ at + length (line place letter (schedule record { frames = now frames; delay = delay } count)) ≤ length (now out) ⌝ }
-    ensures { λ r. ⌜ Puts at (line place letter (schedule record { frames = now (frames .entry); delay = delay } count)) (now (out .entry)) (now (out .exit)) r ⌝ }
+    requires { ⌜ (hops ≤ 8) × (at + length (line place letter (schedule (holdingOf hops held) count)) ≤ length (now out)) ⌝ }
+    ensures { λ r. ⌜ Puts at (line place letter (schedule (holdingOf hops held) count)) (now (out .entry)) (now (out .exit)) r ⌝ }
 {
     let p = put_head(out, at, place, letter);
     let q = put_bytes(out, p, b" ok");
-    let r = put_schedule(out, q, delay, count, frames);
+    let r = put_schedule(out, q, count, held, hops);
     put_byte(out, r, 10)
 }
 

@@ -1,5 +1,6 @@
 -- `text::put_served` meets its contract. Assumes nothing.
 use borrow.Author.Needs.{needs}
+use Rattle.ledger.specs.Held.{holdingOf}
 use Rattle.text.proofs.Chains.{none-yet, piece-fits, piece-put, all-put}
 use Rattle.text.proofs.Lines.{served-is}
 use Rattle.text.proofs.put_served.Statement.{statement}
@@ -7,34 +8,34 @@ use Rattle.text.proofs.put_served.Tie as tie
 
 put-head-requires : tie.Need-put-head-requires
 put-head-requires c κs =
-    let s = c .before .before .before in
-    piece-fits (none-yet (s .args .out .now) (served-is (s .args .place) (s .args .letter) record { frames = s .args .frames .now; delay = s .args .delay } (s .args .count)) (s .pre))
+    let s = c .before .before in
+    piece-fits (none-yet (s .args .out .now) (served-is (s .args .place) (s .args .letter) (holdingOf (s .args .hops) (s .args .held)) (s .args .count)) (s .pre .1))
 
 slice-aggregate-put-bytes : tie.Need-slice-aggregate-put-bytes
 slice-aggregate-put-bytes c = search needs
 
 put-bytes-requires : tie.Need-put-bytes-requires
 put-bytes-requires c κs =
-    let s = c .before .before .before .before .before .before .before .before in
-    piece-fits (piece-put (none-yet (s .args .out .now) (served-is (s .args .place) (s .args .letter) record { frames = s .args .frames .now; delay = s .args .delay } (s .args .count)) (s .pre)) (c .before .before .before .before .put-head .ensures))
+    let s = c .before .before .before .before .before .before .before in
+    piece-fits (piece-put (none-yet (s .args .out .now) (served-is (s .args .place) (s .args .letter) (holdingOf (s .args .hops) (s .args .held)) (s .args .count)) (s .pre .1)) (c .before .before .before .before .put-head .ensures))
 
 put-schedule-requires : tie.Need-put-schedule-requires
 put-schedule-requires c κs =
-    let s = c .before .before .before .before .before .before .before .before .before .before .before .before in
-    piece-fits (piece-put (piece-put (none-yet (s .args .out .now) (served-is (s .args .place) (s .args .letter) record { frames = s .args .frames .now; delay = s .args .delay } (s .args .count)) (s .pre)) (c .before .before .before .before .before .before .before .before .put-head .ensures)) (c .before .before .before .put-bytes .ensures))
+    let s = c .before .before .before .before .before .before .before .before .before .before .before in
+    (s .pre .0, piece-fits (piece-put (piece-put (none-yet (s .args .out .now) (served-is (s .args .place) (s .args .letter) (holdingOf (s .args .hops) (s .args .held)) (s .args .count)) (s .pre .1)) (c .before .before .before .before .before .before .before .before .put-head .ensures)) (c .before .before .before .put-bytes .ensures)))
 
 put-byte-requires : tie.Need-put-byte-requires
 put-byte-requires c κs =
-    let s = c .before .before .before .before .before .before .before .before .before .before .before .before .before .before .before .before in
-    piece-fits (piece-put (piece-put (piece-put (none-yet (s .args .out .now) (served-is (s .args .place) (s .args .letter) record { frames = s .args .frames .now; delay = s .args .delay } (s .args .count)) (s .pre)) (c .before .before .before .before .before .before .before .before .before .before .before .before .put-head .ensures)) (c .before .before .before .before .before .before .before .put-bytes .ensures)) (c .before .before .before .put-schedule .ensures))
+    let s = c .before .before .before .before .before .before .before .before .before .before .before .before .before .before .before in
+    piece-fits (piece-put (piece-put (piece-put (none-yet (s .args .out .now) (served-is (s .args .place) (s .args .letter) (holdingOf (s .args .hops) (s .args .held)) (s .args .count)) (s .pre .1)) (c .before .before .before .before .before .before .before .before .before .before .before .before .put-head .ensures)) (c .before .before .before .before .before .before .before .put-bytes .ensures)) (c .before .before .before .put-schedule .ensures))
 
 same-length : tie.Need-same-length
 same-length c = search needs
 
 returns : tie.Need-returns
 returns c =
-    let s = c .before .before .before .before .before .before .before .before .before .before .before .before .before .before .before .before .before .before .before in
-    all-put (piece-put (piece-put (piece-put (piece-put (none-yet (s .args .out .now) (served-is (s .args .place) (s .args .letter) record { frames = s .args .frames .now; delay = s .args .delay } (s .args .count)) (s .pre)) (c .before .before .before .before .before .before .before .before .before .before .before .before .before .before .before .put-head .ensures)) (c .before .before .before .before .before .before .before .before .before .before .put-bytes .ensures)) (c .before .before .before .before .before .before .put-schedule .ensures)) (c .before .before .put-byte .ensures))
+    let s = c .before .before .before .before .before .before .before .before .before .before .before .before .before .before .before .before .before .before in
+    all-put (piece-put (piece-put (piece-put (piece-put (none-yet (s .args .out .now) (served-is (s .args .place) (s .args .letter) (holdingOf (s .args .hops) (s .args .held)) (s .args .count)) (s .pre .1)) (c .before .before .before .before .before .before .before .before .before .before .before .before .before .before .before .put-head .ensures)) (c .before .before .before .before .before .before .before .before .before .before .put-bytes .ensures)) (c .before .before .before .before .before .before .put-schedule .ensures)) (c .before .before .put-byte .ensures))
 
 pub put-served-spec : {M : Type 1} → statement M
 put-served-spec =
