@@ -23,7 +23,8 @@ use Rattle.network.proofs.Checks.{GoodLink, network-good}
 use Rattle.forwarding.specs.declared.Hop.{Hop}
 use Rattle.forwarding.specs.Hops.{noHop, HopReady}
 use Rattle.ledger.specs.Lists.{anyOf}
-use Rattle.ledger.specs.Sessions.{Session, HeldWords, heldIn, linkAt, freeOf, hopOf, hopsOf}
+use Rattle.ledger.specs.Sessions.{Session, slot, heldIn, linkAt, freeOf, hopOf, hopsOf}
+use Rattle.ledger.specs.Inner.{HeldWords}
 use Rattle.ledger.specs.Routes.{unknown, unknownLink}
 use Rattle.routes.specs.Hops.{hopFrom, hopsFrom, RouteReady}
 use Rattle.routes.proofs.Tests.{known-passed}

@@ -1,25 +1,29 @@
 // The live sessions as they are stored: a table of 96 places, the first of them used, in the order of set-up.
-// Check 0 guarantees each `requires`: at most 96 sessions are live, and the routes and frames of each are within their link's and frame's numbers.
+// What gives each `requires`: check 0, that at most 96 sessions are live (`place_of`, `without`, `number_twice`) and that the links and frames of each are
+// within the arrays (`held_words`, `frame_twice`); check 17, that a place is left (`with_place`); check 12, that a route has at most 8 links (`in_eight`), and
+// check 0 of a stored one (`cleared`).
 use forwarding::Delay;
+use forwarding::Held;
 ghost use mathlib.Core.Path.{_≡_};
 ghost use mathlib.Core.List.{[], _∷_, _++_};
 ghost use Prim.Native.Nat.{_<_, _≤_};
 ghost use lib.ListN.{length, getD};
 ghost use Rattle.places.specs.Places.{firsts};
-ghost use Rattle.words.specs.Word.{bitOf};
-ghost use Rattle.ledger.specs.Lists.{keep};
-ghost use Rattle.ledger.specs.Sessions.{HeldWords};
-ghost use Rattle.ledger.specs.Sound.{numberTwice, someFrame, frameTwice};
+ghost use Rattle.ledger.specs.Lists.{anyOf, keep};
+ghost use Rattle.ledger.specs.Held.{noHolding, holdingOf, heldPlaces};
+ghost use Rattle.ledger.specs.Sessions.{slotsAt, slotsOf};
+ghost use Rattle.ledger.specs.Inner.{HeldWords};
+ghost use Rattle.ledger.specs.Sound.{numberTwice, frameTwice};
 ghost use Rattle.ledger.specs.Calls.{otherThan};
-ghost use Rattle.table.specs.Table.{sessionOf, liveOf, placeOf, PlaceWithin, AllWithin, Marked};
+ghost use Rattle.table.specs.Table.{sessionOf, liveOf, placeOf};
+ghost use Rattle.table.specs.Inner.{Within, PlaceWithin, AllWithin, Marked, markedIn};
 
-// A session as it is stored ("Calls on sessions"): its number, how many hops it has, their links and frames, hop 0 first, and its delay.
+// A session as it is stored ("Calls on sessions"): its number, how many hops it has, their links, hop 0 first, and what it holds.
 pub struct Place {
     pub number: u16,
     pub hops: usize,
     pub route: [u8; 8],
-    pub frames: [u8; 8],
-    pub delay: Delay,
+    pub held: Held,
 }
 
 // The live sessions: how many, and their places.
@@ -78,20 +82,28 @@ pub fn without(table: Table, number: u16) -> Table
     next
 }
 
-// Marks the frames of a session in the words of held frames.
-fn mark_place(words: &mut [u64; 32], place: Place)
-    requires { ⌜ (length (now words) ≡ 32) × PlaceWithin place ⌝ }
-    ensures { λ r. ⌜ Marked place (now (words .entry)) (now (words .exit)) ⌝ }
+// Marks a frame of each of so many links in the words of held frames.
+fn mark(words: &mut [u64; 32], hops: usize, route: [u8; 8], frames: [u8; 8])
+    requires { ⌜ (length (now words) ≡ 32) × Within hops route frames ⌝ }
+    ensures { λ r. ⌜ Marked (slotsAt (firsts hops route 0) (firsts hops frames 0)) (now (words .entry)) (now (words .exit)) ⌝ }
 {
-    let hops = place.hops;
-    let route = place.route;
-    let frames = place.frames;
     let mut j: usize = 0;
     while j < hops {
         let link = route[j] as usize;
         words[link] = words::set_bit(words[link], frames[j] as u16);
         j += 1;
     }
+}
+
+// Marks what a session holds.
+fn mark_place(words: &mut [u64; 32], place: Place)
+    requires { ⌜ (length (now words) ≡ 32) × PlaceWithin place ⌝ }
+    ensures { λ r. ⌜ Marked (slotsOf (sessionOf place)) (now (words .entry)) (now (words .exit)) ⌝ }
+{
+    let route = place.route;
+    let held = place.held;
+    let frames = held.frames;
+    mark(words, place.hops, route, frames);
 }
 
 // The words of held frames of all links.
@@ -110,23 +122,31 @@ pub fn held_words(table: Table) -> [u64; 32]
     words
 }
 
-// Whether some frame of a session is marked.
-fn meets(words: &[u64; 32], place: Place) -> bool
-    requires { ⌜ PlaceWithin place ⌝ }
-    ensures { λ r. ⌜ r ≡ someFrame (λ l i. bitOf (getD (now (words .entry)) l 0) i) (firsts (place .hops) (place .route) 0) (firsts (place .hops) (place .frames) 0) ⌝ }
+// Whether a frame of one of so many links is marked.
+fn meets_any(words: &[u64; 32], hops: usize, route: [u8; 8], frames: [u8; 8]) -> bool
+    requires { ⌜ Within hops route frames ⌝ }
+    ensures { λ r. ⌜ r ≡ anyOf (markedIn (now (words .entry))) (slotsAt (firsts hops route 0) (firsts hops frames 0)) ⌝ }
 {
-    let hops = place.hops;
-    let links = place.route;
-    let held = place.frames;
     let mut j: usize = 0;
     while j < hops {
-        let l = links[j] as usize;
-        if words::has_bit(words[l], held[j] as u16) {
+        let link = route[j] as usize;
+        if words::has_bit(words[link], frames[j] as u16) {
             return true;
         }
         j += 1;
     }
     false
+}
+
+// Whether some of what a session holds is marked.
+fn meets(words: &[u64; 32], place: Place) -> bool
+    requires { ⌜ PlaceWithin place ⌝ }
+    ensures { λ r. ⌜ r ≡ anyOf (markedIn (now (words .entry))) (slotsOf (sessionOf place)) ⌝ }
+{
+    let route = place.route;
+    let held = place.held;
+    let frames = held.frames;
+    meets_any(words, place.hops, route, frames)
 }
 
 // Whether two sessions hold one frame.
@@ -169,21 +189,7 @@ pub fn number_twice(table: Table) -> bool
     false
 }
 
-// The first n of eight places, the others 0. Check 12: a route has at most 8 links.
-pub fn cleared(places: [u8; 8], n: usize) -> [u8; 8]
-    requires { ⌜ n ≤ 8 ⌝ }
-    ensures { λ r. ⌜ r ≡ firsts 8 (firsts n places 0) 0 ⌝ }
-{
-    let mut out = [0u8; 8];
-    let mut j: usize = 0;
-    while j < n {
-        out[j] = places[j];
-        j += 1;
-    }
-    out
-}
-
-// A route in eight places, the others 0. Check 12: it has at most 8 links.
+// A route in eight places, the others 0.
 pub fn in_eight(route: &[u8]) -> [u8; 8]
     requires { ⌜ length (now route) ≤ 8 ⌝ }
     ensures { λ r. ⌜ r ≡ firsts 8 (now (route .entry)) 0 ⌝ }
@@ -195,4 +201,25 @@ pub fn in_eight(route: &[u8]) -> [u8; 8]
         j += 1;
     }
     out
+}
+
+// What the first n places hold, the others 0.
+pub fn cleared(held: Held, n: usize) -> Held
+    requires { ⌜ n ≤ 8 ⌝ }
+    ensures { λ r. ⌜ r ≡ heldPlaces (holdingOf n held) ⌝ }
+{
+    let all = held.frames;
+    let frames = in_eight(&all[..n]);
+    let delay = held.delay;
+    Held { frames, delay }
+}
+
+// What a refused call holds.
+pub fn nothing_held() -> Held
+    ensures { λ r. ⌜ r ≡ heldPlaces noHolding ⌝ }
+{
+    Held {
+        frames: [0u8; 8],
+        delay: Delay(0),
+    }
 }
