@@ -1,26 +1,26 @@
 // The calls on sessions (document 01, "Calls on sessions"), for every state and every argument: check 0 comes first, and what a call refuses
-// it leaves as it was. The inner arrangement of the stored sessions, in the order of set-up, is the one result that the rules leave free.
-use forwarding::Delay;
+// it leaves as it was. The stored sessions stand in the order of set-up. What the rules leave free is what stands in the places of the table past the live
+// sessions and in the places of a stored session past its hops; no answer goes by it (`ArrangementFree`).
+use forwarding::Held;
+use network::Link;
 use network::Network;
 use refusals::Refusal;
 use refusals::Verdict;
-use state::Counted;
 use state::Released;
 use state::Served;
-use state::Shown;
 use state::State;
 use table::Place;
 use table::Table;
 ghost use mathlib.Core.Path.{_≡_};
 ghost use mathlib.Core.Bool.{false};
 ghost use mathlib.Core.List.{[]};
-ghost use Prim.Native.Nat.{ℕ};
-ghost use lib.ListN.{length};
+ghost use Prim.Native.Nat.{_≤_};
+ghost use Rattle.refusals.specs.Refusals.{ruling};
 ghost use Rattle.ledger.specs.Sound.{intact};
 ghost use Rattle.ledger.specs.Calls.{Call, SetUp, Quote};
-ghost use Rattle.table.specs.Table.{liveOf};
+ghost use Rattle.table.specs.Table.{sessionOf, liveOf};
 ghost use Rattle.state.specs.State.{viewOf, Serves, Releases};
-ghost use Rattle.sessions.specs.Calls.{Begins, Looks, Tallies};
+ghost use Rattle.sessions.specs.Calls.{shutNetwork, begunOn, Begins, shownOf, notShown, Looks, notCounted, Tallies};
 
 // What `begin` answers: the verdict of the network's checks, and a state that holds no sessions.
 pub struct Begun {
@@ -28,10 +28,24 @@ pub struct Begun {
     pub state: State,
 }
 
-// What a lookup answers, and the state, which is the same.
+// What a lookup shows: the session's hops, their links, hop 0 first, and what it holds; unused places hold 0.
+pub struct Shown {
+    pub verdict: Verdict,
+    pub hops: usize,
+    pub route: [u8; 8],
+    pub held: Held,
+}
+
+// What a lookup answers: what it shows, and the state, which is the same.
 pub struct Looked {
     pub shown: Shown,
     pub state: State,
+}
+
+// The number of free frames of a link, 0 where it is refused.
+pub struct Counted {
+    pub verdict: Verdict,
+    pub count: u32,
 }
 
 // The number of free frames of a link, and the state, which is the same.
@@ -44,12 +58,12 @@ pub struct Tallied {
 fn no_sessions() -> Table
     ensures { λ r. ⌜ liveOf r ≡ [] ⌝ }
 {
+    let held = table::nothing_held();
     let none = Place {
         number: 0,
         hops: 0,
         route: [0u8; 8],
-        frames: [0u8; 8],
-        delay: Delay(0),
+        held,
     };
     Table {
         live: 0,
@@ -57,21 +71,49 @@ fn no_sessions() -> Table
     }
 }
 
-// The state of a fresh network: its checks, and no sessions. A state on a network that was refused is broken.
+// A network that passes its checks and on which nothing can be held: one link of one frame, which is closed.
+fn shut_network() -> Network
+    ensures { λ r. ⌜ r ≡ shutNetwork ⌝ }
+{
+    let link = Link {
+        frames: 1,
+        range: 1,
+        closed: 1,
+    };
+    Network {
+        ticks: 1,
+        count: 1,
+        links: [link; 32],
+    }
+}
+
+// The network that a state may be begun on: the one given, or where its checks refused it one on which nothing can be held.
+fn passed_network(network: Network, verdict: Verdict) -> Network
+    ensures { λ r. ⌜ r ≡ begunOn (ruling verdict) network ⌝ }
+{
+    match verdict {
+        Verdict::Refused(_) => shut_network(),
+        Verdict::Passed => network,
+    }
+}
+
+// The state of a fresh network: its checks, and no sessions. Where the network is refused, the state is one that can hold nothing, so that no caller who
+// built no state by hand meets 0.
 pub fn begin(network: Network) -> Begun
     ensures { λ r. ⌜ Begins network r ⌝ }
 {
     let verdict = network::check_network(network);
-    let table = no_sessions();
-    Begun {
-        verdict,
-        state: State { network, table },
-    }
+    let on = passed_network(network, verdict);
+    let state = State {
+        network: on,
+        table: no_sessions(),
+    };
+    Begun { verdict, state }
 }
 
 // A set-up or a quote on a broken state: refused with 0, and the state is the same.
 fn not_served(st: State) -> Served
-    ensures { λ r. ⌜ ((call : Call) (n : ℕ) → intact (viewOf st) ≡ false → Serves st call n r) ⌝ }
+    ensures { λ r. ⌜ ((call : Call) → intact (viewOf st) ≡ false → Serves st call r) ⌝ }
 {
     Served {
         answer: state::refused(Refusal::BrokenState),
@@ -82,7 +124,7 @@ fn not_served(st: State) -> Served
 // Set-up: holds the frames of the least-delay schedule over the route for a session of this number. Refuses with 0, 12 to 17, or 18 with
 // the count.
 pub fn set_up(st: State, number: u16, route: &[u8]) -> Served
-    ensures { λ r. ⌜ Serves st (SetUp number (now (route .entry))) (length (now (route .entry))) r ⌝ }
+    ensures { λ r. ⌜ Serves st (SetUp number (now (route .entry))) r ⌝ }
 {
     if state_check::broken(st) {
         return not_served(st);
@@ -92,7 +134,7 @@ pub fn set_up(st: State, number: u16, route: &[u8]) -> Served
 
 // Quote: the same answer, nothing held. Refuses with 0, 12 to 15, or 18 with the count.
 pub fn quote(st: State, route: &[u8]) -> Served
-    ensures { λ r. ⌜ Serves st (Quote (now (route .entry))) (length (now (route .entry))) r ⌝ }
+    ensures { λ r. ⌜ Serves st (Quote (now (route .entry))) r ⌝ }
 {
     if state_check::broken(st) {
         return not_served(st);
@@ -116,19 +158,68 @@ pub fn release(st: State, number: u16) -> Released
     state::release(st, number)
 }
 
+// A lookup that is refused.
+fn not_shown(refusal: Refusal) -> Shown
+    ensures { λ r. ⌜ r ≡ notShown refusal ⌝ }
+{
+    let held = table::nothing_held();
+    Shown {
+        verdict: Verdict::Refused(refusal),
+        hops: 0,
+        route: [0u8; 8],
+        held,
+    }
+}
+
+// What a lookup shows of a stored session, the places not in use cleared. Check 0: it has at most 8 hops.
+fn shown(place: Place) -> Shown
+    requires { ⌜ place .hops ≤ 8 ⌝ }
+    ensures { λ r. ⌜ r ≡ shownOf (sessionOf place) ⌝ }
+{
+    let hops = place.hops;
+    let links = place.route;
+    let route = table::in_eight(&links[..hops]);
+    let held = table::cleared(place.held, hops);
+    Shown {
+        verdict: Verdict::Passed,
+        hops,
+        route,
+        held,
+    }
+}
+
 // Lookup: the route, frames and delay of the live session with the number. Refuses with 0 or 19.
 pub fn lookup(st: State, number: u16) -> Looked
     ensures { λ r. ⌜ Looks st number r ⌝ }
 {
     if state_check::broken(st) {
         return Looked {
-            shown: state::not_shown(Refusal::BrokenState),
+            shown: not_shown(Refusal::BrokenState),
             state: st,
         };
     }
+    let table = st.table;
+    let at = table::place_of(table, number);
+    if table.live <= at {
+        return Looked {
+            shown: not_shown(Refusal::NumberNotLive),
+            state: st,
+        };
+    }
+    let place = table.places[at];
     Looked {
-        shown: state::lookup(st, number),
+        shown: shown(place),
         state: st,
+    }
+}
+
+// A count of free frames that is refused.
+fn not_counted(refusal: Refusal) -> Counted
+    ensures { λ r. ⌜ r ≡ notCounted refusal ⌝ }
+{
+    Counted {
+        verdict: Verdict::Refused(refusal),
+        count: 0,
     }
 }
 
@@ -138,12 +229,23 @@ pub fn free_frames(st: State, link: u8) -> Tallied
 {
     if state_check::broken(st) {
         return Tallied {
-            counted: state::not_counted(Refusal::BrokenState),
+            counted: not_counted(Refusal::BrokenState),
             state: st,
         };
     }
-    Tallied {
-        counted: state::free_frames(st, link),
-        state: st,
+    let network = st.network;
+    let at = places::index(link);
+    if network.count <= at {
+        return Tallied {
+            counted: not_counted(Refusal::UnknownLink),
+            state: st,
+        };
     }
+    let held = table::held_words(st.table);
+    let of = network.links[at];
+    let counted = Counted {
+        verdict: Verdict::Passed,
+        count: words::free_frames(of.frames, of.closed, held[at]),
+    };
+    Tallied { counted, state: st }
 }

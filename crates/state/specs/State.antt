@@ -1,95 +1,71 @@
 -- The stored state, what it shows, and what the program's answers say in the words of the rules. Assumes nothing.
 use mathlib.Core.Path.{_≡_}
 use mathlib.Core.Bool.{true}
-use mathlib.Core.List.{List, []}
 use Prim.Native.Nat.{ℕ}
-use lib.ListN.{length, take}
-use Rattle.trellis.specs.Answer.{nodesOf}
-use Rattle.places.specs.Places.{firsts}
-use Rattle.refusals.specs.Refusals.{refusalNumber, refusalCount, Outcome, givenOr, rulingOf, ruling}
+use Rattle.refusals.specs.Refusals.{refusalNumber, refusalCount}
+use Rattle.refusals.specs.declared.Refusal.{Refusal}
 use Rattle.refusals.specs.declared.Verdict.{Verdict}
-use Rattle.refusals.specs.declared.Verdict.the-variants as verdict
-use Rattle.network.specs.Network.{Topology, topologyOf}
-use Rattle.forwarding.specs.Route.{routeAnswer}
-use Rattle.search.specs.Reading.{reading}
-use Rattle.search.specs.declared.Answer as search
-use Rattle.ledger.specs.Sessions.{Session, View, hopsOf}
+use Rattle.refusals.specs.declared.Verdict.the-variants.{Passed, Refused}
+use Rattle.network.specs.Network.{topologyOf}
+use Rattle.ledger.specs.Held.{Holding, noHolding, holdingOf, heldPlaces}
+use Rattle.ledger.specs.Sessions.{View}
 use Rattle.ledger.specs.Sound.{intact}
-use Rattle.ledger.specs.Calls.{Call, Release, schedule, freed, refusal, leaves, effect, next}
-use Rattle.ledger.specs.Calls as rules
+use Rattle.ledger.specs.Calls.{Call, Release, Reply, schedule, freed, refusal, reply, leaves, effect, next}
 use Rattle.table.specs.Table.{liveOf}
 use Rattle.state.specs.declared.State.{State}
-use Rattle.state.specs.declared.Reply.{Reply}
-use Rattle.state.specs.declared.Reply.the-variants.{Schedule, Refused}
-use Rattle.state.specs.declared.Answer.{Answer}
+use Rattle.state.specs.declared.Quoted.{Quoted}
 use Rattle.state.specs.declared.Served.{Served}
 use Rattle.state.specs.declared.Released.{Released}
-use Rattle.state.specs.declared.Shown.{Shown}
-use Rattle.state.specs.declared.Counted.{Counted}
 
 -- what a stored state shows: unused places are no part of it, and a number above its places shows in it
 abbrev pub viewOf : State → View
 viewOf st = record { network = topologyOf (st .network); live = liveOf (st .table) }
 
--- document 01's number and values for each answer of a set-up or a quote over n links
-abbrev pub replyIn : ℕ → Reply → List ℕ → rules.Reply
-replyIn n (Schedule delay count) frames = schedule record { frames = take n frames; delay = delay .0 } count
-replyIn n (Refused r) frames = refusal (refusalNumber r) (refusalCount r)
+-- ---- the answers
+-- the answer that gives a schedule, and a refused one: "In an answer, unused hop and link places hold 0"
+abbrev pub quotedOf : Holding → ℕ → Quoted
+quotedOf held count = record { verdict = Passed; count = count; held = heldPlaces held }
 
--- the frames of an answer; a refusal has none
-abbrev pub framesOf : rules.Reply → List ℕ
-framesOf (schedule held count) = held .frames
-framesOf freed = []
-framesOf (refusal number count) = []
+abbrev pub notQuoted : Refusal → Quoted
+notQuoted r = record { verdict = Refused r; count = 0; held = heldPlaces noHolding }
 
--- the program's answer over n links is the rule's
-pub record Answers (n : ℕ) (a : rules.Reply) (r : Answer) : Type 0 where
-  pub reply : replyIn n (r .reply) (r .frames) ≡ a
-  -- "In an answer, unused hop and link places hold 0"
-  pub places : r .frames ≡ firsts 8 (framesOf a) 0
+-- the program's answer to a set-up or a quote is the rule's; no such call answers that frames are freed
+abbrev pub Quotes : Reply → Quoted → Type 0
+Quotes (schedule held count) q = q ≡ quotedOf held count
+Quotes freed q = ⊥
+Quotes (refusal number count) q = (r : Refusal) × (refusalNumber r ≡ number) × (refusalCount r ≡ count) × (q ≡ notQuoted r)
 
--- a search's result over the frames left free by the sessions ss is the answer of "Least-delay schedule"
-pub record Searched (net : Topology) (ss : List Session) (route : List ℕ) (r : search.Answer) : Type 0 where
-  pub answer : reading (length route) (r .found) (r .frames) ≡ routeAnswer (net .ticks) (hopsOf net ss route)
-  pub places : r .frames ≡ firsts 8 (nodesOf (routeAnswer (net .ticks) (hopsOf net ss route))) 0
+-- document 01's number and values for each case: a refusal's, or what is answered where there is none
+abbrev pub replyAs : Verdict → Reply → Reply
+replyAs Passed answer = answer
+replyAs (Refused r) answer = refusal (refusalNumber r) (refusalCount r)
 
--- what a call leaves: the view of the rules, and the very same state where the call changes no session (a refusal or a quote)
+-- of a set-up or a quote over n links, and of a release
+abbrev pub quotedIn : ℕ → Quoted → Reply
+quotedIn n q = replyAs (q .verdict) (schedule (holdingOf n (q .held)) (q .count))
+
+abbrev pub releasedIn : Verdict → Reply
+releasedIn v = replyAs v freed
+
+-- ---- the state after a call
+-- what a call leaves: the view of the rules on the very same stored network, and the very same state where the call changes no session (a refusal or a
+-- quote). After an accepted call the places of the table past its live sessions, and the places of a stored session past its hops, are free: the view has
+-- none of them, and `ArrangementFree` (`sessions/specs/Stored`) says what holds whatever stands there
 pub record Leaves (st : State) (call : Call) (after : State) : Type 0 where
   pub view : viewOf after ≡ next (viewOf st) call
-  pub same : effect call (rules.reply (viewOf st) call) ≡ leaves → after ≡ st
+  pub network : after .network ≡ st .network
+  pub same : effect call (reply (viewOf st) call) ≡ leaves → after ≡ st
 
 -- A CALL ON A STATE THAT ISN'T BROKEN LEAVES ONE THAT ISN'T BROKEN: "0 can only meet a caller that builds a state by hand"
 abbrev pub LeftIntact : Type 0
 LeftIntact = (st : State) (call : Call) (after : State) → Leaves st call after → intact (viewOf st) ≡ true → intact (viewOf after) ≡ true
 
--- a set-up or a quote, over n links
-pub record Serves (st : State) (call : Call) (n : ℕ) (r : Served) : Type 0 where
-  pub answer : Answers n (rules.reply (viewOf st) call) (r .answer)
+-- a set-up or a quote
+pub record Serves (st : State) (call : Call) (r : Served) : Type 0 where
+  pub answer : Quotes (reply (viewOf st) call) (r .answer)
   pub after : Leaves st call (r .state)
-
--- document 01's number for each answer of a release
-abbrev pub releasedIn : Verdict → rules.Reply
-releasedIn verdict.Passed = freed
-releasedIn (verdict.Refused r) = refusal (refusalNumber r) (refusalCount r)
 
 -- a release
 pub record Releases (st : State) (n : ℕ) (r : Released) : Type 0 where
-  pub answer : releasedIn (r .verdict) ≡ rules.reply (viewOf st) (Release n)
+  pub answer : releasedIn (r .verdict) ≡ reply (viewOf st) (Release n)
   pub after : Leaves st (Release n) (r .state)
-
--- what stands for the session of a lookup that is refused
-abbrev pub noSession : Session
-noSession = record { number = 0; route = []; held = record { frames = []; delay = 0 } }
-
--- a lookup: the rule's verdict, and the session's route, frames and delay, "unused hop and link places hold 0"
-pub record Shows (o : Outcome Session) (r : Shown) : Type 0 where
-  pub verdict : ruling (r .verdict) ≡ rulingOf o
-  pub hops : r .hops ≡ length (givenOr noSession o .route)
-  pub route : r .route ≡ firsts 8 (givenOr noSession o .route) 0
-  pub frames : r .frames ≡ firsts 8 (givenOr noSession o .held .frames) 0
-  pub delay : r .delay .0 ≡ givenOr noSession o .held .delay
-
--- the free frames of a link: the rule's verdict, and their number, 0 where it refuses
-pub record Counts (o : Outcome ℕ) (r : Counted) : Type 0 where
-  pub verdict : ruling (r .verdict) ≡ rulingOf o
-  pub count : r .count ≡ givenOr 0 o

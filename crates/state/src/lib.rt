@@ -1,29 +1,31 @@
-// The stored state, and the calls on a state that isn't broken: check 0 has passed, which is what each call's `requires` asks.
-// The crate `sessions` offers the same calls on every state.
-use forwarding::Delay;
+// The stored state, and the calls of the program on a state that isn't broken: check 0 has passed, which is what each call's `requires` asks.
+// The crate `sessions` offers these calls on every state, and those that the program doesn't make.
+use forwarding::Held;
 use network::Network;
 use refusals::Refusal;
 use refusals::Verdict;
+use search::Finding;
 use search::Found;
 use table::Place;
 use table::Table;
 ghost use mathlib.Core.Path.{_≡_};
 ghost use mathlib.Core.Bool.{true};
-ghost use Prim.Native.Nat.{ℕ, _≤_};
+ghost use mathlib.Core.List.{[], _∷_, _++_};
+ghost use Prim.Native.Nat.{_<_, _≤_};
 ghost use lib.Dec.{leb};
 ghost use lib.ListN.{length};
-ghost use Rattle.refusals.specs.Refusals.{refusalNumber, refusalCount, given, pass, ruling};
-ghost use Rattle.refusals.specs.Refusals as outcome;
+ghost use Rattle.refusals.specs.Refusals.{given, pass, ruling};
 ghost use Rattle.network.specs.Network.{topologyOf};
 ghost use Rattle.network.specs.Checks.{networkCheck};
-ghost use Rattle.search.specs.Reading.{reading};
+ghost use Rattle.ledger.specs.Held.{holdingOf};
 ghost use Rattle.ledger.specs.Sessions.{isLive};
 ghost use Rattle.ledger.specs.Routes.{routeCheck};
 ghost use Rattle.ledger.specs.Sound.{intact};
-ghost use Rattle.ledger.specs.Calls.{SetUp, Quote, replyOf, callCheck, reply, freeCount};
-ghost use Rattle.ledger.specs.Calls as rules;
-ghost use Rattle.table.specs.Table.{liveOf, AllWithin};
-ghost use Rattle.state.specs.State.{viewOf, Searched, replyIn, Answers, Serves, Releases, Shows, Counts};
+ghost use Rattle.ledger.specs.Calls.{SetUp, Quote, callCheck, reply};
+ghost use Rattle.table.specs.Table.{liveOf};
+ghost use Rattle.table.specs.Inner.{AllWithin};
+ghost use Rattle.state.specs.State.{viewOf, notQuoted, Quotes, Serves, Releases};
+ghost use Rattle.state.specs.Inner.{Searched};
 
 // The stored state: a network and its live sessions.
 pub struct State {
@@ -31,21 +33,17 @@ pub struct State {
     pub table: Table,
 }
 
-// What a set-up or a quote answers: a schedule with its delay and the count of transitions considered, or a refusal.
-pub enum Reply {
-    Schedule(Delay, u32),
-    Refused(Refusal),
-}
-
-// The answer, and beside it the schedule's frames, hop 0 first; unused places hold 0.
-pub struct Answer {
-    pub reply: Reply,
-    pub frames: [u8; 8],
+// What a quote answers, and a set-up: the count of transitions considered, and what the schedule holds. A refused one has count 0 and holds nothing; the
+// count of 18 stands in the refusal.
+pub struct Quoted {
+    pub verdict: Verdict,
+    pub count: u32,
+    pub held: Held,
 }
 
 // An answer and the state after the call.
 pub struct Served {
-    pub answer: Answer,
+    pub answer: Quoted,
     pub state: State,
 }
 
@@ -55,33 +53,20 @@ pub struct Released {
     pub state: State,
 }
 
-// What a lookup answers: the session's hops, their links and frames, hop 0 first, and its delay; unused places hold 0.
-pub struct Shown {
-    pub verdict: Verdict,
-    pub hops: usize,
-    pub route: [u8; 8],
-    pub frames: [u8; 8],
-    pub delay: Delay,
-}
-
-// The number of free frames of a link, 0 where it is refused.
-pub struct Counted {
-    pub verdict: Verdict,
-    pub count: u32,
-}
-
 // A refused answer.
-pub fn refused(refusal: Refusal) -> Answer
-    ensures { λ r. ⌜ ((n : ℕ) → Answers n (rules.refusal (refusalNumber refusal) (refusalCount refusal)) r) ⌝ }
+pub fn refused(refusal: Refusal) -> Quoted
+    ensures { λ r. ⌜ r ≡ notQuoted refusal ⌝ }
 {
-    Answer {
-        reply: Reply::Refused(refusal),
-        frames: [0u8; 8],
+    let held = table::nothing_held();
+    Quoted {
+        verdict: Verdict::Refused(refusal),
+        count: 0,
+        held,
     }
 }
 
 // The least-delay schedule of a route that passed its checks, over the frames now free.
-fn least(network: Network, table: Table, route: &[u8]) -> search::Answer
+fn least(network: Network, table: Table, route: &[u8]) -> Finding
     requires { ⌜ (networkCheck (topologyOf network) ≡ given pass) × (routeCheck (topologyOf network) (now route) ≡ given pass) × AllWithin table ⌝ }
     ensures { λ r. ⌜ Searched (topologyOf network) (liveOf table) (now (route .entry)) r ⌝ }
 {
@@ -90,34 +75,27 @@ fn least(network: Network, table: Table, route: &[u8]) -> search::Answer
     search::search(network.ticks, hops, route.len())
 }
 
-// The answer that a search's result gives: 18 where no schedule exists.
-fn answer_of(found: search::Answer) -> Answer
-    ensures { λ r. ⌜ ((n : ℕ) → replyIn n (r .reply) (r .frames) ≡ replyOf (reading n (found .found) (found .frames))) × (r .frames ≡ found .frames) ⌝ }
-{
-    let frames = found.frames;
-    let result = found.found;
-    match result {
-        Found::Schedule(delay, count) => Answer {
-            reply: Reply::Schedule(delay, count),
-            frames,
-        },
-        Found::Blocked(count) => Answer {
-            reply: Reply::Refused(Refusal::NoSchedule(count)),
-            frames,
-        },
-    }
-}
-
 // Quote: the least-delay schedule over the route in the frames now free.
-pub fn quote(st: State, route: &[u8]) -> Answer
+pub fn quote(st: State, route: &[u8]) -> Quoted
     requires { ⌜ intact (viewOf st) ≡ true ⌝ }
-    ensures { λ r. ⌜ Answers (length (now (route .entry))) (reply (viewOf st) (Quote (now (route .entry)))) r ⌝ }
+    ensures { λ r. ⌜ Quotes (reply (viewOf st) (Quote (now (route .entry)))) r ⌝ }
 {
     match routes::check_route(st.network, route) {
         Verdict::Refused(refusal) => return refused(refusal),
         Verdict::Passed => {}
     }
-    answer_of(least(st.network, st.table, route))
+    let finding = least(st.network, st.table, route);
+    let found = finding.found;
+    let Found::Schedule(delay) = found else {
+        return refused(Refusal::NoSchedule(finding.count));
+    };
+    let frames = finding.frames;
+    let held = Held { frames, delay };
+    Quoted {
+        verdict: Verdict::Passed,
+        count: finding.count,
+        held,
+    }
 }
 
 // Whether the number is live.
@@ -155,11 +133,25 @@ fn check_set_up(network: Network, table: Table, number: u16, route: &[u8]) -> Ve
     Verdict::Passed
 }
 
+// The table with a session of this number over the route, after the others. Check 17: a place is left; check 12: the route has at most 8 links.
+fn with_session(table: Table, number: u16, route: &[u8], held: Held) -> Table
+    requires { ⌜ (table .live < 96) × (length (now route) ≤ 8) ⌝ }
+    ensures { λ r. ⌜ liveOf r ≡ liveOf table ++ (record { number = number; route = now (route .entry); held = holdingOf (length (now (route .entry))) held } ∷ []) ⌝ }
+{
+    let place = Place {
+        number,
+        hops: route.len(),
+        route: table::in_eight(route),
+        held,
+    };
+    table::with_place(table, place)
+}
+
 // Set-up: holds the frames of the least-delay schedule over the route, or refuses and leaves all as it was.
 // Form: the search's enum is taken apart by `let .. else`, and its refusal passed on before anything is held.
 pub fn set_up(st: State, number: u16, route: &[u8]) -> Served
     requires { ⌜ intact (viewOf st) ≡ true ⌝ }
-    ensures { λ r. ⌜ Serves st (SetUp number (now (route .entry))) (length (now (route .entry))) r ⌝ }
+    ensures { λ r. ⌜ Serves st (SetUp number (now (route .entry))) r ⌝ }
 {
     let network = st.network;
     let table = st.table;
@@ -170,23 +162,24 @@ pub fn set_up(st: State, number: u16, route: &[u8]) -> Served
         },
         Verdict::Passed => {}
     }
-    let found = least(network, table, route);
-    let answer = answer_of(found);
-    let result = found.found;
-    let Found::Schedule(delay, _) = result else {
-        return Served { answer, state: st };
+    let finding = least(network, table, route);
+    let found = finding.found;
+    let Found::Schedule(delay) = found else {
+        return Served {
+            answer: refused(Refusal::NoSchedule(finding.count)),
+            state: st,
+        };
     };
-    let frames = found.frames;
-    let place = Place {
-        number,
-        hops: route.len(),
-        route: table::in_eight(route),
-        frames,
-        delay,
-    };
+    let frames = finding.frames;
+    let held = Held { frames, delay };
     let after = State {
         network,
-        table: table::with_place(table, place),
+        table: with_session(table, number, route, held),
+    };
+    let answer = Quoted {
+        verdict: Verdict::Passed,
+        count: finding.count,
+        held,
     };
     Served {
         answer,
@@ -214,72 +207,5 @@ pub fn release(st: State, number: u16) -> Released
     Released {
         verdict: Verdict::Passed,
         state: after,
-    }
-}
-
-// A lookup that is refused.
-pub fn not_shown(refusal: Refusal) -> Shown
-    ensures { λ r. ⌜ Shows (outcome.refused (refusalNumber refusal)) r ⌝ }
-{
-    Shown {
-        verdict: Verdict::Refused(refusal),
-        hops: 0,
-        route: [0u8; 8],
-        frames: [0u8; 8],
-        delay: Delay(0),
-    }
-}
-
-// Lookup: the route, frames and delay of the live session with the number.
-pub fn lookup(st: State, number: u16) -> Shown
-    requires { ⌜ intact (viewOf st) ≡ true ⌝ }
-    ensures { λ r. ⌜ Shows (rules.lookup (viewOf st) number) r ⌝ }
-{
-    let table = st.table;
-    let at = table::place_of(table, number);
-    if table.live <= at {
-        return not_shown(Refusal::NumberNotLive);
-    }
-    let place = table.places[at];
-    let hops = place.hops;
-    let links = place.route;
-    let held = place.frames;
-    let route = table::cleared(links, hops);
-    let frames = table::cleared(held, hops);
-    let delay = place.delay;
-    Shown {
-        verdict: Verdict::Passed,
-        hops,
-        route,
-        frames,
-        delay,
-    }
-}
-
-// A count of free frames that is refused.
-pub fn not_counted(refusal: Refusal) -> Counted
-    ensures { λ r. ⌜ Counts (outcome.refused (refusalNumber refusal)) r ⌝ }
-{
-    Counted {
-        verdict: Verdict::Refused(refusal),
-        count: 0,
-    }
-}
-
-// Free frames of a link: how many of its frames are neither closed nor held.
-pub fn free_frames(st: State, link: u8) -> Counted
-    requires { ⌜ intact (viewOf st) ≡ true ⌝ }
-    ensures { λ r. ⌜ Counts (freeCount (viewOf st) link) r ⌝ }
-{
-    let network = st.network;
-    let at = link as usize;
-    if network.count <= at {
-        return not_counted(Refusal::UnknownLink);
-    }
-    let held = table::held_words(st.table);
-    let of = network.links[at];
-    Counted {
-        verdict: Verdict::Passed,
-        count: words::free_frames(of.frames, of.closed, held[at]),
     }
 }

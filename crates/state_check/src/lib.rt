@@ -16,7 +16,7 @@ ghost use Rattle.ledger.specs.Sound.{goodSession, intact};
 ghost use Rattle.table.specs.Table.{sessionOf, liveOf};
 ghost use Rattle.state.specs.State.{viewOf};
 
-// Whether a session's route passes 12 to 15, its frames are a schedule over unclosed frames, and its delay is theirs.
+// Whether a session's route passes 12 to 15, its frames are a schedule over unclosed frames, and what it holds is what that schedule holds.
 fn good_session(network: Network, place: Place) -> bool
     requires { ⌜ networkCheck (topologyOf network) ≡ given pass ⌝ }
     ensures { λ r. ⌜ r ≡ goodSession (topologyOf network) (sessionOf place) ⌝ }
@@ -32,8 +32,9 @@ fn good_session(network: Network, place: Place) -> bool
     }
     let held = [0u64; 32];
     let laid = routes::route_hops(network, &held, &route[..hops]);
-    let frames = place.frames;
-    let delay = place.delay;
+    let stored = place.held;
+    let frames = stored.frames;
+    let delay = stored.delay;
     match routes::walk(network.ticks, laid, frames, hops) {
         Walked::Delayed(walked) => walked.0 == delay.0,
         Walked::Unfit => false,
