@@ -9,8 +9,8 @@ use libc::STDOUT_FILENO;
 use network::Link;
 use network::Network;
 use refusals::Refusal;
-use state::Answer;
-use state::Reply;
+use refusals::Verdict;
+use state::Quoted;
 
 // The free frames of a link as a route says them, as a word: those that the braces after its letter name, and all where it has none. `bit` is the word
 // of the frame whose digits, from 48 on, are read.
@@ -82,19 +82,20 @@ fn show_frames(frames: [u8; 8], n: usize)
 }
 
 // The answer to a quote over a route of n hops.
-fn show(answer: Answer, n: usize)
+fn show(answer: Quoted, n: usize)
     requires { ⌜ n ≤ 8 ⌝ }
 {
-    let reply = answer.reply;
-    let frames = answer.frames;
-    match reply {
-        Reply::Schedule(delay, count) => {
+    let verdict = answer.verdict;
+    let held = answer.held;
+    let frames = held.frames;
+    match verdict {
+        Verdict::Passed => {
             io::write_all(STDOUT_FILENO, b" ok");
-            next(delay.0 as u32);
-            next(count);
+            next(held.delay.0 as u32);
+            next(answer.count);
             show_frames(frames, n);
         }
-        Reply::Refused(refusal) => {
+        Verdict::Refused(refusal) => {
             io::write_all(STDOUT_FILENO, b" no");
             next(refusals::number(refusal) as u32);
             match refusal {

@@ -2,6 +2,7 @@
 // frames, and the new value; 0 stands where a field needs no place. A field's first letter tells it.
 use super::calls;
 use super::lines;
+use super::same;
 use super::show;
 use network::Network;
 use state::State;
@@ -33,9 +34,9 @@ fn changed_place(place: Place, field: u8, index: usize, value: usize) -> Place
     match field {
         b'n' => next.number = lines::word(value),
         b'h' => next.hops = value,
-        b'd' => next.delay.0 = lines::word(value),
+        b'd' => next.held.delay.0 = lines::word(value),
         b'r' => next.route[index] = lines::byte(value),
-        b'f' => next.frames[index] = lines::byte(value),
+        b'f' => next.held.frames[index] = lines::byte(value),
         _ => {}
     }
     next
@@ -76,8 +77,8 @@ pub(super) fn put(st: State, line: &[u8]) -> State {
     next
 }
 
-// A state built by hand, by one change or two, and handed to five calls, each on what the one before returned; whether each left as many sessions live.
-// The state itself stays.
+// A state built by hand, by one change or two, and handed to five calls, each on what the one before returned; whether all of it is as it was after them,
+// and it isn't the state that was changed. The state itself stays.
 pub(super) fn case(st: State, line: &[u8]) -> State {
     let one = [0u8; 1];
     let route: &[u8] = &one;
@@ -87,13 +88,8 @@ pub(super) fn case(st: State, line: &[u8]) -> State {
     let third = calls::number_call(second, b'R', 5);
     let fourth = calls::number_call(third, b'L', 5);
     let fifth = calls::number_call(fourth, b'F', 0);
-    show::same(
-        built.table.live,
-        first.table.live,
-        second.table.live,
-        third.table.live,
-        fourth.table.live,
-        fifth.table.live,
-    );
+    let kept = same::state(built, fifth);
+    let other = !same::state(built, st);
+    show::kept(kept & other);
     st
 }

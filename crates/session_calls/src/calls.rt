@@ -1,14 +1,13 @@
 // The calls that the lines of the file stdin tell: a line is shown, and after it what its call answers.
 use super::broken;
 use super::lines;
+use super::same;
 use super::show;
 use bytes::scan;
 use network::Link;
 use network::Network;
 use refusals::Verdict;
 use sessions::Begun;
-use state::Answer;
-use state::Reply;
 use state::State;
 ghost use Prim.Native.Nat.{_≤_};
 
@@ -47,7 +46,9 @@ pub(super) fn served(st: State, number: u16, route: &[u8], quotes: bool) -> Stat
     } else {
         sessions::set_up(st, number, route)
     };
-    show::answer(served.answer, route.len());
+    let answer = served.answer;
+    show::answer(answer, route.len());
+    show::after(answer.verdict, same::state(st, served.state));
     served.state
 }
 
@@ -72,28 +73,24 @@ pub(super) fn number_call(st: State, letter: u8, x: usize) -> State {
             let released = sessions::release(st, lines::word(x));
             let verdict = released.verdict;
             show::verdict(verdict);
+            show::after(verdict, same::state(st, released.state));
             released.state
         }
         b'L' | b'E' => {
             let looked = sessions::lookup(st, lines::word(x));
-            show::session(looked.shown, letter);
+            let shown = looked.shown;
+            show::session(shown, letter);
+            show::after(shown.verdict, same::state(st, looked.state));
             looked.state
         }
         b'F' => {
             let tallied = sessions::free_frames(st, lines::byte(x));
-            show::counted(tallied.counted);
+            let counted = tallied.counted;
+            show::counted(counted);
+            show::after(counted.verdict, same::state(st, tallied.state));
             tallied.state
         }
         _ => st,
-    }
-}
-
-// One more accepted call, if the answer is a schedule.
-fn with_answer(accepted: u64, answer: Answer) -> u64 {
-    let reply = answer.reply;
-    match reply {
-        Reply::Schedule(_, _) => std::num::wrapping_add_u64(accepted, 1),
-        Reply::Refused(_) => accepted,
     }
 }
 
@@ -116,7 +113,8 @@ fn many(st: State, line: &[u8], sets_up: bool) -> State {
     while number < to {
         if sets_up {
             let served = sessions::set_up(next, number, route);
-            accepted = with_answer(accepted, served.answer);
+            let answer = served.answer;
+            accepted = with_verdict(accepted, answer.verdict);
             next = served.state;
         } else {
             let released = sessions::release(next, number);

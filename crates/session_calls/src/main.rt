@@ -3,6 +3,7 @@
 mod broken;
 mod calls;
 mod lines;
+mod same;
 mod show;
 
 use libc::STDIN_FILENO;

@@ -2,10 +2,9 @@
 use bytes::scan;
 use libc::STDOUT_FILENO;
 use refusals::Verdict;
-use state::Answer;
-use state::Counted;
-use state::Reply;
-use state::Shown;
+use sessions::Counted;
+use sessions::Shown;
+use state::Quoted;
 
 pub(super) fn text(s: &[u8]) {
     io::write_all(STDOUT_FILENO, s);
@@ -65,20 +64,18 @@ fn places(eight: [u8; 8], n: usize) {
 }
 
 // The answer to a set-up or a quote over a route of n links.
-pub(super) fn answer(answer: Answer, n: usize) {
-    let reply = answer.reply;
-    let frames = answer.frames;
-    match reply {
-        Reply::Schedule(delay, count) => {
-            verdict(Verdict::Passed);
-            next(delay.0 as u64);
-            next(count as u64);
+pub(super) fn answer(answer: Quoted, n: usize) {
+    let said = answer.verdict;
+    let held = answer.held;
+    let frames = held.frames;
+    verdict(said);
+    match said {
+        Verdict::Passed => {
+            next(held.delay.0 as u64);
+            next(answer.count as u64);
             places(frames, n);
         }
-        Reply::Refused(refusal) => {
-            verdict(Verdict::Refused(refusal));
-            places(frames, 0);
-        }
+        Verdict::Refused(_) => places(frames, 0),
     }
 }
 
@@ -87,7 +84,8 @@ pub(super) fn session(shown: Shown, letter: u8) {
     let n = if letter == b'E' { 8 } else { shown.hops };
     let said = shown.verdict;
     let route = shown.route;
-    let frames = shown.frames;
+    let held = shown.held;
+    let frames = held.frames;
     let stroke: &[u8] = b" /";
     verdict(said);
     match said {
@@ -96,7 +94,7 @@ pub(super) fn session(shown: Shown, letter: u8) {
             text(stroke);
             places(frames, n);
             text(stroke);
-            next(shown.delay.0 as u64);
+            next(held.delay.0 as u64);
         }
         Verdict::Refused(_) => {
             places(route, 0);
@@ -115,11 +113,23 @@ pub(super) fn counted(counted: Counted) {
     }
 }
 
-// Whether five numbers of live sessions are all n.
-pub(super) fn same(n: usize, a: usize, b: usize, c: usize, d: usize, e: usize) {
-    if (a == n) & (b == n) & (c == n) & (d == n) & (e == n) {
-        text(b" live same");
+// Whether a state is the same after some calls.
+pub(super) fn kept(same: bool) {
+    if same {
+        text(b" same");
     } else {
-        text(b" live changed");
+        text(b" changed");
+    }
+}
+
+// Says where the state after a refused call isn't the one before it.
+pub(super) fn after(verdict: Verdict, same: bool) {
+    match verdict {
+        Verdict::Passed => {}
+        Verdict::Refused(_) => {
+            if !same {
+                text(b" changed");
+            }
+        }
     }
 }

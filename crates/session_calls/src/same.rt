@@ -1,0 +1,68 @@
+// Whether two states are the same, place by place, also where a place is not in use.
+use network::Network;
+use state::State;
+use table::Place;
+use table::Table;
+
+// Eight places of a route, or of frames.
+fn eight(one: [u8; 8], other: [u8; 8]) -> bool {
+    let mut j: usize = 0;
+    while j < 8 {
+        if one[j] != other[j] {
+            return false;
+        }
+        j += 1;
+    }
+    true
+}
+
+// A session as it is stored.
+fn place(one: Place, other: Place) -> bool {
+    let route = one.route;
+    let held = one.held;
+    let frames = held.frames;
+    let links = other.route;
+    let holds = other.held;
+    let slots = holds.frames;
+    let numbers = (one.number == other.number)
+        & (one.hops == other.hops)
+        & (held.delay.0 == holds.delay.0);
+    numbers & eight(route, links) & eight(frames, slots)
+}
+
+// All 96 places of a table.
+fn table(one: Table, other: Table) -> bool {
+    let mut i: usize = 0;
+    while i < 96 {
+        let first = one.places[i];
+        let second = other.places[i];
+        if !place(first, second) {
+            return false;
+        }
+        i += 1;
+    }
+    one.live == other.live
+}
+
+// All 32 places of a network.
+fn network(one: Network, other: Network) -> bool {
+    let mut i: usize = 0;
+    while i < 32 {
+        let first = one.links[i];
+        let second = other.links[i];
+        if (first.frames != second.frames)
+            | (first.range != second.range)
+            | (first.closed != second.closed)
+        {
+            return false;
+        }
+        i += 1;
+    }
+    (one.ticks == other.ticks) & (one.count == other.count)
+}
+
+pub(super) fn state(one: State, other: State) -> bool {
+    let links = network(one.network, other.network);
+    let sessions = table(one.table, other.table);
+    links & sessions
+}
