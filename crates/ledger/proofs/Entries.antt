@@ -1,7 +1,7 @@
 -- The ledger's entries: an entry stands in it just when a set-up that entered it was accepted, and no later release of its number. Assumes nothing.
 use mathlib.Core.Path.{_≡_, refl, sym, ap, _∙_}
 use mathlib.Core.Logic.{_⊎_, inl, inr, ⊎-elim}
-use mathlib.Core.Bool.{true, false, not, _&&_, and-true, and-false}
+use mathlib.Core.Bool.{true, false, not}
 use mathlib.Core.List.{List, [], _∷_, _++_, List·Memᴰ, List·Memᴰ·head, List·Memᴰ·not-nil, List·Memᴰ·append-cases, List·Memᴰ·eq-of-singleton, Memᴰ·append-left, Memᴰ·append-right}
 use Prim.Native.Nat.{ℕ}
 use lib.Dec.{eqb}
@@ -14,8 +14,8 @@ use Rattle.ledger.specs.Ledger.{Step, did, acceptedReleaseOf, ledgerFrom
 use Rattle.ledger.proofs.Lists.{neither-or, kept-member, member-kept}
 
 -- ---- one step: a session after it stood before it, and its number was not released, or the step was the set-up that entered it
-struck-others : (n : ℕ) (ss : List Session) (e : Session) → List·Memᴰ e (keep (otherThan n) ss) → List·Memᴰ e ss × ((eqb (e .number) n && true) ≡ false)
-struck-others n ss e m = let k = kept-member (otherThan n) ss m in (k .0, and-true (eqb (e .number) n) ∙ not-true (eqb (e .number) n) (k .1))
+struck-others : (n : ℕ) (ss : List Session) (e : Session) → List·Memᴰ e (keep (otherThan n) ss) → List·Memᴰ e ss × (eqb (e .number) n ≡ false)
+struck-others n ss e m = let k = kept-member (otherThan n) ss m in (k .0, not-true (eqb (e .number) n) (k .1))
 
 stood : (call : Call) (r : Reply) (ss : List Session) (e : Session) → List·Memᴰ e (liveAfter ss (effect call r))
     → (List·Memᴰ e ss × (acceptedReleaseOf (e .number) (did call r) ≡ false)) ⊎ ((count : ℕ) × (did call r ≡ did (SetUp (e .number) (e .route)) (schedule (e .held) count)))
@@ -28,11 +28,11 @@ stood (SetUp n route) (refusal k count) ss e m = inl (m, refl)
 stood (Quote route) r ss e m = inl (m, refl)
 stood (Release n) (schedule held count) ss e m = inl (struck-others n ss e m)
 stood (Release n) freed ss e m = inl (struck-others n ss e m)
-stood (Release n) (refusal k count) ss e m = inl (m, and-false (eqb (e .number) n))
+stood (Release n) (refusal k count) ss e m = inl (m, refl)
 
 -- and back: a session whose number is not released stays
-others-stay : (n : ℕ) (ss : List Session) (e : Session) → List·Memᴰ e ss → (eqb (e .number) n && true) ≡ false → List·Memᴰ e (keep (otherThan n) ss)
-others-stay n ss e m h = member-kept (otherThan n) ss m (ap not (sym (and-true (eqb (e .number) n)) ∙ h))
+others-stay : (n : ℕ) (ss : List Session) (e : Session) → List·Memᴰ e ss → eqb (e .number) n ≡ false → List·Memᴰ e (keep (otherThan n) ss)
+others-stay n ss e m h = member-kept (otherThan n) ss m (ap not h)
 
 stays : (call : Call) (r : Reply) (ss : List Session) (e : Session) → List·Memᴰ e ss → acceptedReleaseOf (e .number) (did call r) ≡ false
     → List·Memᴰ e (liveAfter ss (effect call r))

@@ -1,16 +1,33 @@
 -- What a schedule holds, field by field: the one file of proofs that goes by its fields and by what a node is. Assumes nothing.
-use mathlib.Core.Path.{_≡_, refl, ap, ap₂}
+use mathlib.Core.Path.{_≡_, refl, sym, ap, ap₂, _∙_}
 use mathlib.Core.Bool.{Bool, true, _&&_}
-use mathlib.Core.List.{List}
-use Prim.Native.Nat.{ℕ}
+use mathlib.Core.List.{List, [], _∷_}
+use Prim.Native.Nat.{ℕ, suc}
+use native.Mathlib.Omega.{arith}
+use lib.ListN.{length}
 use lib.Dec.{eqb}
 use borrow.Author.Tests.{eq-eqb, eqb-true}
 use Rattle.lists.proofs.Count as tests
+use Rattle.places.specs.Places.{firsts}
+use Rattle.places.proofs.Firsts.{firsts-back}
 use Rattle.forwarding.specs.declared.Hop.{Hop}
+use Rattle.forwarding.specs.Schedule.{GoesOn, IsSchedule}
 use Rattle.ledger.specs.Lists.{sameList}
-use Rattle.ledger.specs.Held.{Holding, heldOver, nodesIn, sameHeld, NodesHeld}
+use Rattle.ledger.specs.Held.{Holding, heldOver, nodesIn, sameHeld, NodesHeld, HeldStored}
 use Rattle.ledger.specs.Sessions.{HeldFree}
 use Rattle.ledger.proofs.Lists.{same-list, list-same}
+
+-- a schedule has a node for each hop
+on-length : (g : Hop) (k : ℕ) (hops : List Hop) (fs : List ℕ) → GoesOn g k hops fs → length fs ≡ length hops
+on-length g k [] [] o = refl
+on-length g k [] (i ∷ fs) o = absurd o
+on-length g k (h ∷ hops) [] o = absurd o
+on-length g k (h ∷ hops) (i ∷ fs) o = ap suc (on-length h i hops fs (o .2))
+
+pub schedule-length : (hops : List Hop) (fs : List ℕ) → IsSchedule hops fs → length fs ≡ length hops
+schedule-length [] fs s = absurd s
+schedule-length (h ∷ hops) [] s = absurd s
+schedule-length (h ∷ hops) (k ∷ fs) s = ap suc (on-length h k hops fs (s .2))
 
 -- WHAT A SCHEDULE HOLDS TELLS ITS NODES
 pub nodes-held : NodesHeld
@@ -21,6 +38,14 @@ nodes-held hops delay nodes s = refl
 pub held-free : HeldFree
 unfolding heldOver
 held-free net ss route delay nodes = refl
+
+-- WHAT A SCHEDULE HOLDS, LAID INTO EIGHT PLACES AND READ BACK, IS THE SAME
+pub held-stored : HeldStored
+unfolding heldOver
+held-stored hops delay nodes s few =
+    let n : length nodes ≡ length hops = schedule-length hops nodes s in
+    ap (λ (fs : List ℕ). record { frames = fs; delay = delay })
+    (ap (λ (k : ℕ). firsts k (firsts 8 nodes 0) 0) (sym n) ∙ firsts-back 8 nodes 0 (omega (arith, n, few)))
 
 -- ---- the fields of what a schedule holds: its frames, which its nodes are, and its delay
 pub frames-over : (hops : List Hop) (delay : ℕ) (nodes : List ℕ) → heldOver hops delay nodes .frames ≡ nodes

@@ -1,12 +1,10 @@
--- A schedule over the frames that sessions leave free: it holds unclosed frames, none of theirs, at the same delay; and its length. Assumes nothing.
+-- A schedule over the frames that sessions leave free: it holds unclosed frames, none of theirs, at the same delay. Assumes nothing.
 use mathlib.Core.Path.{_≡_, refl, ap, _∙_}
 use mathlib.Core.Bool.{Bool, false}
 use mathlib.Core.List.{List, [], _∷_}
-use Prim.Native.Nat.{ℕ, suc, _+_}
-use lib.ListN.{length}
+use Prim.Native.Nat.{ℕ, _+_}
 use Rattle.lists.proofs.Count as tests
 use Rattle.network.specs.Network.{Topology}
-use Rattle.forwarding.specs.declared.Hop.{Hop}
 use Rattle.forwarding.specs.Forwarding.{referenceInto, leastHold, holdInto, mayHold, isFree, delay}
 use Rattle.forwarding.specs.Schedule.{GoesOn, IsSchedule, onwardDelay, scheduleDelay}
 use Rattle.ledger.specs.Lists.{anyOf}
@@ -15,18 +13,6 @@ use Rattle.ledger.specs.Sessions.{Session, slot, slotsAt, heldIn, linkAt
 use Rattle.ledger.proofs.Lists.{neither-or}
 use Rattle.ledger.proofs.Held.{nodes-held, held-free, frames-over}
 use Rattle.ledger.proofs.Free.{free-unheld, free-unclosed}
-
--- a schedule has a node for each hop
-on-length : (g : Hop) (k : ℕ) (hops : List Hop) (fs : List ℕ) → GoesOn g k hops fs → length fs ≡ length hops
-on-length g k [] [] o = refl
-on-length g k [] (i ∷ fs) o = absurd o
-on-length g k (h ∷ hops) [] o = absurd o
-on-length g k (h ∷ hops) (i ∷ fs) o = ap suc (on-length h i hops fs (o .2))
-
-pub schedule-length : (hops : List Hop) (fs : List ℕ) → IsSchedule hops fs → length fs ≡ length hops
-schedule-length [] fs s = absurd s
-schedule-length (h ∷ hops) [] s = absurd s
-schedule-length (h ∷ hops) (k ∷ fs) s = ap suc (on-length h k hops fs (s .2))
 
 module _ (net : Topology) (ss : List Session) where
   -- on from frame k of link r

@@ -2,7 +2,8 @@
 use mathlib.Core.Path.{_≡_}
 use mathlib.Core.Bool.{Bool, _&&_}
 use mathlib.Core.List.{List, []}
-use Prim.Native.Nat.{ℕ}
+use Prim.Native.Nat.{ℕ, _≤_}
+use lib.ListN.{length}
 use lib.Dec.{eqb}
 use Rattle.places.specs.Places.{firsts}
 use Rattle.forwarding.specs.declared.Hop.{Hop}
@@ -43,3 +44,8 @@ holdingOf n h = record { frames = firsts n (h .frames) 0; delay = h .delay .0 }
 -- in eight places: "unused hop and link places hold 0"
 abbrev pub heldPlaces : Holding → Held
 heldPlaces h = record { frames = firsts 8 (h .frames) 0; delay = record { 0 = h .delay } }
+
+-- WHAT A SCHEDULE HOLDS, LAID INTO EIGHT PLACES AND READ BACK, IS THE SAME
+abbrev pub HeldStored : Type 0
+HeldStored = (hops : List Hop) (delay : ℕ) (nodes : List ℕ) → IsSchedule hops nodes → length hops ≤ 8
+    → holdingOf (length hops) (heldPlaces (heldOver hops delay nodes)) ≡ heldOver hops delay nodes

@@ -52,7 +52,7 @@ acceptedRelease (did (Release n) r) = not (isRefusal r)
 abbrev pub acceptedReleaseOf : ℕ → Step → Bool
 acceptedReleaseOf m (did (SetUp n route) r) = false
 acceptedReleaseOf m (did (Quote route) r) = false
-acceptedReleaseOf m (did (Release n) r) = eqb m n && not (isRefusal r)
+acceptedReleaseOf m (did (Release n) r) = not (isRefusal r) && eqb m n
 
 -- how many steps of the list pass a test
 abbrev pub countSteps : (Step → Bool) → List Step → ℕ
