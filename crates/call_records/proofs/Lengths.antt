@@ -9,6 +9,7 @@ use lib.Dec.{eqb, ltb}
 use Rattle.refusals.specs.Refusals.{given}
 use Rattle.ledger.specs.Calls.{Call}
 use Rattle.ledger.specs.Calls as calls
+use Rattle.ledger.proofs.Scheduled.{linksOf}
 use Rattle.call_records.specs.declared.Kind.{Kind}
 use Rattle.call_records.specs.declared.Kind.the-variants.{SetUp, Quote, Release, Unreadable}
 use Rattle.call_records.specs.declared.Form.{Form}
@@ -17,11 +18,6 @@ use Rattle.call_records.specs.Records.{noForm, formOf, headOf, numberOf,
 use Rattle.call_records.proofs.Cases.{in-bytes}
 
 -- ---- how long a record is: the call's route and two bytes more at least
-abbrev pub linksOf : Call → List ℕ
-linksOf (calls.SetUp n route) = route
-linksOf (calls.Quote route) = route
-linksOf (calls.Release n) = []
-
 abbrev Begins : Kind → ℕ → Type 0
 Begins Unreadable start = Unit {0}
 Begins SetUp start = 2 ≤ start

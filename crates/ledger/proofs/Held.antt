@@ -10,10 +10,12 @@ use borrow.Author.Tests.{eq-eqb, eqb-true}
 use Rattle.lists.proofs.Count as tests
 use Rattle.places.specs.Places.{firsts}
 use Rattle.places.proofs.Firsts.{firsts-back}
+use Rattle.forwarding.specs.declared.Delay.{Delay}
+use Rattle.forwarding.specs.declared.Held.{Held}
 use Rattle.forwarding.specs.declared.Hop.{Hop}
 use Rattle.forwarding.specs.Schedule.{GoesOn, IsSchedule}
 use Rattle.ledger.specs.Lists.{sameList}
-use Rattle.ledger.specs.Held.{Holding, heldOver, nodesIn, sameHeld, NodesHeld, HeldStored}
+use Rattle.ledger.specs.Held.{Holding, heldOver, nodesIn, sameHeld, NodesHeld, heldPlaces, HeldStored}
 use Rattle.ledger.specs.Sessions.{HeldFree}
 use Rattle.ledger.proofs.Lists.{same-list, list-same}
 
@@ -55,6 +57,12 @@ frames-over hops delay nodes = refl
 pub delay-over : (hops : List Hop) (delay : ℕ) (nodes : List ℕ) → heldOver hops delay nodes .delay ≡ delay
 unfolding heldOver
 delay-over hops delay nodes = refl
+
+-- and in eight places
+pub places-over : (hops : List Hop) (delay : Delay) (nodes frames : List ℕ) → frames ≡ firsts 8 nodes 0
+    → _≡_ {A = Held} (record { frames = frames; delay = delay }) (heldPlaces (heldOver hops (delay .0) nodes))
+unfolding heldOver
+places-over hops delay nodes frames e = ap (λ (fs : List ℕ). record { frames = fs; delay = delay }) e
 
 -- ---- the test whether two hold the same
 pub same-is : (a b : Holding) → sameHeld a b ≡ true → a ≡ b

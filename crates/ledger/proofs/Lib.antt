@@ -14,3 +14,4 @@ pub mod Balance
 pub mod Whole
 pub mod Quoted
 pub mod Freeing
+pub mod Scheduled

@@ -9,26 +9,21 @@ use Rattle.trellis.specs.Answer as trellis
 use Rattle.places.specs.Places.{firsts}
 use Rattle.places.proofs.Firsts.{length-firsts, firsts-back, firsts-take}
 use Rattle.refusals.specs.Refusals.{given, pass}
-use Rattle.refusals.specs.declared.Refusal.the-variants.{NoSchedule}
 use Rattle.network.specs.Network.{topologyOf}
 use Rattle.network.specs.Checks.{networkCheck}
 use Rattle.network.specs.declared.Network.{Network}
 use Rattle.forwarding.specs.declared.Hop.{Hop}
 use Rattle.forwarding.specs.Hops.{noHop, Ready}
 use Rattle.forwarding.specs.Route.{routeAnswer}
-use Rattle.search.specs.Reading.{reading, Answered}
-use Rattle.search.specs.declared.Answer as search
-use Rattle.search.specs.declared.Found.{Found}
-use Rattle.search.specs.declared.Found.the-variants as result
-use Rattle.forwarding.specs.declared.Delay.{Delay}
-use Rattle.ledger.specs.Sessions.{Session, HeldWords, hopOf, hopsOf}
+use Rattle.search.specs.Reading.{Finds}
+use Rattle.search.specs.declared.Finding.{Finding}
+use Rattle.ledger.specs.Sessions.{Session, hopOf, hopsOf}
+use Rattle.ledger.specs.Inner.{HeldWords}
 use Rattle.ledger.specs.Routes.{routeCheck}
-use Rattle.ledger.specs.Calls.{replyOf}
 use Rattle.routes.specs.Hops.{hopsFrom}
 use Rattle.routes.proofs.Routes.{route-long, route-all-known}
 use Rattle.routes.proofs.Hops.{hops-held, route-ready}
-use Rattle.state.specs.declared.Reply.the-variants.{Schedule, Refused}
-use Rattle.state.specs.State.{replyIn, Searched}
+use Rattle.state.specs.Inner.{Searched}
 
 pub ticks-told : (network : Network) → topologyOf network .ticks ≡ network .ticks
 unfolding topologyOf
@@ -62,16 +57,9 @@ module _ (network : Network) (ss : List Session) (route : List ℕ) (passed : ne
   same-answer : routeAnswer (network .ticks) (take (length route) hops) ≡ routeAnswer (topologyOf network .ticks) (hopsOf (topologyOf network) ss route)
   same-answer = ap (routeAnswer (network .ticks)) route-back ∙ ap (λ (T : ℕ). routeAnswer T (hopsOf (topologyOf network) ss route)) (sym (ticks-told network))
 
-  pub least-searched : (r : search.Answer) → Answered (network .ticks) hops (length route) r → Searched (topologyOf network) ss route r
+  pub least-searched : (r : Finding) → Finds (network .ticks) hops (length route) r → Searched (topologyOf network) ss route r
   least-searched r a =
       record {
         answer = a .answer ∙ same-answer;
         places = a .places ∙ ap (λ (x : trellis.Answer). firsts 8 (nodesOf x) 0) same-answer;
       }
-
--- ---- a result told as an answer
-pub schedule-told : (x : Found) (frames : List ℕ) (d : Delay) (c : ℕ) → x ≡ result.Schedule d c → (n : ℕ) → replyIn n (Schedule d c) frames ≡ replyOf (reading n x frames)
-schedule-told x frames d c e n = sym (ap (λ (y : Found). replyOf (reading n y frames)) e)
-
-pub blocked-told : (x : Found) (frames : List ℕ) (c : ℕ) → x ≡ result.Blocked c → (n : ℕ) → replyIn n (Refused (NoSchedule c)) frames ≡ replyOf (reading n x frames)
-blocked-told x frames c e n = sym (ap (λ (y : Found). replyOf (reading n y frames)) e)

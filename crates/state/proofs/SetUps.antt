@@ -1,54 +1,55 @@
 -- Each return of a quote and of a set-up on a state that isn't broken. Assumes nothing.
-use mathlib.Core.Path.{_≡_, refl, sym, ap, subst, _∙_}
+use mathlib.Core.Path.{_≡_, refl, sym, ap, ap₂, subst, _∙_}
 use mathlib.Core.Bool.{Bool, true, false}
 use mathlib.Core.List.{List, [], _∷_, _++_}
 use Prim.Native.Nat.{ℕ, _<_}
 use native.Mathlib.Omega.{arith}
-use lib.ListN.{length, take}
+use lib.ListN.{length}
 use lib.Dec.{leb}
 use borrow.Author.Tests.{leb-false}
 use Rattle.places.specs.Places.{firsts}
-use Rattle.places.proofs.Firsts.{length-firsts}
-use Rattle.trellis.specs.Answer.{nodesOf}
+use Rattle.trellis.specs.Answer.{found, blocked, nodesOf}
+use Rattle.trellis.specs.Answer as trellis
 use Rattle.refusals.specs.Refusals.{refusalNumber, refusalCount, given, pass, ruling}
 use Rattle.refusals.specs.Refusals as outcome
 use Rattle.refusals.specs.declared.Refusal.{Refusal}
+use Rattle.refusals.specs.declared.Refusal.the-variants.{NoSchedule}
 use Rattle.refusals.proofs.Refusals.{uncounted}
 use Rattle.refusals.specs.declared.Verdict.{Verdict}
 use Rattle.refusals.specs.declared.Verdict.the-variants as verdict
-use Rattle.network.specs.Network.{topologyOf}
+use Rattle.network.specs.Network.{Topology, topologyOf}
 use Rattle.network.specs.declared.Network.{Network}
 use Rattle.forwarding.specs.declared.Delay.{Delay}
+use Rattle.forwarding.specs.declared.Held.{Held}
+use Rattle.forwarding.specs.declared.Hop.{Hop}
 use Rattle.forwarding.specs.Route.{routeAnswer}
 use Rattle.search.specs.Reading.{reading}
-use Rattle.search.specs.declared.Answer as search
+use Rattle.search.specs.declared.Finding.{Finding}
 use Rattle.search.specs.declared.Found.{Found}
 use Rattle.search.specs.declared.Found.the-variants as result
+use Rattle.ledger.specs.Held.{Holding, heldOver, holdingOf, heldPlaces}
 use Rattle.ledger.specs.Sessions.{Session, isLive, hopsOf}
 use Rattle.ledger.specs.Routes.{routeCheck}
 use Rattle.ledger.specs.Sound.{intact}
-use Rattle.ledger.specs.Calls.{Call, SetUp, Quote, schedule, refusal, replyOf, full, callCheck, served, reply}
-use Rattle.ledger.specs.Calls as rules
+use Rattle.ledger.specs.Calls.{Call, SetUp, Quote, Reply, schedule, refusal, replyOf, answerOver, full, callCheck, granted, reply, enters, leaves, effect}
+use Rattle.ledger.proofs.Held.{places-over}
 use Rattle.ledger.proofs.Answered.{admitted}
 use Rattle.ledger.proofs.Refused.{not-eighteen}
+use Rattle.ledger.proofs.Scheduled.{scheduled, scheduled-back}
 use Rattle.routes.proofs.Routes.{route-long}
 use Rattle.table.specs.declared.Table.{Table}
-use Rattle.table.specs.Table.{sessionOf, liveOf}
+use Rattle.table.specs.Table.{liveOf}
 use Rattle.table.proofs.Live.{in-length}
 use Rattle.state.specs.declared.State.{State}
-use Rattle.state.specs.declared.Reply.the-variants.{Schedule, Refused}
-use Rattle.state.specs.declared.Answer.{Answer}
-use Rattle.state.specs.State.{viewOf, replyIn, Answers, Searched, Serves}
-use Rattle.state.proofs.Replies.{route-refuses, number-refuses, places-refuse, none-refuses, quote-check, refused-reply, served-reply, refusal-leaves, stays, searched-answers, stored-entry, entered-view}
-
--- an answer that answers each number of links
-abbrev Refuses : Refusal → Answer → Type 0
-Refuses r a = (n : ℕ) → Answers n (refusal (refusalNumber r) (refusalCount r)) a
+use Rattle.state.specs.declared.Quoted.{Quoted}
+use Rattle.state.specs.State.{viewOf, quotedOf, notQuoted, Quotes, Serves}
+use Rattle.state.specs.Inner.{Searched}
+use Rattle.state.proofs.Replies.{route-refuses, number-refuses, places-refuse, none-refuses, quote-check, refused-reply, granted-reply, refusal-leaves, stays, moves}
 
 -- what isn't a schedule is blocked
-pub not-schedule : (tag : Found → ℕ) → ((d : Delay) (c : ℕ) → tag (result.Schedule d c) ≡ 0) → (x : Found) → tag x ≡ 1 → (c : ℕ) × (x ≡ result.Blocked c)
-not-schedule tag h (result.Schedule d c) e = absurd (omega (arith, h d c, e))
-not-schedule tag h (result.Blocked c) e = (c, refl)
+pub not-schedule : (tag : Found → ℕ) → ((d : Delay) → tag (result.Schedule d) ≡ 0) → (x : Found) → tag x ≡ 1 → x ≡ result.Blocked
+not-schedule tag h (result.Schedule d) e = absurd (omega (arith, h d, e))
+not-schedule tag h result.Blocked e = refl
 
 -- ---- the checks of a set-up after 0, in turn
 module _ (network : Network) (ss : List Session) (n : ℕ) (route : List ℕ) (v : Verdict) (ev : ruling v ≡ routeCheck (topologyOf network) route) where
@@ -74,8 +75,31 @@ full-told table b e = e ∙ ap (leb 96) (sym (in-length (table .live) (table .pl
 pub room-left : (table : Table) → full (liveOf table) ≡ false → table .live < 96
 room-left table e = leb-false 96 (table .live) (full-told table (leb 96 (table .live)) refl ∙ e)
 
+-- ---- what a search found, as an answer
+module _ (net : Topology) (ss : List Session) (route : List ℕ) (f : Finding) (s : Searched net ss route f) where
+  told : (x : Found) → f .found ≡ x → routeAnswer (net .ticks) (hopsOf net ss route) ≡ reading (length route) x (f .count) (f .frames)
+  told x e = sym (s .answer) ∙ ap (λ (y : Found). reading (length route) y (f .count) (f .frames)) e
+
+  -- 18, with the count
+  module _ (e : f .found ≡ result.Blocked) where
+    pub none-found : answerOver (net .ticks) (hopsOf net ss route) ≡ refusal 18 (f .count)
+    none-found = ap (replyOf (hopsOf net ss route)) (told result.Blocked e)
+
+  -- a schedule: what it holds, and that in eight places
+  module _ (d : Delay) (e : f .found ≡ result.Schedule d) where
+    abbrev pub foundHeld : Holding
+    foundHeld = heldOver (hopsOf net ss route) (d .0) (firsts (length route) (f .frames) 0)
+
+    pub held-found : answerOver (net .ticks) (hopsOf net ss route) ≡ schedule foundHeld (f .count)
+    held-found = ap (replyOf (hopsOf net ss route)) (told (result.Schedule d) e)
+
+    pub found-places : _≡_ {A = Held} (record { frames = f .frames; delay = d }) (heldPlaces foundHeld)
+    found-places =
+        places-over (hopsOf net ss route) d (firsts (length route) (f .frames) 0) (f .frames)
+        (s .places ∙ ap (λ (a : trellis.Answer). firsts 8 (nodesOf a) 0) (told (result.Schedule d) e))
+
 module _ (st : State) (ok : intact (viewOf st) ≡ true) where
-  -- a refusal by a check: it has no count, and leaves the very same state
+  -- ---- a refusal by a check: it has no count, and leaves the very same state
   module _ (call : Call) (v : Verdict) (ev : ruling v ≡ callCheck (topologyOf (st .network)) (liveOf (st .table)) call) (r : Refusal) (e : v ≡ verdict.Refused r) where
     call-refused : callCheck (topologyOf (st .network)) (liveOf (st .table)) call ≡ outcome.refused (refusalNumber r)
     call-refused = sym ev ∙ ap ruling e
@@ -85,69 +109,82 @@ module _ (st : State) (ok : intact (viewOf st) ≡ true) where
         refused-reply (viewOf st) ok call (refusalNumber r) call-refused
         ∙ ap (refusal (refusalNumber r)) (sym (uncounted r (not-eighteen (topologyOf (st .network)) (liveOf (st .table)) call (refusalNumber r) call-refused)))
 
-    pub answer-refused : (n : ℕ) (a : Answer) → Refuses r a → Answers n (reply (viewOf st) call) a
-    answer-refused n a w = subst (λ (x : rules.Reply). Answers n x a) (sym refused-told) (w n)
+    pub quotes-refused : (q : Quoted) → q ≡ notQuoted r → Quotes (reply (viewOf st) call) q
+    quotes-refused q w = subst (λ (x : Reply). Quotes x q) (sym refused-told) (r, refl, refl, w)
 
-    pub serves-refused : (n : ℕ) (a : Answer) → Refuses r a → Serves st call n (record { answer = a; state = st })
-    serves-refused n a w = record { answer = answer-refused n a w; after = stays st call (refusal-leaves call _ _ _ refused-told) }
+    pub serves-refused : (q : Quoted) → q ≡ notQuoted r → Serves st call (record { answer = q; state = st })
+    serves-refused q w = record { answer = quotes-refused q w; after = stays st call (refusal-leaves call _ _ _ refused-told) }
 
-  -- ---- a call that no check refused, over a route
-  module _ (route : List ℕ) (f : search.Answer) (s : Searched (topologyOf (st .network)) (liveOf (st .table)) route f) (a : Answer)
-      (t : ((n : ℕ) → replyIn n (a .reply) (a .frames) ≡ replyOf (reading n (f .found) (f .frames))) × (a .frames ≡ f .frames)) where
-    -- the answer of a quote or a set-up is the search's
-    answer-served : (call : Call) → reply (viewOf st) call ≡ replyOf (routeAnswer (topologyOf (st .network) .ticks) (hopsOf (topologyOf (st .network)) (liveOf (st .table)) route))
-        → Answers (length route) (reply (viewOf st) call) a
-    answer-served call e =
-        subst (λ (x : rules.Reply). Answers (length route) x a) (sym e)
-        (searched-answers (topologyOf (st .network)) (liveOf (st .table)) route f s a (t .0 (length route)) (t .1))
+  -- ---- a call that no check refused, and that answers what a search over its route found
+  module _ (call : Call) (route : List ℕ) (f : Finding) (s : Searched (topologyOf (st .network)) (liveOf (st .table)) route f)
+      (g : reply (viewOf st) call ≡ answerOver (topologyOf (st .network) .ticks) (hopsOf (topologyOf (st .network)) (liveOf (st .table)) route)) where
+    module _ (e : f .found ≡ result.Blocked) where
+      blocked-told : reply (viewOf st) call ≡ refusal 18 (f .count)
+      blocked-told = g ∙ none-found (topologyOf (st .network)) (liveOf (st .table)) route f s e
 
-    served-quote : routeCheck (topologyOf (st .network)) route ≡ given pass
-        → reply (viewOf st) (Quote route) ≡ replyOf (routeAnswer (topologyOf (st .network) .ticks) (hopsOf (topologyOf (st .network)) (liveOf (st .table)) route))
-    unfolding served
-    served-quote e = served-reply (viewOf st) ok (Quote route) (quote-check (topologyOf (st .network)) (liveOf (st .table)) route ∙ e)
-
-    pub quote-answered : routeCheck (topologyOf (st .network)) route ≡ given pass → Answers (length route) (reply (viewOf st) (Quote route)) a
-    quote-answered e = answer-served (Quote route) (served-quote e)
-
-    module _ (n : ℕ) (passed : callCheck (topologyOf (st .network)) (liveOf (st .table)) (SetUp n route) ≡ given pass) where
-      served-set-up : reply (viewOf st) (SetUp n route) ≡ replyOf (routeAnswer (topologyOf (st .network) .ticks) (hopsOf (topologyOf (st .network)) (liveOf (st .table)) route))
-      unfolding served
-      served-set-up = served-reply (viewOf st) ok (SetUp n route) passed
-
-      found-reply : (x : Found) → f .found ≡ x → reply (viewOf st) (SetUp n route) ≡ replyOf (reading (length route) x (f .frames))
-      found-reply x q = served-set-up ∙ ap replyOf (sym (s .answer)) ∙ ap (λ (y : Found). replyOf (reading (length route) y (f .frames))) q
+      pub quotes-blocked : (q : Quoted) → q ≡ notQuoted (NoSchedule (f .count)) → Quotes (reply (viewOf st) call) q
+      quotes-blocked q w = subst (λ (x : Reply). Quotes x q) (sym blocked-told) (NoSchedule (f .count), refl, refl, w)
 
       -- 18 leaves the very same state
-      pub set-up-blocked : (c : ℕ) → f .found ≡ result.Blocked c → Serves st (SetUp n route) (length route) (record { answer = a; state = st })
-      set-up-blocked c x =
+      pub serves-blocked : (q : Quoted) → q ≡ notQuoted (NoSchedule (f .count)) → Serves st call (record { answer = q; state = st })
+      serves-blocked q w = record { answer = quotes-blocked q w; after = stays st call (refusal-leaves call _ 18 (f .count) blocked-told) }
+
+    module _ (d : Delay) (e : f .found ≡ result.Schedule d) where
+      found-held : Holding
+      found-held = foundHeld (topologyOf (st .network)) (liveOf (st .table)) route f s d e
+
+      found-told : reply (viewOf st) call ≡ schedule found-held (f .count)
+      unfolding found-held
+      found-told = g ∙ held-found (topologyOf (st .network)) (liveOf (st .table)) route f s d e
+
+      in-eight : _≡_ {A = Held} (record { frames = f .frames; delay = d }) (heldPlaces found-held)
+      unfolding found-held
+      in-eight = found-places (topologyOf (st .network)) (liveOf (st .table)) route f s d e
+
+      pub quotes-found : Quotes (reply (viewOf st) call) (record { verdict = verdict.Passed; count = f .count; held = record { frames = f .frames; delay = d } })
+      quotes-found =
+          subst (λ (x : Reply). Quotes x (record { verdict = verdict.Passed; count = f .count; held = record { frames = f .frames; delay = d } })) (sym found-told)
+          (ap (λ (h : Held). record { verdict = verdict.Passed; count = f .count; held = h }) in-eight)
+
+  -- ---- a quote, and a set-up that no check refused
+  pub quote-granted : (route : List ℕ) → routeCheck (topologyOf (st .network)) route ≡ given pass
+      → reply (viewOf st) (Quote route) ≡ answerOver (topologyOf (st .network) .ticks) (hopsOf (topologyOf (st .network)) (liveOf (st .table)) route)
+  unfolding granted
+  quote-granted route e = granted-reply (viewOf st) ok (Quote route) (quote-check (topologyOf (st .network)) (liveOf (st .table)) route ∙ e)
+
+  module _ (n : ℕ) (route : List ℕ) (passed : callCheck (topologyOf (st .network)) (liveOf (st .table)) (SetUp n route) ≡ given pass) where
+    pub set-up-granted : reply (viewOf st) (SetUp n route) ≡ answerOver (topologyOf (st .network) .ticks) (hopsOf (topologyOf (st .network)) (liveOf (st .table)) route)
+    unfolding granted
+    set-up-granted = granted-reply (viewOf st) ok (SetUp n route) passed
+
+    -- the frames are held
+    module _ (f : Finding) (s : Searched (topologyOf (st .network)) (liveOf (st .table)) route f) (d : Delay) (e : f .found ≡ result.Schedule d) (table : Table)
+        (et : liveOf table ≡ liveOf (st .table) ++ (record { number = n; route = route; held = holdingOf (length route) (record { frames = f .frames; delay = d }) } ∷ [])) where
+      held : Holding
+      held = found-held (SetUp n route) route f s set-up-granted d e
+
+      accepted : reply (viewOf st) (SetUp n route) ≡ schedule held (f .count)
+      unfolding held
+      accepted = found-told (SetUp n route) route f s set-up-granted d e
+
+      -- what is stored reads as what is held
+      stored : holdingOf (length route) (record { frames = f .frames; delay = d }) ≡ held
+      unfolding held
+      stored =
+          ap (holdingOf (length route)) (in-eight (SetUp n route) route f s set-up-granted d e)
+          ∙ scheduled-back (viewOf st) route held (scheduled (viewOf st) (SetUp n route) held (f .count) accepted)
+          (route-long (topologyOf (st .network)) route (admitted (topologyOf (st .network)) (liveOf (st .table)) n route passed .passed) .1)
+
+      enters-moves : (u : Session) (X : Type 0) → enters u ≡ leaves → X
+      enters-moves u X q = let z : _≡_ {A = ℕ} 0 1 = cc in absurd (omega arith)
+
+      pub set-up-held : Serves st (SetUp n route) (record {
+        answer = record { verdict = verdict.Passed; count = f .count; held = record { frames = f .frames; delay = d } };
+        state = record { network = st .network; table = table };
+      })
+      set-up-held =
           record {
-            answer = answer-served (SetUp n route) served-set-up;
-            after = stays st (SetUp n route) (refusal-leaves (SetUp n route) _ 18 c (found-reply (result.Blocked c) x));
+            answer = quotes-found (SetUp n route) route f s set-up-granted d e;
+            after = moves st (SetUp n route) (enters record { number = n; route = route; held = held }) (ap (effect (SetUp n route)) accepted) (enters-moves _) table
+                (et ∙ ap (λ (h : Holding). liveOf (st .table) ++ (record { number = n; route = route; held = h } ∷ [])) stored);
           }
-
-      -- the frames are held
-      module _ (d : Delay) (c : ℕ) (x : f .found ≡ result.Schedule d c) (eight : List ℕ) (ee : eight ≡ firsts 8 route 0) (table : Table)
-          (et : liveOf table ≡ liveOf (st .table) ++ (sessionOf (record { number = n; hops = length route; route = eight; frames = f .frames; delay = d }) ∷ [])) where
-        accepted : reply (viewOf st) (SetUp n route) ≡ schedule (record { frames = take (length route) (f .frames); delay = d .0 }) c
-        accepted = found-reply (result.Schedule d c) x
-
-        eight-frames : length (f .frames) ≡ 8
-        eight-frames = ap length (s .places) ∙ length-firsts 8 (nodesOf (routeAnswer (topologyOf (st .network) .ticks) (hopsOf (topologyOf (st .network)) (liveOf (st .table)) route))) 0
-
-        entered : liveOf table ≡ liveOf (st .table) ++ (record { number = n; route = route; held = record { frames = take (length route) (f .frames); delay = d .0 } } ∷ [])
-        entered =
-            et ∙ ap (λ (u : Session). liveOf (st .table) ++ (u ∷ []))
-            (stored-entry n route (f .frames) eight d (route-long (topologyOf (st .network)) route (admitted (topologyOf (st .network)) (liveOf (st .table)) n route passed .passed) .1) ee eight-frames)
-
-        enters-moves : {X : Type 0} (u : Session) → rules.enters u ≡ rules.leaves → X
-        enters-moves u q = let z : _≡_ {A = ℕ} 0 1 = cc in absurd (omega arith)
-
-        pub set-up-held : Serves st (SetUp n route) (length route) (record { answer = a; state = record { network = st .network; table = table } })
-        set-up-held =
-            record {
-              answer = answer-served (SetUp n route) served-set-up;
-              after = record {
-                view = ap (λ (ss : List Session). record { network = topologyOf (st .network); live = ss }) entered ∙ sym (entered-view (viewOf st) n route _ c accepted);
-                same = λ q. enters-moves _ (sym (ap (rules.effect (SetUp n route)) accepted) ∙ q);
-              };
-            }

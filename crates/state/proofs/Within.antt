@@ -1,5 +1,5 @@
 -- The sessions of a state that isn't broken keep within their arrays. Assumes nothing.
-use mathlib.Core.Path.{_≡_, ap, subst, _∙_}
+use mathlib.Core.Path.{_≡_, sym, ap, subst, _∙_}
 use mathlib.Core.Bool.{true}
 use mathlib.Core.List.{List, [], _∷_}
 use Prim.Native.Nat.{ℕ, zero, suc, _<_, _≤_}
@@ -16,15 +16,18 @@ use Rattle.network.proofs.Checks.{network-good}
 use Rattle.forwarding.specs.declared.Hop.{Hop}
 use Rattle.forwarding.specs.Schedule.{GoesOn, IsSchedule}
 use Rattle.ledger.specs.Lists.{allOf}
+use Rattle.ledger.specs.Held.{Holding}
 use Rattle.ledger.specs.Sessions.{Session, linkAt, hopOf, hopsOf}
 use Rattle.ledger.specs.Sound.{goodSession, intact}
 use Rattle.ledger.proofs.Lists.{all-member, member-at}
+use Rattle.ledger.proofs.Held.{frames-over}
 use Rattle.ledger.proofs.Intact.{Intact, intact-is, GoodSession, session-good}
 use Rattle.routes.proofs.Links.{link-passed}
 use Rattle.routes.proofs.Routes.{route-long, route-known}
 use Rattle.table.specs.declared.Place.{Place}
 use Rattle.table.specs.declared.Table.{Table}
-use Rattle.table.specs.Table.{sessionOf, noPlace, inPlaces, liveOf, PlaceWithin, AllWithin}
+use Rattle.table.specs.Table.{sessionOf, noPlace, inPlaces, liveOf}
+use Rattle.table.specs.Inner.{PlaceWithin, AllWithin}
 use Rattle.table.proofs.Live.{in-length}
 use Rattle.state.specs.declared.State.{State}
 use Rattle.state.specs.State.{viewOf}
@@ -52,9 +55,15 @@ module _ (net : Topology) (passed : networkCheck net ≡ given pass) where
         link = λ j h. omega (arith, known j h, count-passed (length (net .links)) (network-good net passed .count) .1, at-route j h);
         frame = λ j h.
             let f = frames-passed (net .ticks) (linkAt net (getD (sessionOf place .route) j 0) .frames) (link-passed net (getD (sessionOf place .route) j 0) passed (known j h) .frames) in
-            omega (arith, schedule-frame net (sessionOf place .route) (sessionOf place .held .frames) (g .schedule) j (inside j h), f .1, getD-firsts (place .hops) j (place .frames) 0 h);
+            omega (arith, schedule-frame net (sessionOf place .route) (sessionOf place .held .frames) frames j (inside j h), f .1, getD-firsts (place .hops) j (place .held .frames) 0 h);
       }
     where
+      -- its frames are its nodes
+      frames : IsSchedule (hopsOf net [] (sessionOf place .route)) (sessionOf place .held .frames)
+      frames =
+          subst (IsSchedule (hopsOf net [] (sessionOf place .route)))
+          (sym (ap (λ (x : Holding). x .frames) (g .held) ∙ frames-over _ _ _)) (g .schedule)
+
       inside : (j : ℕ) → j < place .hops → j < length (sessionOf place .route)
       inside j h = omega (arith, h, length-firsts (place .hops) (place .route) 0)
 
