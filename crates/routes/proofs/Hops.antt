@@ -1,6 +1,6 @@
 -- The hops of a route: as the code lays them, by the words of held frames, and as a search needs them. Assumes nothing.
-use mathlib.Core.Path.{_≡_, refl, sym, _∙_}
-use mathlib.Core.Bool.{Bool, false}
+use mathlib.Core.Path.{_≡_, refl, _∙_}
+use mathlib.Core.Bool.{Bool, false, not, _&&_}
 use mathlib.Core.List.{List, [], _∷_, _++_, map, map-append}
 use Prim.Native.Nat.{ℕ, zero, suc, _+_, _<_, _≤_}
 use native.Mathlib.Nat.{not-suc-le-zero, le-of-suc-le-suc}
@@ -13,7 +13,7 @@ use Rattle.places.specs.Places.{firsts}
 use Rattle.places.proofs.Firsts.{getD-firsts, firsts-filled, firsts-more}
 use Rattle.refusals.specs.Refusals.{given, pass}
 use Rattle.words.specs.Word.{bitOf, wordOf, freeAt, freeWord}
-use Rattle.words.proofs.Words.{word-lt, bit-below, word-ext}
+use Rattle.words.proofs.Words.{word-lt, word-only, bit-below}
 use Rattle.network.specs.declared.Link.{Link}
 use Rattle.network.specs.declared.Network.{Network}
 use Rattle.network.specs.Network.{Topology, noLink, topologyOf}
@@ -60,22 +60,18 @@ module _ (links : List Link) (held route : List ℕ) where
 
 -- ---- the words of held frames say the same as the sessions
 -- of the word of held frames only the bits below K count
-free-same : (K closed a b : ℕ) → ((i : ℕ) → i < K → bitOf a i ≡ bitOf b i) → freeWord K closed a ≡ freeWord K closed b
+free-held : (K closed : ℕ) (held : ℕ → Bool) → K ≤ 64 → freeWord K closed (wordOf 64 held) ≡ wordOf K (λ i. not (bitOf closed i) && not (held i))
 unfolding freeWord freeAt
-free-same K closed a b h =
-    word-ext K (wordOf K (freeAt closed a)) (wordOf K (freeAt closed b)) (word-lt K (freeAt closed a)) (word-lt K (freeAt closed b))
-    (λ i l. bit-below K (freeAt closed a) i l ∙ rw (h i l) (sym (bit-below K (freeAt closed b) i l)))
-
-held-below : (K : ℕ) (f : ℕ → Bool) → K ≤ 64 → (i : ℕ) → i < K → bitOf (wordOf 64 f) i ≡ bitOf (wordOf K f) i
-held-below K f h i l = bit-below 64 f i (omega arith) ∙ sym (bit-below K f i l)
+free-held K closed held h =
+    word-only K (wordOf K (freeAt closed (wordOf 64 held))) (λ i. not (bitOf closed i) && not (held i)) (word-lt K (freeAt closed (wordOf 64 held)))
+    (λ i l. bit-below K (freeAt closed (wordOf 64 held)) i l ∙ rw (bit-below 64 held i (omega arith)))
 
 pub hop-held : (network : Network) (held : List ℕ) (ss : List Session) (l : ℕ) → HeldWords held ss → networkCheck (topologyOf network) ≡ given pass → l < network .count → hopFrom (getD (network .links) l noLink) (getD held l 0) ≡ hopOf (topologyOf network) ss l
 unfolding freeOf
 hop-held network held ss l w e h =
     let b : linkAt (topologyOf network) l .frames ≤ 64 = rw (stored-link network l h) (frames-bounded network l h e .1) in
     let k : Link = linkAt (topologyOf network) l in
-    rw (← stored-link network l h, w .word l (in-places network l h e))
-    (sym (hop-told k (wordOf 64 (heldIn ss l)) (freeOf (topologyOf network) ss l) (sym (free-same (k .frames) (k .closed) (wordOf 64 (heldIn ss l)) (wordOf (k .frames) (heldIn ss l)) (held-below (k .frames) (heldIn ss l) b)))))
+    rw (← stored-link network l h, w .word l (in-places network l h e), free-held (k .frames) (k .closed) (λ i. heldIn ss (slot l i)) b)
 
 map-known : (f g : ℕ → Hop) (count : ℕ) → ((l : ℕ) → l < count → f l ≡ g l) → (route : List ℕ) → anyOf (unknown count) route ≡ false → map f route ≡ map g route
 map-known f g count h [] e = refl
