@@ -1,27 +1,49 @@
--- The frames of a session in words of held frames, hop by hop. Assumes nothing.
+-- The frames of some hops in words of held frames, hop by hop. Assumes nothing.
 use mathlib.Core.Path.{_≡_, refl, sym, ap, ap₂, subst, _∙_}
-use mathlib.Core.Bool.{Bool, true, false, _&&_, _||_, or-false, or-assoc}
+use mathlib.Core.Bool.{Bool, true, false, _||_, or-false, or-assoc}
 use mathlib.Core.List.{List, [], _∷_, _++_}
-use Prim.Native.Nat.{ℕ, _+_, _<_, _≤_}
+use Prim.Native.Nat.{ℕ, zero, suc, _+_, _<_, _≤_}
+use native.Mathlib.Numerals.{add-one}
 use native.Mathlib.Omega.{arith}
 use lib.ListN.{length, getD, drop, set, length-set}
-use lib.Dec.{eqb}
 use Rattle.places.specs.Places.{firsts}
 use Rattle.places.proofs.Firsts.{length-firsts, next-first, no-first, firsts-snoc}
-use Rattle.words.specs.Word.{withBit, Words}
-use Rattle.ledger.specs.Sessions.{names}
-use Rattle.ledger.specs.Sound.{someFrame}
-use Rattle.table.specs.Table.{Within}
+use Rattle.words.specs.Word.{withBit}
+use Rattle.ledger.specs.Lists.{anyOf}
+use Rattle.ledger.specs.Sessions.{Slot, slot, sameSlot, slotsAt}
+use Rattle.ledger.proofs.Lists.{any-snoc}
+use Rattle.table.specs.Inner.{Within, Marked}
 use Rattle.table.proofs.Banks.{words-same, words-put}
 
--- a route with one hop more
-names-snoc : (rs fs : List ℕ) (r f l i : ℕ) → length rs ≡ length fs → names (rs ++ (r ∷ [])) (fs ++ (f ∷ [])) l i ≡ (names rs fs l i || (eqb r l && eqb f i))
-names-snoc [] [] r f l i e = or-false (eqb r l && eqb f i)
-names-snoc [] (g ∷ fs) r f l i e = absurd (omega (arith, e))
-names-snoc (s ∷ rs) [] r f l i e = absurd (omega (arith, e))
-names-snoc (s ∷ rs) (g ∷ fs) r f l i e =
-    ap (λ (b : Bool). (eqb s l && eqb g i) || b) (names-snoc rs fs r f l i (omega (arith, e)))
-    ∙ sym (or-assoc (eqb s l && eqb g i) (names rs fs l i) (eqb r l && eqb f i))
+-- a frame of each link, and of one link more
+slots-snoc : (ls is : List ℕ) (l i : ℕ) → length ls ≡ length is → slotsAt (ls ++ (l ∷ [])) (is ++ (i ∷ [])) ≡ slotsAt ls is ++ (slot l i ∷ [])
+slots-snoc [] [] l i e = refl
+slots-snoc [] (j ∷ is) l i e = absurd (omega (arith, e))
+slots-snoc (k ∷ ls) [] l i e = absurd (omega (arith, e))
+slots-snoc (k ∷ ls) (j ∷ is) l i e = ap (λ (t : List Slot). slot k j ∷ t) (slots-snoc ls is l i (omega (arith, e)))
+
+module _ (route frames : List ℕ) where
+  -- the frames of the first n hops
+  abbrev pub firstSlots : ℕ → List Slot
+  firstSlots n = slotsAt (firsts n route 0) (firsts n frames 0)
+
+  -- the frame of hop j
+  abbrev pub slotAt : ℕ → Slot
+  slotAt j = slot (getD route j 0) (getD frames j 0)
+
+  -- a test of the frames of one hop more
+  any-more : (p : Slot → Bool) (n : ℕ) → anyOf p (firstSlots (n + 1)) ≡ (anyOf p (firstSlots n) || p (slotAt n))
+  any-more p n =
+      ap₂ (λ (ls is : List ℕ). anyOf p (slotsAt ls is)) (firsts-snoc n route 0) (firsts-snoc n frames 0)
+      ∙ ap (anyOf p) (slots-snoc (firsts n route 0) (firsts n frames 0) (getD route n 0) (getD frames n 0) (length-firsts n route 0 ∙ sym (length-firsts n frames 0)))
+      ∙ any-snoc p (firstSlots n) (slotAt n)
+
+  -- by tests that say the same of each
+  pub any-same : (p q : Slot → Bool) (n : ℕ) → ((j : ℕ) → j < n → p (slotAt j) ≡ q (slotAt j)) → anyOf p (firstSlots n) ≡ anyOf q (firstSlots n)
+  unfolding firsts
+  any-same p q zero e = refl
+  any-same p q (suc n) e =
+      rw (← add-one n, any-more p n, any-more q n, any-same p q n (λ j h. e j (omega (arith, h))), e n (omega arith))
 
 -- ---- marking: the words have the frames of the first j hops
 module _ (hops : ℕ) (route frames : List ℕ) (old : List ℕ) where
@@ -29,15 +51,17 @@ module _ (hops : ℕ) (route frames : List ℕ) (old : List ℕ) where
     pub within : j ≤ hops
     pub arrays : Within hops route frames
     pub long : length words ≡ 32
-    pub marked : (p : ℕ → ℕ → Bool) → Words 32 old p → Words 32 words (λ l i. p l i || names (firsts j route 0) (firsts j frames 0) l i)
+    pub marked : Marked (firstSlots route frames j) old words
 
   pub no-hop : length old ≡ 32 → Within hops route frames → Marking 0 old
   unfolding firsts
-  no-hop e w₀ = record { within = omega arith; arrays = w₀; long = e; marked = λ p w. words-same 32 old p (λ l i. p l i || names (firsts 0 route 0) (firsts 0 frames 0) l i) (λ l i h g. nothing (p l i) l i) w }
-    where
-      nothing : (b : Bool) (l i : ℕ) → b ≡ (b || names (firsts 0 route 0) (firsts 0 frames 0) l i)
-      nothing true l i = refl
-      nothing false l i = refl
+  no-hop e w₀ =
+      record {
+        within = omega arith;
+        arrays = w₀;
+        long = e;
+        marked = λ p w. words-same 32 old p (λ l i. p l i || false) (λ l i h g. sym (or-false (p l i))) w;
+      }
 
   pub one-hop : (j : ℕ) (words : List ℕ) → Marking j words → j < hops
       → (w : ℕ) → w ≡ withBit 64 (getD words (getD route j 0) 0) (getD frames j 0) → Marking (j + 1) (set words (getD route j 0) w)
@@ -46,59 +70,49 @@ module _ (hops : ℕ) (route frames : List ℕ) (old : List ℕ) where
       record {
         within = omega arith;
         arrays = m .arrays;
-        long = length-set words l (withBit 64 (getD words l 0) i) ∙ m .long;
-        marked = λ p u. words-same 32 _ (λ b k. (p b k || names rs fs b k) || (eqb l b && eqb i k)) (λ b k. p b k || names (firsts (j + 1) route 0) (firsts (j + 1) frames 0) b k)
-            (λ b k hb hk. joined (p b k) b k) (words-put 32 words (λ b k. p b k || names rs fs b k) (m .marked p u) l i (m .arrays .link j h));
+        long = length-set words (getD route j 0) (withBit 64 (getD words (getD route j 0) 0) (getD frames j 0)) ∙ m .long;
+        marked = λ p u.
+            words-same 32 _ (λ l i. (p l i || before l i) || sameSlot (slot l i) (slotAt route frames j)) _ (λ l i hl hi. joined (p l i) l i)
+            (words-put 32 words (λ l i. p l i || before l i) (m .marked p u) (getD route j 0) (getD frames j 0) (m .arrays .link j h));
       }
     where
-      l : ℕ
-      l = getD route j 0
+      before : ℕ → ℕ → Bool
+      before l i = anyOf (sameSlot (slot l i)) (firstSlots route frames j)
 
-      i : ℕ
-      i = getD frames j 0
+      joined : (b : Bool) (l i : ℕ)
+          → ((b || before l i) || sameSlot (slot l i) (slotAt route frames j)) ≡ (b || anyOf (sameSlot (slot l i)) (firstSlots route frames (j + 1)))
+      joined b l i =
+          or-assoc b (before l i) (sameSlot (slot l i) (slotAt route frames j))
+          ∙ ap (λ (c : Bool). b || c) (sym (any-more route frames (sameSlot (slot l i)) j))
 
-      rs : List ℕ
-      rs = firsts j route 0
+  pub all-hops : (j : ℕ) (words : List ℕ) → Marking j words → hops ≤ j → Marked (firstSlots route frames hops) old words
+  all-hops j words m h = subst (λ (n : ℕ). Marked (firstSlots route frames n) old words) {x = j} {y = hops} (omega (arith, m .within)) (m .marked)
 
-      fs : List ℕ
-      fs = firsts j frames 0
+-- ---- meeting: whether the frame of some hop passes a test, from hop j on
+module _ (p : Slot → Bool) (n : ℕ) (route frames : List ℕ) where
+  abbrev after : ℕ → Bool
+  after j = anyOf p (slotsAt (drop j (firsts n route 0)) (drop j (firsts n frames 0)))
 
-      grown : (b k : ℕ) → names (firsts (j + 1) route 0) (firsts (j + 1) frames 0) b k ≡ (names rs fs b k || (eqb l b && eqb i k))
-      grown b k =
-          ap₂ (λ (x y : List ℕ). names x y b k) (firsts-snoc j route 0) (firsts-snoc j frames 0)
-          ∙ names-snoc rs fs l i b k (length-firsts j route 0 ∙ sym (length-firsts j frames 0))
-
-      joined : (x : Bool) (b k : ℕ) → ((x || names rs fs b k) || (eqb l b && eqb i k)) ≡ (x || names (firsts (j + 1) route 0) (firsts (j + 1) frames 0) b k)
-      joined x b k = or-assoc x (names rs fs b k) (eqb l b && eqb i k) ∙ ap (λ (y : Bool). x || y) (sym (grown b k))
-
-  pub all-hops : (j : ℕ) (words : List ℕ) → Marking j words → hops ≤ j
-      → (p : ℕ → ℕ → Bool) → Words 32 old p → Words 32 words (λ l i. p l i || names (firsts hops route 0) (firsts hops frames 0) l i)
-  all-hops j words m h =
-      subst (λ (n : ℕ). (p : ℕ → ℕ → Bool) → Words 32 old p → Words 32 words (λ l i. p l i || names (firsts n route 0) (firsts n frames 0) l i))
-      {x = j} {y = hops} (omega (arith, m .within)) (m .marked)
-
--- ---- meeting: whether some frame of a session passes a test, from hop j on
-module _ (p : ℕ → ℕ → Bool) (n : ℕ) (route frames : List ℕ) where
   pub record Unmet (j : ℕ) : Type 0 where
     pub within : j ≤ n
-    pub same : someFrame p (firsts n route 0) (firsts n frames 0) ≡ someFrame p (drop j (firsts n route 0)) (drop j (firsts n frames 0))
+    pub same : anyOf p (firstSlots route frames n) ≡ after j
 
   pub unmet-yet : Unmet 0
   unmet-yet = record { within = omega arith; same = refl }
 
   module _ (j : ℕ) (u : Unmet j) where
-    module _ (h : j < n) (b : Bool) (eb : b ≡ p (getD route j 0) (getD frames j 0)) where
-      split : someFrame p (firsts n route 0) (firsts n frames 0) ≡ (b || someFrame p (drop (j + 1) (firsts n route 0)) (drop (j + 1) (firsts n frames 0)))
-      split =
+    module _ (h : j < n) (b : Bool) (eb : b ≡ p (slotAt route frames j)) where
+      split : (c : Bool) → b ≡ c → anyOf p (firstSlots route frames n) ≡ (c || after (j + 1))
+      split c ec =
           u .same
-          ∙ ap₂ (someFrame p) (next-first n j route 0 h) (next-first n j frames 0 h)
-          ∙ ap (λ (x : Bool). x || someFrame p (drop (j + 1) (firsts n route 0)) (drop (j + 1) (firsts n frames 0))) (sym eb)
+          ∙ ap₂ (λ (ls is : List ℕ). anyOf p (slotsAt ls is)) (next-first n j route 0 h) (next-first n j frames 0 h)
+          ∙ ap (λ (x : Bool). x || after (j + 1)) (sym eb ∙ ec)
 
-      pub met : b ≡ true → true ≡ someFrame p (firsts n route 0) (firsts n frames 0)
-      met e = sym (split ∙ ap (λ (x : Bool). x || someFrame p (drop (j + 1) (firsts n route 0)) (drop (j + 1) (firsts n frames 0))) e)
+      pub met : b ≡ true → true ≡ anyOf p (firstSlots route frames n)
+      met e = sym (split true e)
 
       pub unmet : b ≡ false → Unmet (j + 1)
-      unmet e = record { within = omega arith; same = split ∙ ap (λ (x : Bool). x || someFrame p (drop (j + 1) (firsts n route 0)) (drop (j + 1) (firsts n frames 0))) e }
+      unmet e = record { within = omega arith; same = split false e }
 
-    pub unmet-all : n ≤ j → false ≡ someFrame p (firsts n route 0) (firsts n frames 0)
-    unmet-all h = sym (u .same ∙ ap (λ (x : List ℕ). someFrame p x (drop j (firsts n frames 0))) (no-first n j route 0 h))
+    pub unmet-all : n ≤ j → false ≡ anyOf p (firstSlots route frames n)
+    unmet-all h = sym (u .same ∙ ap (λ (ls : List ℕ). anyOf p (slotsAt ls (drop j (firsts n frames 0)))) (no-first n j route 0 h))

@@ -7,7 +7,7 @@ use forwarding::Held;
 ghost use mathlib.Core.Path.{_≡_};
 ghost use mathlib.Core.List.{[], _∷_, _++_};
 ghost use Prim.Native.Nat.{_<_, _≤_};
-ghost use lib.ListN.{length, getD};
+ghost use lib.ListN.{length};
 ghost use Rattle.places.specs.Places.{firsts};
 ghost use Rattle.ledger.specs.Lists.{anyOf, keep};
 ghost use Rattle.ledger.specs.Held.{noHolding, holdingOf, heldPlaces};

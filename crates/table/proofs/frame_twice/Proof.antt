@@ -5,15 +5,15 @@ use borrow.Author.Needs.{needs}
 use mathlib.Core.Path.{_∙_}
 use Prim.Native.Nat.{ℕ, _-_, _<_}
 use lib.ListN.{getD}
-use Rattle.ledger.specs.Sessions.{heldIn}
-use Rattle.ledger.specs.Sound.{shareFrame}
-use Rattle.words.specs.Word.{Words}
-use Rattle.table.specs.Table.{noPlace, inPlaces, PlaceWithin}
+use Rattle.ledger.specs.Inner.{HeldWords}
+use Rattle.ledger.specs.Sound.{shareSlot}
+use Rattle.table.specs.Table.{noPlace, inPlaces}
+use Rattle.table.specs.Inner.{PlaceWithin}
 use Rattle.table.proofs.Holding.{held-none, held-more, met-shares, frames-rule}
 use Rattle.table.proofs.Twice.{NoTwo, none-yet, two-found, two-missed, two-none}
 
 abbrev Inv-loop : tie.InvT-loop
-Inv-loop table live words₀ i₀ words i = ((k : ℕ) → k < live → PlaceWithin (getD (table .places) k noPlace)) × Words 32 words (heldIn (inPlaces i (table .places))) × NoTwo shareFrame (table .places) live i
+Inv-loop table live words₀ i₀ words i = ((k : ℕ) → k < live → PlaceWithin (getD (table .places) k noPlace)) × HeldWords words (inPlaces i (table .places)) × NoTwo shareSlot (table .places) live i
 
 abbrev μ-loop : tie.MeasureT-loop
 μ-loop table live words₀ i₀ words i = live - i

@@ -5,13 +5,13 @@ use borrow.Author.Needs.{needs}
 use Prim.Native.Nat.{ℕ, _-_, _<_, _≤_}
 use native.Mathlib.Omega.{arith}
 use lib.ListN.{getD}
-use Rattle.ledger.specs.Sessions.{heldIn}
-use Rattle.words.specs.Word.{Words}
-use Rattle.table.specs.Table.{noPlace, inPlaces, PlaceWithin}
+use Rattle.ledger.specs.Inner.{HeldWords}
+use Rattle.table.specs.Table.{noPlace, inPlaces}
+use Rattle.table.specs.Inner.{PlaceWithin}
 use Rattle.table.proofs.Holding.{held-none, held-more, held-all}
 
 abbrev Inv-loop : tie.InvT-loop
-Inv-loop table live words₀ i₀ words i = (i ≤ live) × ((k : ℕ) → k < live → PlaceWithin (getD (table .places) k noPlace)) × Words 32 words (heldIn (inPlaces i (table .places)))
+Inv-loop table live words₀ i₀ words i = (i ≤ live) × ((k : ℕ) → k < live → PlaceWithin (getD (table .places) k noPlace)) × HeldWords words (inPlaces i (table .places))
 
 abbrev μ-loop : tie.MeasureT-loop
 μ-loop table live words₀ i₀ words i = live - i

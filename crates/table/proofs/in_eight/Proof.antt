@@ -2,14 +2,12 @@
 use Rattle.table.proofs.in_eight.Statement.{statement}
 use Rattle.table.proofs.in_eight.Tie as tie
 use borrow.Author.Needs.{needs}
-use mathlib.Core.Path.{_≡_, ap, _∙_}
-use mathlib.Core.List.{List}
-use Prim.Native.Nat.{ℕ, _-_, _≤_}
+use mathlib.Core.Path.{_≡_}
+use Prim.Native.Nat.{_-_, _≤_}
 use lib.ListN.{length}
 use native.Mathlib.Omega.{arith}
 use Rattle.places.specs.Places.{firsts}
-use Rattle.places.proofs.Firsts.{firsts-all}
-use Rattle.table.proofs.Eight.{none-cleared, one-cleared, all-cleared}
+use Rattle.table.proofs.Eight.{none-filled, one-filled, all-filled}
 
 abbrev Inv-loop : tie.InvT-loop
 Inv-loop route out₀ j₀ out j = (j ≤ length route) × (length route ≤ 8) × (out ≡ firsts 8 (firsts j route 0) 0)
@@ -18,7 +16,7 @@ abbrev μ-loop : tie.MeasureT-loop
 μ-loop route out₀ j₀ out j = length route - j
 
 loop-holds : tie.Need-loop-holds Inv-loop μ-loop
-loop-holds c = (omega arith, c .pre, none-cleared _)
+loop-holds c = (omega arith, c .pre, none-filled _)
 
 shared-slice-read-out : tie.Need-shared-slice-read-out Inv-loop μ-loop
 shared-slice-read-out c = search needs
@@ -33,10 +31,10 @@ loop-less : tie.Need-loop-less Inv-loop μ-loop
 loop-less c = search needs
 
 loop-again : tie.Need-loop-again Inv-loop μ-loop
-loop-again c = (omega arith, c .before .before .loop .inv .1, one-cleared _ _ _ (c .before .before .loop .inv .2) (omega (arith, c .before .before .loop .inv .1, c .before .loop-test .taken)))
+loop-again c = (omega arith, c .before .before .loop .inv .1, one-filled _ _ _ (c .before .before .loop .inv .2) (omega (arith, c .before .before .loop .inv .1, c .before .loop-test .taken)))
 
 returns : tie.Need-returns Inv-loop μ-loop
-returns c = all-cleared _ _ _ _ (c .before .loop .inv .2) (omega (arith, c .before .loop .inv .0, c .loop-test .left)) ∙ ap (λ (l : List ℕ). firsts 8 l 0) (firsts-all _ 0)
+returns c = all-filled _ _ _ (c .before .loop .inv .2) (omega (arith, c .before .loop .inv .0, c .loop-test .left))
 
 pub in-eight-spec : {M : Type 1} → statement M
 in-eight-spec =

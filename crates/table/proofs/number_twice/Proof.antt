@@ -2,12 +2,10 @@
 use Rattle.table.proofs.number_twice.Statement.{statement}
 use Rattle.table.proofs.number_twice.Tie as tie
 use borrow.Author.Needs.{needs}
+use mathlib.Core.Path.{refl, _∙_}
 use Prim.Native.Nat.{_-_, _≤_}
 use Rattle.ledger.specs.Sound.{sameNumber}
 use Rattle.words.specs.Word.{Words}
-use Rattle.table.proofs.Numbers.{seenIn, none-seen}
-use Rattle.table.proofs.Twice.{NoTwo, none-yet}
-use mathlib.Core.Path.{refl, _∙_}
 use Rattle.table.proofs.Twice.{NoTwo, none-yet, two-found, two-missed, two-none}
 use Rattle.table.proofs.Numbers.{seenIn, none-seen, number-seen, number-put, numbers-rule}
 

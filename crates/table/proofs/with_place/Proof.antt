@@ -2,7 +2,6 @@
 use borrow.Author.Needs.{needs}
 use Rattle.table.proofs.with_place.Statement.{statement}
 use Rattle.table.proofs.with_place.Tie as tie
-use Rattle.table.proofs.Live.{in-set}
 use native.Mathlib.Omega.{arith}
 use Rattle.table.proofs.Live.{in-set, mapped-length}
 

@@ -4,11 +4,10 @@ use Rattle.table.proofs.without.Tie as tie
 use borrow.Author.Needs.{needs}
 use mathlib.Core.Path.{sym, subst₂}
 use mathlib.Core.Logic.{⊎-elim}
-use Prim.Native.Nat.{ℕ, _-_, _≤_}
+use Prim.Native.Nat.{ℕ, _-_, _+_, _≤_}
 use Rattle.table.specs.declared.Table.{Table}
 use Rattle.table.proofs.Live.{mapped-length}
 use Rattle.table.proofs.Tables.{Left, none-left, kept-one, left-one, all-left}
-use Prim.Native.Nat.{ℕ, _-_, _+_, _≤_}
 
 abbrev Inv-loop : tie.InvT-loop
 Inv-loop number table live next₀ i₀ kept₀ next i kept = (live ≤ 96) × Left number live (table .places) i kept (next .places)

@@ -1,0 +1,26 @@
+-- `table::cleared` meets its contract. Assumes nothing.
+use Rattle.table.proofs.cleared.Statement.{statement}
+use Rattle.table.proofs.cleared.Tie as tie
+use mathlib.Core.Path.{sym}
+use native.Mathlib.Omega.{arith}
+use lib.Seq.{length-take-le}
+use Rattle.table.proofs.Live.{mapped-length}
+use Rattle.table.proofs.Eight.{part-filled}
+
+-- the first n places are there
+array-share-prefix-all : tie.Need-array-share-prefix-all
+array-share-prefix-all c = let s = c .before in
+    omega (arith, mapped-length 8 _ (s .args .held .frames) (s .good .0 .1 .1 .0 .1 .0 .1), s .pre)
+
+slice-aggregate-in-eight : tie.Need-slice-aggregate-in-eight
+slice-aggregate-in-eight c = sym (length-take-le _ _ (array-share-prefix-all (c .before)))
+
+in-eight-requires : tie.Need-in-eight-requires
+in-eight-requires c κs = let s = c .before .before in
+    omega (arith, length-take-le (s .args .n) (s .args .held .frames) (array-share-prefix-all (c .before)), s .pre)
+
+returns : tie.Need-returns
+returns c = rw (part-filled _ _ _ (array-share-prefix-all (c .before .before .before)) (c .before .in-eight .ensures))
+
+pub cleared-spec : {M : Type 1} → statement M
+cleared-spec = tie.close (tie.spec array-share-prefix-all slice-aggregate-in-eight in-eight-requires returns)
