@@ -1,5 +1,5 @@
 pub mod Within
 pub mod Replies
 pub mod Searches
-pub mod Calls
+pub mod Releases
 pub mod SetUps

@@ -2,12 +2,13 @@
 use mathlib.Core.Path.{_≡_, refl, sym, ap, ap₂, subst, _∙_}
 use mathlib.Core.Bool.{Bool, true, false}
 use mathlib.Core.List.{List, [], _∷_, _++_}
-use Prim.Native.Nat.{ℕ, _<_}
+use Prim.Native.Nat.{ℕ, _<_, _≤_}
 use native.Mathlib.Omega.{arith}
 use lib.ListN.{length}
 use lib.Dec.{leb}
 use borrow.Author.Tests.{leb-false}
 use Rattle.places.specs.Places.{firsts}
+use Rattle.places.proofs.Firsts.{firsts-back}
 use Rattle.trellis.specs.Answer.{found, blocked, nodesOf}
 use Rattle.trellis.specs.Answer as trellis
 use Rattle.refusals.specs.Refusals.{refusalNumber, refusalCount, given, pass, ruling}
@@ -38,7 +39,7 @@ use Rattle.ledger.proofs.Refused.{not-eighteen}
 use Rattle.ledger.proofs.Scheduled.{scheduled, scheduled-back}
 use Rattle.routes.proofs.Routes.{route-long}
 use Rattle.table.specs.declared.Table.{Table}
-use Rattle.table.specs.Table.{liveOf}
+use Rattle.table.specs.Table.{sessionOf, liveOf}
 use Rattle.table.proofs.Live.{in-length}
 use Rattle.state.specs.declared.State.{State}
 use Rattle.state.specs.declared.Quoted.{Quoted}
@@ -74,6 +75,14 @@ full-told table b e = e ∙ ap (leb 96) (sym (in-length (table .live) (table .pl
 -- 17 passed: a place is left
 pub room-left : (table : Table) → full (liveOf table) ≡ false → table .live < 96
 room-left table e = leb-false 96 (table .live) (full-told table (leb 96 (table .live)) refl ∙ e)
+
+-- a place reads as the session that was stored in it
+pub stored-route : (ss : List Session) (number : ℕ) (route eight : List ℕ) (held : Held) → eight ≡ firsts 8 route 0 → length route ≤ 8
+    → ss ++ (sessionOf (record { number = number; hops = length route; route = eight; held = held }) ∷ [])
+    ≡ ss ++ (record { number = number; route = route; held = holdingOf (length route) held } ∷ [])
+stored-route ss number route eight held e few =
+    ap (λ (links : List ℕ). ss ++ (record { number = number; route = links; held = holdingOf (length route) held } ∷ []))
+    (ap (λ (l : List ℕ). firsts (length route) l 0) e ∙ firsts-back 8 route 0 few)
 
 -- ---- what a search found, as an answer
 module _ (net : Topology) (ss : List Session) (route : List ℕ) (f : Finding) (s : Searched net ss route f) where

@@ -3,7 +3,7 @@ use borrow.Author.Needs.{needs}
 use Rattle.state.proofs.is_live.Statement.{statement}
 use Rattle.state.proofs.is_live.Tie as tie
 use mathlib.Core.Path.{refl}
-use Rattle.state.proofs.Calls.{live-told}
+use Rattle.state.proofs.Releases.{live-told}
 
 place-of-requires : tie.Need-place-of-requires
 place-of-requires c κs = search needs

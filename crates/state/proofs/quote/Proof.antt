@@ -2,14 +2,13 @@
 use borrow.Author.Needs.{needs}
 use Rattle.state.proofs.quote.Statement.{statement}
 use Rattle.state.proofs.quote.Tie as tie
-use Rattle.ledger.proofs.Intact.{intact-is}
-use Rattle.state.proofs.Within.{all-within}
-use Rattle.state.proofs.SetUps.{quote-answered}
 use mathlib.Core.Path.{sym, ap, _∙_}
 use Rattle.refusals.specs.Refusals.{ruling}
 use Rattle.ledger.specs.Calls.{Quote}
+use Rattle.ledger.proofs.Intact.{intact-is}
+use Rattle.state.proofs.Within.{all-within}
 use Rattle.state.proofs.Replies.{quote-check}
-use Rattle.state.proofs.SetUps.{answer-refused, quote-answered}
+use Rattle.state.proofs.SetUps.{quotes-refused, quotes-blocked, quotes-found, quote-granted}
 
 check-route-requires : tie.Need-check-route-requires
 check-route-requires c κs = intact-is _ (c .before .pre) .network
@@ -21,19 +20,34 @@ refused-requires : tie.Need-refused-requires
 refused-requires c κs = search needs
 
 returns : tie.Need-returns
-returns c = answer-refused (c .before .before .before .before .before .before .args .st) (c .before .before .before .before .before .before .pre) (Quote _) _ (c .before .before .before .before .check-route .ensures ∙ sym (quote-check _ _ _)) _ (c .before .before .refusal .given .1) _ _ (c .refused .ensures)
+returns c = let start = c .before .before .before .before .before .before in
+    quotes-refused (start .args .st) (start .pre) (Quote _) _ (c .before .before .before .before .check-route .ensures ∙ sym (quote-check _ _ _)) _ (c .before .before .refusal .given .1) _ (c .refused .ensures)
 
 enum-told : tie.Need-enum-told
 enum-told c = search needs
 
 least-requires : tie.Need-least-requires
-least-requires c κs = (intact-is _ (c .before .before .before .before .pre) .network, sym (c .before .before .check-route .ensures) ∙ ap ruling (c .enum-told .given .1), all-within (c .before .before .before .before .args .st) (c .before .before .before .before .pre))
+least-requires c κs = let start = c .before .before .before .before in
+    (intact-is _ (start .pre) .network, sym (c .before .before .check-route .ensures) ∙ ap ruling (c .enum-told .given .1), all-within (start .args .st) (start .pre))
 
-answer-of-requires : tie.Need-answer-of-requires
-answer-of-requires c κs = search needs
+enum-known-found : tie.Need-enum-known-found
+enum-known-found c = search needs
+
+enum-told-2 : tie.Need-enum-told-2
+enum-told-2 c = search needs
+
+refused-requires-2 : tie.Need-refused-requires-2
+refused-requires-2 c κs = search needs
 
 returns-2 : tie.Need-returns-2
-returns-2 c = quote-answered (c .before .before .before .before .before .before .args .st) (c .before .before .before .before .before .before .pre) _ _ (c .before .least .ensures) _ (c .answer-of .ensures) (sym (c .before .before .before .before .check-route .ensures) ∙ ap ruling (c .before .before .enum-told .given .1))
+returns-2 c = let start = c .before .before .before .before .before .before .before .before in
+    let passed = sym (c .before .before .before .before .before .before .check-route .ensures) ∙ ap ruling (c .before .before .before .before .enum-told .given .1) in
+    quotes-blocked (start .args .st) (start .pre) (Quote _) _ _ (c .before .before .before .least .ensures) (quote-granted (start .args .st) (start .pre) _ passed) (c .before .enum-told2 .given .1) _ (c .refused2 .ensures)
+
+returns-3 : tie.Need-returns-3
+returns-3 c = let start = c .before .before .before .before .before .before .before .before .before in
+    let passed = sym (c .before .before .before .before .before .before .before .check-route .ensures) ∙ ap ruling (c .before .before .before .before .before .enum-told .given .1) in
+    quotes-found (start .args .st) (start .pre) (Quote _) _ _ (c .before .before .before .before .least .ensures) (quote-granted (start .args .st) (start .pre) _ passed) _ (c .before .before .found .given .1)
 
 pub quote-spec : {M : Type 1} → statement M
 quote-spec =
@@ -45,5 +59,8 @@ quote-spec =
     returns
     enum-told
     least-requires
-    answer-of-requires
-    returns-2)
+    enum-known-found
+    enum-told-2
+    refused-requires-2
+    returns-2
+    returns-3)

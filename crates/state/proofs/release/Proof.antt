@@ -4,7 +4,7 @@ use Rattle.state.proofs.release.Tie as tie
 use mathlib.Core.Path.{refl, sym, _∙_}
 use borrow.Author.Tests.{not-true, not-false}
 use Rattle.state.proofs.Within.{few-live}
-use Rattle.state.proofs.Calls.{release-refused, release-passed}
+use Rattle.state.proofs.Releases.{release-refused, release-passed}
 
 is-live-requires : tie.Need-is-live-requires
 is-live-requires c κs = few-live (c .before .args .st) (c .before .pre)
