@@ -58,6 +58,11 @@ pub delay-over : (hops : List Hop) (delay : ℕ) (nodes : List ℕ) → heldOver
 unfolding heldOver
 delay-over hops delay nodes = refl
 
+-- its nodes are its frames
+pub frames-in : (hops : List Hop) (held : Holding) → nodesIn hops held ≡ held .frames
+unfolding nodesIn
+frames-in hops held = refl
+
 -- and in eight places
 pub places-over : (hops : List Hop) (delay : Delay) (nodes frames : List ℕ) → frames ≡ firsts 8 nodes 0
     → _≡_ {A = Held} (record { frames = frames; delay = delay }) (heldPlaces (heldOver hops (delay .0) nodes))

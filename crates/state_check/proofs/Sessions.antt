@@ -23,10 +23,13 @@ use Rattle.forwarding.specs.declared.Delay.{Delay}
 use Rattle.forwarding.specs.Hops.{noHop, Ready}
 use Rattle.forwarding.specs.Schedule.{isSchedule, scheduleDelay}
 use Rattle.ledger.specs.Lists.{allOf}
-use Rattle.ledger.specs.Sessions.{HeldWords, hopsOf}
+use Rattle.ledger.specs.Held.{Holding, nodesIn, holdingOf}
+use Rattle.ledger.specs.Sessions.{hopsOf}
+use Rattle.ledger.specs.Inner.{HeldWords}
 use Rattle.ledger.specs.Routes.{badLength, routeCheck}
-use Rattle.ledger.specs.Sound.{passes, goodSession}
+use Rattle.ledger.specs.Sound.{passes, goodHeld, goodSession}
 use Rattle.ledger.proofs.Lists.{eqb-flip}
+use Rattle.ledger.proofs.Held.{frames-in, same-held}
 use Rattle.routes.specs.Hops.{hopsFrom, delayIf, walkedDelay}
 use Rattle.routes.specs.declared.Walked.{Walked}
 use Rattle.routes.specs.declared.Walked.the-variants.{Delayed, Unfit}
@@ -84,36 +87,41 @@ module _ (network : Network) (place : Place) where
               ∙ ap (hopsOf (topologyOf network) []) same-route
 
           -- what a walk over the session's frames tells of it
-          module _ (w : Walked) (ew : walkedDelay w ≡ delayIf (network .ticks) (firsts (place .hops) laid noHop) (firsts (place .hops) (place .frames) 0)) where
-            walked-told : walkedDelay w ≡ delayIf (topologyOf network .ticks) (hopsOf (topologyOf network) [] (firsts (place .hops) (place .route) 0)) (firsts (place .hops) (place .frames) 0)
+          module _ (w : Walked) (ew : walkedDelay w ≡ delayIf (network .ticks) (firsts (place .hops) laid noHop) (firsts (place .hops) (place .held .frames) 0)) where
+            hops : List Hop
+            hops = hopsOf (topologyOf network) [] (sessionOf place .route)
+
+            walked-told : walkedDelay w ≡ delayIf (topologyOf network .ticks) hops (sessionOf place .held .frames)
+            unfolding hops
             walked-told =
                 ew
-                ∙ ap (λ (T : ℕ). delayIf T (firsts (place .hops) laid noHop) (firsts (place .hops) (place .frames) 0)) (sym (ticks-told network))
-                ∙ ap (λ (hs : List Hop). delayIf (topologyOf network .ticks) hs (firsts (place .hops) (place .frames) 0)) walked-hops
+                ∙ ap (λ (T : ℕ). delayIf T (firsts (place .hops) laid noHop) (firsts (place .hops) (place .held .frames) 0)) (sym (ticks-told network))
+                ∙ ap (λ (hs : List Hop). delayIf (topologyOf network .ticks) hs (firsts (place .hops) (place .held .frames) 0)) walked-hops
 
             is-schedule : Bool
-            is-schedule = isSchedule (hopsOf (topologyOf network) [] (firsts (place .hops) (place .route) 0)) (firsts (place .hops) (place .frames) 0)
+            is-schedule = isSchedule hops (sessionOf place .held .frames)
 
             its-delay : ℕ
-            its-delay = scheduleDelay (topologyOf network .ticks) (hopsOf (topologyOf network) [] (firsts (place .hops) (place .route) 0)) (firsts (place .hops) (place .frames) 0)
+            its-delay = scheduleDelay (topologyOf network .ticks) hops (sessionOf place .held .frames)
 
-            by-walk : (b : Bool) (x : ℕ) → passes (routeCheck (topologyOf network) (sessionOf place .route)) && (b && eqb (place .delay .0) x) ≡ (b && eqb (place .delay .0) x)
-            by-walk b x = ap (λ (r : Ruling). passes r && (b && eqb (place .delay .0) x)) (told (given pass) (ap ruling e))
+            -- where the route stands, a session is good exactly when what it holds is
+            by-walk : goodSession (topologyOf network) (sessionOf place) ≡ (is-schedule && eqb (place .held .delay .0) its-delay)
+            unfolding goodSession goodHeld is-schedule its-delay hops
+            by-walk = rw (told (given pass) (ap ruling e), same-held hops (sessionOf place .held) _, frames-in hops (sessionOf place .held))
 
-            pub session-walked : (d : Delay) → w ≡ Delayed d → eqb (d .0) (place .delay .0) ≡ goodSession (topologyOf network) (sessionOf place)
-            unfolding goodSession is-schedule its-delay
-            session-walked d q =
-                sym (by-walk is-schedule its-delay ∙ fits is-schedule its-delay (sym walked-told ∙ ap walkedDelay q))
+            pub session-walked : (d : Delay) → w ≡ Delayed d → eqb (d .0) (place .held .delay .0) ≡ goodSession (topologyOf network) (sessionOf place)
+            unfolding is-schedule its-delay
+            session-walked d q = sym (by-walk ∙ fits is-schedule its-delay (sym walked-told ∙ ap walkedDelay q))
               where
-                fits : (b : Bool) (x : ℕ) → cond b (some x) none ≡ some (d .0) → (b && eqb (place .delay .0) x) ≡ eqb (d .0) (place .delay .0)
-                fits true x k = let z : x ≡ d .0 = cc in ap (eqb (place .delay .0)) z ∙ eqb-flip (place .delay .0) (d .0)
+                fits : (b : Bool) (x : ℕ) → cond b (some x) none ≡ some (d .0) → (b && eqb (place .held .delay .0) x) ≡ eqb (d .0) (place .held .delay .0)
+                fits true x k = let z : x ≡ d .0 = cc in ap (eqb (place .held .delay .0)) z ∙ eqb-flip (place .held .delay .0) (d .0)
                 fits false x k = cc
 
             pub session-unfit : w ≡ Unfit → false ≡ goodSession (topologyOf network) (sessionOf place)
-            unfolding goodSession is-schedule its-delay
-            session-unfit q = sym (by-walk is-schedule its-delay ∙ unfit is-schedule its-delay (sym walked-told ∙ ap walkedDelay q))
+            unfolding is-schedule its-delay
+            session-unfit q = sym (by-walk ∙ unfit is-schedule its-delay (sym walked-told ∙ ap walkedDelay q))
               where
-                unfit : (b : Bool) (x : ℕ) → cond b (some x) none ≡ none → (b && eqb (place .delay .0) x) ≡ false
+                unfit : (b : Bool) (x : ℕ) → cond b (some x) none ≡ none → (b && eqb (place .held .delay .0) x) ≡ false
                 unfit true x k = cc
                 unfit false x k = refl
 

@@ -47,8 +47,10 @@ route-hops-requires c κs = let long : length (c .before .before .before .before
     (c .before .before .before .before .before .before .before .before .pre, route-stands _ (c .before .before .before .before .before .before .before .before .args .place) (c .before .before .before .before .before .before .before .if1 .left) long _ (c .before .before .before .before .check-route .ensures) (c .before .before .enum-told2 .given .1))
 
 walk-requires : tie.Need-walk-requires
-walk-requires c κs = let long : length (c .before .before .before .before .before .before .before .before .before .before .before .args .place .route) ≡ 8 = search needs in
-    walk-ready _ (c .before .before .before .before .before .before .before .before .before .before .before .args .place) (c .before .before .before .before .before .before .before .before .before .before .if1 .left) long _ (c .before .before .before .before .before .before .before .check-route .ensures) (c .before .before .before .before .before .enum-told2 .given .1) (c .before .before .before .before .before .before .before .before .before .before .before .pre) _ (c .before .before .route-hops .ensures)
+walk-requires c κs = let laid = c .before .before .before in
+    let start = laid .before .before .before .before .before .before .before .before .before in
+    let long : length (laid .before .before .before .before .before .before .before .before .before .args .place .route) ≡ 8 = search needs in
+    walk-ready _ (start .args .place) (laid .before .before .before .before .before .before .before .before .if1 .left) long _ (laid .before .before .before .before .before .check-route .ensures) (laid .before .before .before .enum-told2 .given .1) (start .pre) _ (laid .route-hops .ensures)
 
 enum-known-walked : tie.Need-enum-known-walked
 enum-known-walked c = search needs
@@ -57,12 +59,16 @@ enum-told-3 : tie.Need-enum-told-3
 enum-told-3 c = search needs
 
 returns-3 : tie.Need-returns-3
-returns-3 c = let long : length (c .before .before .before .before .before .before .before .before .before .before .before .before .before .before .before .before .before .args .place .route) ≡ 8 = search needs in
-    session-walked _ (c .before .before .before .before .before .before .before .before .before .before .before .before .before .before .before .before .before .args .place) (c .before .before .before .before .before .before .before .before .before .before .before .before .before .before .before .before .if1 .left) long _ (c .before .before .before .before .before .before .before .before .before .before .before .before .before .check-route .ensures) (c .before .before .before .before .before .before .before .before .before .before .before .enum-told2 .given .1) (c .before .before .before .before .before .before .before .before .before .before .before .before .before .before .before .before .before .pre) _ (c .before .before .before .before .before .before .before .before .route-hops .ensures) _ (c .before .before .before .before .before .walk .ensures) _ (c .before .before .before .walked .given .1)
+returns-3 c = let laid = c .before .before .before .before .before .before .before .before .before in
+    let start = laid .before .before .before .before .before .before .before .before .before in
+    let long : length (laid .before .before .before .before .before .before .before .before .before .args .place .route) ≡ 8 = search needs in
+    session-walked _ (start .args .place) (laid .before .before .before .before .before .before .before .before .if1 .left) long _ (laid .before .before .before .before .before .check-route .ensures) (laid .before .before .before .enum-told2 .given .1) (start .pre) _ (laid .route-hops .ensures) _ (c .before .before .before .before .before .walk .ensures) _ (c .before .before .before .walked .given .1)
 
 returns-4 : tie.Need-returns-4
-returns-4 c = let long : length (c .before .before .before .before .before .before .before .before .before .before .before .before .before .before .args .place .route) ≡ 8 = search needs in
-    session-unfit _ (c .before .before .before .before .before .before .before .before .before .before .before .before .before .before .args .place) (c .before .before .before .before .before .before .before .before .before .before .before .before .before .if1 .left) long _ (c .before .before .before .before .before .before .before .before .before .before .check-route .ensures) (c .before .before .before .before .before .before .before .before .enum-told2 .given .1) (c .before .before .before .before .before .before .before .before .before .before .before .before .before .before .pre) _ (c .before .before .before .before .before .route-hops .ensures) _ (c .before .before .walk .ensures) (c .enum-told3 .given .1)
+returns-4 c = let laid = c .before .before .before .before .before .before in
+    let start = laid .before .before .before .before .before .before .before .before .before in
+    let long : length (laid .before .before .before .before .before .before .before .before .before .args .place .route) ≡ 8 = search needs in
+    session-unfit _ (start .args .place) (laid .before .before .before .before .before .before .before .before .if1 .left) long _ (laid .before .before .before .before .before .check-route .ensures) (laid .before .before .before .enum-told2 .given .1) (start .pre) _ (laid .route-hops .ensures) _ (c .before .before .walk .ensures) (c .enum-told3 .given .1)
 
 pub good-session-spec : {M : Type 1} → statement M
 good-session-spec =
