@@ -20,7 +20,7 @@ in-eight-requires c κs = let s = c .before .before in
     omega (arith, length-take-le (s .args .n) (s .args .held .frames) (array-share-prefix-all (c .before)), s .pre)
 
 returns : tie.Need-returns
-returns c = rw (part-filled _ _ _ (array-share-prefix-all (c .before .before .before)) (c .before .in-eight .ensures))
+returns c = rw (← part-filled _ _ _ (array-share-prefix-all (c .before .before .before)) (c .before .in-eight .ensures))
 
 pub cleared-spec : {M : Type 1} → statement M
 cleared-spec = tie.close (tie.spec array-share-prefix-all slice-aggregate-in-eight in-eight-requires returns)
