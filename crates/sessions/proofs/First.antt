@@ -8,15 +8,14 @@ use Rattle.refusals.specs.declared.Refusal.{Refusal}
 use Rattle.refusals.specs.declared.Verdict.the-variants as verdict
 use Rattle.ledger.specs.Sessions.{Session}
 use Rattle.ledger.specs.Sound.{intact}
-use Rattle.ledger.specs.Calls.{Call, Quote, Release, refusal, reply, lookup, freeCount}
-use Rattle.ledger.specs.Calls as rules
+use Rattle.ledger.specs.Calls.{Call, Quote, Release, Reply, refusal, reply, lookup, freeCount}
 use Rattle.state.specs.declared.State.{State}
-use Rattle.state.specs.declared.Answer.{Answer}
-use Rattle.state.specs.declared.Shown.{Shown}
-use Rattle.state.specs.declared.Counted.{Counted}
-use Rattle.state.specs.State.{viewOf, Answers, Serves, Releases, Shows, Counts}
+use Rattle.state.specs.declared.Quoted.{Quoted}
+use Rattle.state.specs.State.{viewOf, notQuoted, Quotes, Serves, Releases}
 use Rattle.state.proofs.Replies.{refusal-leaves, stays}
-use Rattle.sessions.specs.Calls.{Looks, Tallies}
+use Rattle.sessions.specs.declared.Shown.{Shown}
+use Rattle.sessions.specs.declared.Counted.{Counted}
+use Rattle.sessions.specs.Calls.{notShown, Shows, Looks, notCounted, Counts, Tallies}
 
 module _ (st : State) (b : Bool) (eb : b ≡ not (intact (viewOf st))) where
   turned : (x : Bool) → b ≡ not x → (b ≡ false → x ≡ true) × (b ≡ true → x ≡ false)
@@ -30,19 +29,19 @@ module _ (st : State) (b : Bool) (eb : b ≡ not (intact (viewOf st))) where
   is-broken = turned (intact (viewOf st)) eb .1
 
 -- a quote leaves the very same state
-pub quote-serves : (st : State) (route : List ℕ) (n : ℕ) (a : Answer) → Answers n (reply (viewOf st) (Quote route)) a → Serves st (Quote route) n (record { answer = a; state = st })
-quote-serves st route n a w = record { answer = w; after = stays st (Quote route) refl }
+pub quote-serves : (st : State) (route : List ℕ) (q : Quoted) → Quotes (reply (viewOf st) (Quote route)) q → Serves st (Quote route) (record { answer = q; state = st })
+quote-serves st route q w = record { answer = w; after = stays st (Quote route) refl }
 
 module _ (st : State) (e : intact (viewOf st) ≡ false) where
   broken-reply : (call : Call) → reply (viewOf st) call ≡ refusal 0 0
   unfolding reply
   broken-reply call = rw e
 
-  pub broken-serves : (call : Call) (n k count : ℕ) → k ≡ 0 → count ≡ 0 → (a : Answer) → ((m : ℕ) → Answers m (refusal k count) a)
-      → Serves st call n (record { answer = a; state = st })
-  broken-serves call n k count p q a w =
+  pub broken-serves : (call : Call) (r : Refusal) → refusalNumber r ≡ 0 → refusalCount r ≡ 0 → (q : Quoted) → q ≡ notQuoted r
+      → Serves st call (record { answer = q; state = st })
+  broken-serves call r n c q w =
       record {
-        answer = subst (λ (r : rules.Reply). Answers n r a) (ap₂ refusal p q ∙ sym (broken-reply call)) (w n);
+        answer = subst (λ (x : Reply). Quotes x q) (sym (broken-reply call)) (r, n, c, w);
         after = stays st call (refusal-leaves call (reply (viewOf st) call) 0 0 (broken-reply call));
       }
 
@@ -57,14 +56,12 @@ module _ (st : State) (e : intact (viewOf st) ≡ false) where
   unfolding lookup
   broken-lookup n = rw e
 
-  pub broken-looks : (n k : ℕ) → k ≡ 0 → (s : Shown) → Shows (refused k) s → Looks st n (record { shown = s; state = st })
-  broken-looks n k p s w =
-      record { shown = subst (λ (o : Outcome Session). Shows o s) (ap refused p ∙ sym (broken-lookup n)) w; same = refl }
+  pub broken-looks : (n : ℕ) (r : Refusal) → refusalNumber r ≡ 0 → (q : Shown) → q ≡ notShown r → Looks st n (record { shown = q; state = st })
+  broken-looks n r p q w = record { shown = subst (λ (o : Outcome Session). Shows o q) (sym (broken-lookup n)) (r, p, w); same = refl }
 
   broken-count : (l : ℕ) → freeCount (viewOf st) l ≡ refused 0
   unfolding freeCount
   broken-count l = rw e
 
-  pub broken-tallies : (l k : ℕ) → k ≡ 0 → (r : Counted) → Counts (refused k) r → Tallies st l (record { counted = r; state = st })
-  broken-tallies l k p r w =
-      record { counted = subst (λ (o : Outcome ℕ). Counts o r) (ap refused p ∙ sym (broken-count l)) w; same = refl }
+  pub broken-tallies : (l : ℕ) (r : Refusal) → refusalNumber r ≡ 0 → (q : Counted) → q ≡ notCounted r → Tallies st l (record { counted = q; state = st })
+  broken-tallies l r p q w = record { counted = subst (λ (o : Outcome ℕ). Counts o q) (sym (broken-count l)) (r, p, w); same = refl }

@@ -1,2 +1,3 @@
 pub mod First
-pub mod Ledgers
+pub mod Showing
+pub mod Beginning

@@ -172,7 +172,7 @@ fn not_shown(refusal: Refusal) -> Shown
 }
 
 // What a lookup shows of a stored session, the places not in use cleared. Check 0: it has at most 8 hops.
-fn shown(place: Place) -> Shown
+fn shown_place(place: Place) -> Shown
     requires { ⌜ place .hops ≤ 8 ⌝ }
     ensures { λ r. ⌜ r ≡ shownOf (sessionOf place) ⌝ }
 {
@@ -208,7 +208,7 @@ pub fn lookup(st: State, number: u16) -> Looked
     }
     let place = table.places[at];
     Looked {
-        shown: shown(place),
+        shown: shown_place(place),
         state: st,
     }
 }
@@ -234,7 +234,7 @@ pub fn free_frames(st: State, link: u8) -> Tallied
         };
     }
     let network = st.network;
-    let at = places::index(link);
+    let at = link as usize;
     if network.count <= at {
         return Tallied {
             counted: not_counted(Refusal::UnknownLink),

@@ -1,10 +1,14 @@
 -- `sessions::no_sessions` meets its contract. Assumes nothing.
+use borrow.Author.Needs.{needs}
 use Rattle.sessions.proofs.no_sessions.Statement.{statement}
 use Rattle.sessions.proofs.no_sessions.Tie as tie
 use Rattle.table.proofs.Live.{in-none}
+
+nothing-held-requires : tie.Need-nothing-held-requires
+nothing-held-requires c κs = search needs
 
 returns : tie.Need-returns
 returns c = in-none _
 
 pub no-sessions-spec : {M : Type 1} → statement M
-no-sessions-spec = tie.close (tie.spec returns)
+no-sessions-spec = tie.close (tie.spec nothing-held-requires returns)

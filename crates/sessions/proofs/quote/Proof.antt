@@ -11,13 +11,13 @@ not-served-requires : tie.Need-not-served-requires
 not-served-requires c κs = search needs
 
 returns : tie.Need-returns
-returns c = c .not-served .ensures _ _ (is-broken (c .before .before .before .before .args .st) _ (c .before .before .broken .ensures) (c .before .if1 .taken))
+returns c = c .not-served .ensures _ (is-broken (c .before .before .before .before .args .st) _ (c .before .before .broken .ensures) (c .before .if1 .taken))
 
 quote-requires : tie.Need-quote-requires
 quote-requires c κs = is-intact (c .before .before .before .args .st) _ (c .before .broken .ensures) (c .if1 .left)
 
 returns-2 : tie.Need-returns-2
-returns-2 c = quote-serves (c .before .before .before .before .args .st) _ _ _ (c .quote .ensures)
+returns-2 c = quote-serves (c .before .before .before .before .args .st) _ _ (c .quote .ensures)
 
 pub quote-spec : {M : Type 1} → statement M
 quote-spec =

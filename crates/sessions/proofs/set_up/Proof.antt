@@ -11,7 +11,7 @@ not-served-requires : tie.Need-not-served-requires
 not-served-requires c κs = search needs
 
 returns : tie.Need-returns
-returns c = c .not-served .ensures _ _ (is-broken (c .before .before .before .before .args .st) _ (c .before .before .broken .ensures) (c .before .if1 .taken))
+returns c = c .not-served .ensures _ (is-broken (c .before .before .before .before .args .st) _ (c .before .before .broken .ensures) (c .before .if1 .taken))
 
 set-up-requires : tie.Need-set-up-requires
 set-up-requires c κs = is-intact (c .before .before .before .args .st) _ (c .before .broken .ensures) (c .if1 .left)
