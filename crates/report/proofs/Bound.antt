@@ -22,13 +22,16 @@ use Rattle.forwarding.specs.Schedule.{GoesOn, IsSchedule, boundFrom, CountOf}
 use Rattle.forwarding.proofs.Holds.{choices-in}
 use Rattle.forwarding.proofs.Bounds.{count-bound, delay-bound}
 use Rattle.forwarding.proofs.ByHops.{all-ready}
+use Rattle.ledger.specs.Held.{heldOver}
 use Rattle.ledger.specs.Sessions.{Session, View, hopsOf, hopOf}
 use Rattle.ledger.specs.Routes.{routeCheck}
 use Rattle.ledger.specs.Sound.{intact}
-use Rattle.ledger.specs.Calls.{Call, SetUp, Quote, Release, Reply, schedule, freed, refusal, unless, callCheck, served, reply, next}
-use Rattle.ledger.specs.Demand.{fresh, Served, scheduled, none}
+use Rattle.ledger.specs.Calls.{Call, SetUp, Quote, Release, Reply, schedule, freed, refusal, unless, callCheck, granted, reply, next}
+use Rattle.ledger.specs.Demand.{fresh, LeastOrBlocked, least, none}
+use Rattle.ledger.proofs.Held.{schedule-length, frames-over, delay-over}
 use Rattle.ledger.proofs.Intact.{intact-is, fresh-intact}
-use Rattle.ledger.proofs.Answered.{reply-intact, admitted, call-served}
+use Rattle.ledger.proofs.Answered.{reply-intact, admitted, call-due}
+use Rattle.ledger.proofs.Scheduled.{linksOf}
 use Rattle.ledger.proofs.Refused.{not-eighteen}
 use Rattle.ledger.proofs.Kept.{next-intact}
 use Rattle.routes.proofs.Hops.{route-ready}
@@ -36,7 +39,7 @@ use Rattle.call_records.specs.declared.Kind.{Kind}
 use Rattle.call_records.specs.declared.Kind.the-variants as kinds
 use Rattle.call_records.specs.Records.{readRecord, routeIn, callAs, callIn}
 use Rattle.call_records.proofs.Cases.{in-bytes}
-use Rattle.call_records.proofs.Lengths.{linksOf, record-long}
+use Rattle.call_records.proofs.Lengths.{record-long}
 use Rattle.text.specs.Lines.{letterOf, line, liveLine}
 use Rattle.text.proofs.Long.{served-long, freed-long, refused-long, blocked-long, live-long, network-long}
 use Rattle.report.specs.Transcript.{thenOthers, callsAfter, counted, linesOf, textOn, transcript}
@@ -49,20 +52,16 @@ cons-small : (k : ℕ) (is : List ℕ) → k < 100 → ((i : ℕ) → getD is i 
 cons-small k is h g zero = h
 cons-small k is h g (suc i) = g i
 
-onward-fits : (T : ℕ) (g : Hop) (k : ℕ) (hs : List Hop) (is : List ℕ) → AllReady T hs → GoesOn g k hs is → (length is ≡ length hs) × ((i : ℕ) → getD is i 0 < 100)
-onward-fits T g k [] [] p o = (refl, λ i. omega arith)
-onward-fits T g k [] (i ∷ is) p o = absurd o
-onward-fits T g k (h ∷ hs) [] p o = absurd o
-onward-fits T g k (h ∷ hs) (i ∷ is) p o =
-    let r = onward-fits T h i hs is (p .1) (o .2) in
-    (ap suc (r .0), cons-small i is (omega (arith, o .0, p .0 .few-frames)) (r .1))
+onward-small : (T : ℕ) (g : Hop) (k : ℕ) (hs : List Hop) (is : List ℕ) → AllReady T hs → GoesOn g k hs is → (i : ℕ) → getD is i 0 < 100
+onward-small T g k [] [] p o = λ i. omega arith
+onward-small T g k [] (i ∷ is) p o = absurd o
+onward-small T g k (h ∷ hs) [] p o = absurd o
+onward-small T g k (h ∷ hs) (i ∷ is) p o = cons-small i is (omega (arith, o .0, p .0 .few-frames)) (onward-small T h i hs is (p .1) (o .2))
 
-schedule-fits : (T : ℕ) (hops : List Hop) (fs : List ℕ) → AllReady T hops → IsSchedule hops fs → (length fs ≡ length hops) × ((i : ℕ) → getD fs i 0 < 100)
-schedule-fits T [] fs p s = absurd s
-schedule-fits T (h ∷ hs) [] p s = absurd s
-schedule-fits T (h ∷ hs) (k ∷ is) p s =
-    let r = onward-fits T h k hs is (p .1) (s .2) in
-    (ap suc (r .0), cons-small k is (omega (arith, s .0, p .0 .few-frames)) (r .1))
+schedule-small : (T : ℕ) (hops : List Hop) (fs : List ℕ) → AllReady T hops → IsSchedule hops fs → (i : ℕ) → getD fs i 0 < 100
+schedule-small T [] fs p s = absurd s
+schedule-small T (h ∷ hs) [] p s = absurd s
+schedule-small T (h ∷ hs) (k ∷ is) p s = cons-small k is (omega (arith, s .0, p .0 .few-frames)) (onward-small T h k hs is (p .1) (s .2))
 
 bound-most : (T : ℕ) (g : Hop) (hs : List Hop) → g .frames ≤ 64 → AllReady T hs → boundFrom g hs ≤ 4096 * length hs
 bound-most T g [] few p = omega arith
@@ -86,27 +85,28 @@ module _ (net : Topology) (ss : List Session) (ok : networkCheck net ≡ given p
       subst (AllReady (net .ticks)) (take-all (length route) (hopsOf net ss route) (omega (arith, n)))
       (all-ready (net .ticks) (hopsOf net ss route) (length route) (omega (arith, n)) (λ j h. rw (getD-firsts 8 j (hopsOf net ss route) noHop (omega (arith, r .few-hops))) at (r .each j h)))
 
-  route-line : (place letter : ℕ) → place < 100000 → (route : List ℕ) → routeCheck net route ≡ given pass → (r : Reply) → Served (net .ticks) (hopsOf net ss route) r
+  route-line : (place letter : ℕ) → place < 100000 → (route : List ℕ) → routeCheck net route ≡ given pass → (r : Reply) → LeastOrBlocked (net .ticks) (hopsOf net ss route) r
       → length (line place letter r) ≤ 22 + 3 * length route
-  route-line place letter h route e r (scheduled held count q g) =
+  route-line place letter h route e r (least d count w q g) =
+      let hops : List Hop = hopsOf net ss route in
       let p = hops-ready route e in
       let ready = route-ready net ss route ok e in
-      let f = schedule-fits (net .ticks) (hopsOf net ss route) (held .frames) p (g .schedule) in
-      let d = delay-bound (net .ticks) (hopsOf net ss route) (held .frames) (ready .cycle) (omega (arith, hops-long route, ready .few-hops)) p (g .schedule) in
-      let c = count-most (net .ticks) (hopsOf net ss route) count (omega (arith, hops-long route, ready .few-hops)) p (g .count-is) in
-      omega (arith, served-long place letter (held .delay) count (held .frames) h (omega (arith, d, g .delay-is)) c (f .1), f .0, hops-long route)
+      let most = delay-bound (net .ticks) hops w (ready .cycle) (omega (arith, hops-long route, ready .few-hops)) p (g .schedule) in
+      let c = count-most (net .ticks) hops count (omega (arith, hops-long route, ready .few-hops)) p (g .count-is) in
+      let frames : (i : ℕ) → getD (heldOver hops d w .frames) i 0 < 100 = rw (frames-over hops d w) (schedule-small (net .ticks) hops w p (g .schedule)) in
+      omega (arith, served-long place letter (heldOver hops d w) count h (omega (arith, most, g .delay-is, delay-over hops d w)) c frames, schedule-length hops w (g .schedule), ap (λ (fs : List ℕ). length fs) (frames-over hops d w), hops-long route)
   route-line place letter h route e r (none count q is nowhere) =
       let ready = route-ready net ss route ok e in
       let c = count-most (net .ticks) (hopsOf net ss route) count (omega (arith, hops-long route, ready .few-hops)) (hops-ready route e) is in
       omega (arith, blocked-long place letter count h c)
 
-  call-line : (place letter : ℕ) → place < 100000 → (call : Call) (o : Ruling) → callCheck net ss call ≡ o → length (line place letter (unless o (served net ss call))) ≤ 22 + 3 * length (linksOf call)
+  call-line : (place letter : ℕ) → place < 100000 → (call : Call) (o : Ruling) → callCheck net ss call ≡ o → length (line place letter (unless o (granted net ss call))) ≤ 22 + 3 * length (linksOf call)
   call-line place letter h call (refused k) e =
       omega (arith, refused-long place letter k 0 h (omega (arith, call-number net ss call k e)) (not-eighteen net ss call k e))
-  call-line place letter h (SetUp n route) (given pass) e = route-line place letter h route (admitted net ss n route e .passed) _ (call-served net ss (SetUp n route))
-  call-line place letter h (Quote route) (given pass) e = route-line place letter h route (unfold callCheck in e) _ (call-served net ss (Quote route))
+  call-line place letter h (SetUp n route) (given pass) e = route-line place letter h route (admitted net ss n route e .passed) _ (call-due net ss (SetUp n route))
+  call-line place letter h (Quote route) (given pass) e = route-line place letter h route (unfold callCheck in e) _ (call-due net ss (Quote route))
   call-line place letter h (Release n) (given pass) e =
-      let q : served net ss (Release n) ≡ freed = call-served net ss (Release n) in
+      let q : granted net ss (Release n) ≡ freed = call-due net ss (Release n) in
       rw q (omega (arith, freed-long place letter h))
 
 reply-line : (place letter : ℕ) → place < 100000 → (v : View) (call : Call) → intact v ≡ true → length (line place letter (reply v call)) ≤ 22 + 3 * length (linksOf call)

@@ -11,11 +11,13 @@ use lib.Dec.{ltb}
 use borrow.Author.Tests.{lt-ltb, le-ltb, ltb-true, ltb-false}
 use Rattle.places.specs.Put.{putAt}
 use Rattle.places.proofs.Puts.{put-zero, put-length}
-use Rattle.refusals.specs.Refusals.{given, refused, refuseIf, orElse, refusalNumber}
+use Rattle.refusals.specs.Refusals.{Ruling, given, refused, refuseIf, orElse, refusalNumber}
 use Rattle.refusals.specs.declared.Refusal.{Refusal}
 use Rattle.refusals.specs.declared.Verdict.the-variants.{Passed, Refused}
 use Rattle.numbers.specs.Numbers.{IsBytes}
-use Rattle.network.specs.Network.{Topology}
+use Rattle.network.specs.Network.{Topology, topologyOf}
+use Rattle.network.specs.Checks.{networkCheck}
+use Rattle.network.specs.declared.Network.{Network}
 use Rattle.network_file.specs.declared.Loaded.{Loaded}
 use Rattle.network_file.specs.declared.Written.{Written}
 use Rattle.network_file.specs.declared.Written.the-variants as written
@@ -28,7 +30,7 @@ use Rattle.ledger.specs.Demand.{fresh}
 use Rattle.ledger.proofs.Intact.{fresh-intact}
 use Rattle.state.specs.State.{viewOf}
 use Rattle.sessions.specs.declared.Begun.{Begun}
-use Rattle.sessions.specs.Calls.{Begins}
+use Rattle.sessions.specs.Calls.{begunOn, Begins}
 use Rattle.text.specs.Digits.{Puts}
 use Rattle.text.specs.Lines.{networkLine}
 use Rattle.report.specs.Transcript.{callsIn, counted, CountedPart, linesOf, transcript}
@@ -86,8 +88,15 @@ module _ (file calls : List ℕ) (bytes : IsBytes file) (l : Loaded) (reads : Re
     says = passed-says file l reads e .1
 
     module _ (b : Begun) (begins : Begins (l .network) b) where
+      -- what was read passed its checks, and so the state is begun on it
+      first-network : b .state .network ≡ l .network
+      first-network =
+          begins .network
+          ∙ ap (λ (o : Ruling). begunOn o (l .network)) (ap networkCheck (read-stands file said l bytes says reads) ∙ read-passes file said bytes says)
+
       first-view : viewOf (b .state) ≡ fresh said
-      first-view = begins .view ∙ ap fresh (read-stands file said l bytes says reads)
+      first-view =
+          begins .view ∙ ap (λ (net : Network). fresh (topologyOf net)) first-network ∙ ap fresh (read-stands file said l bytes says reads)
 
       first-intact : intact (viewOf (b .state)) ≡ true
       first-intact = subst (λ (v : View). intact v ≡ true) (sym first-view) (fresh-intact said (read-passes file said bytes says))

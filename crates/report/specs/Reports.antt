@@ -14,8 +14,8 @@ use Rattle.ledger.specs.Sound.{intact}
 use Rattle.ledger.specs.Calls.{Call}
 use Rattle.state.specs.declared.State.{State}
 use Rattle.state.specs.State.{viewOf}
-use Rattle.state.specs.declared.Reply.{Reply}
-use Rattle.state.specs.declared.Reply.the-variants.{Schedule, Refused}
+use Rattle.refusals.specs.declared.Verdict.{Verdict}
+use Rattle.refusals.specs.declared.Verdict.the-variants.{Passed, Refused}
 use Rattle.call_records.specs.declared.Kind.{Kind}
 use Rattle.call_records.specs.declared.Kind.the-variants.{SetUp, Quote, Release, Unreadable}
 use Rattle.call_records.specs.declared.Record.{Record}
@@ -58,9 +58,9 @@ pub record Reports (text before after : List ℕ) (r : Written) : Type 0 where
   pub answer : lengthRead r ≡ lengthOr20 text before
   pub buffer : after ≡ bufferWith text before
 
--- the frames of an answer over as many links stand in its eight places
-abbrev pub InPlaces : Reply → ℕ → Type 0
-InPlaces (Schedule delay count) hops = hops ≤ 8
+-- what an answer over as many links holds stands in its eight places
+abbrev pub InPlaces : Verdict → ℕ → Type 0
+InPlaces Passed hops = hops ≤ 8
 InPlaces (Refused r) hops = Unit {0}
 
 -- the place after a record that starts at `from`; 11 ends the calls

@@ -5,8 +5,7 @@ use call_records::Record;
 use network_file::Written;
 use refusals::Refusal;
 use refusals::Verdict;
-use state::Answer;
-use state::Reply;
+use state::Quoted;
 use state::State;
 ghost use mathlib.Core.Path.{_≡_};
 ghost use mathlib.Core.Bool.{true};
@@ -17,7 +16,7 @@ ghost use Rattle.ledger.specs.Sound.{intact};
 ghost use Rattle.ledger.specs.Calls.{SetUp, Quote, Release};
 ghost use Rattle.ledger.specs.Calls as rules;
 ghost use Rattle.call_records.specs.Records.{callIn, InBytes};
-ghost use Rattle.state.specs.State.{viewOf, replyIn, releasedIn};
+ghost use Rattle.state.specs.State.{viewOf, quotedIn, releasedIn};
 ghost use Rattle.text.specs.Digits.{Puts};
 ghost use Rattle.text.specs.Lines.{line};
 ghost use Rattle.report.specs.Transcript.{callsIn, lineOf, linesOf, transcript};
@@ -45,19 +44,17 @@ fn put_answer(
     at: usize,
     place: u32,
     letter: u8,
-    answer: Answer,
+    answer: Quoted,
     hops: usize,
 ) -> usize
-    requires { ⌜ InPlaces (answer .reply) hops × (at + length (line place letter (replyIn hops (answer .reply) (answer .frames))) ≤ length (now out)) ⌝ }
-    ensures { λ r. ⌜ Puts at (line place letter (replyIn hops (answer .reply) (answer .frames))) (now (out .entry)) (now (out .exit)) r ⌝ }
+    requires { ⌜ InPlaces (answer .verdict) hops × (at + length (line place letter (quotedIn hops answer)) ≤ length (now out)) ⌝ }
+    ensures { λ r. ⌜ Puts at (line place letter (quotedIn hops answer)) (now (out .entry)) (now (out .exit)) r ⌝ }
 {
-    let frames = answer.frames;
-    let reply = answer.reply;
-    match reply {
-        Reply::Schedule(delay, count) => {
-            text::put_served(out, at, place, letter, delay.0, count, &frames[..hops])
-        }
-        Reply::Refused(refusal) => put_refusal(out, at, place, letter, refusal),
+    let verdict = answer.verdict;
+    let held = answer.held;
+    match verdict {
+        Verdict::Passed => text::put_served(out, at, place, letter, answer.count, held, hops),
+        Verdict::Refused(refusal) => put_refusal(out, at, place, letter, refusal),
     }
 }
 

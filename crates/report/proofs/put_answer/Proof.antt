@@ -2,53 +2,44 @@
 use borrow.Author.Needs.{needs}
 use Rattle.report.proofs.put_answer.Statement.{statement}
 use Rattle.report.proofs.put_answer.Tie as tie
-use mathlib.Core.Path.{_≡_}
-use native.Mathlib.Omega.{arith}
 use Prim.Native.Nat.{_-_}
-use lib.ListN.{length}
 use Rattle.report.proofs.Answering.{schedule-room, schedule-put, refusal-room, refusal-put}
-use mathlib.Core.Path.{_≡_, sym}
-use lib.Seq.{length-take-le}
 
-enum-known-reply : tie.Need-enum-known-reply
-enum-known-reply c = search needs
-
-array-share-prefix-frames : tie.Need-array-share-prefix-frames
-array-share-prefix-frames c = let long : length (c .before .before .before .before .before .before .args .answer .frames) ≡ 8 = search needs in omega (arith, long, schedule-room _ _ _ _ _ _ _ _ _ (c .before .before .reply .given .1) (c .before .before .before .before .before .before .pre) .0)
-
-slice-aggregate-put-served : tie.Need-slice-aggregate-put-served
-slice-aggregate-put-served c = let long : length (c .before .before .before .before .before .before .before .args .answer .frames) ≡ 8 = search needs in sym (length-take-le (c .before .before .before .before .before .before .before .args .hops) (c .before .before .before .before .before .before .before .args .answer .frames) (omega (arith, long, schedule-room _ _ _ _ _ _ _ _ _ (c .before .before .before .reply .given .1) (c .before .before .before .before .before .before .before .pre) .0)))
+enum-told : tie.Need-enum-told
+enum-told c = search needs
 
 put-served-requires : tie.Need-put-served-requires
-put-served-requires c κs = schedule-room _ _ _ _ _ _ _ _ _ (c .before .before .before .reply .given .1) (c .before .before .before .before .before .before .before .pre) .1
+put-served-requires c κs = let start = c .before .before .before .before .before in
+    schedule-room _ _ _ _ (start .args .answer) _ (c .before .enum-told .given .1) (start .pre)
 
-enum-known-reply-2 : tie.Need-enum-known-reply-2
-enum-known-reply-2 c = search needs
+enum-known-verdict : tie.Need-enum-known-verdict
+enum-known-verdict c = search needs
 
 put-refusal-requires : tie.Need-put-refusal-requires
-put-refusal-requires c κs = refusal-room _ _ _ _ _ _ _ _ (c .before .before .reply2 .given .1) (c .before .before .before .before .before .before .pre)
+put-refusal-requires c κs = let start = c .before .before .before .before .before .before in
+    refusal-room _ _ _ _ (start .args .answer) _ _ (c .before .before .verdict .given .1) (start .pre)
 
 same-length : tie.Need-same-length
 same-length c = search needs
 
 returns : tie.Need-returns
-returns c = schedule-put _ _ _ _ _ _ _ _ (c .before .before .before .before .before .before .reply .given .1) _ _ _ (c .before .before .put-served .ensures)
+returns c = let start = c .before .before .before .before .before .before .before .before in
+    schedule-put _ _ _ _ (start .args .answer) (c .before .before .before .before .enum-told .given .1) _ _ _ (c .before .before .put-served .ensures)
 
 same-length-2 : tie.Need-same-length-2
 same-length-2 c = search needs
 
 returns-2 : tie.Need-returns-2
-returns-2 c = refusal-put _ _ _ _ _ _ _ (c .before .before .before .before .before .reply2 .given .1) _ _ _ (c .before .before .put-refusal .ensures)
+returns-2 c = let start = c .before .before .before .before .before .before .before .before .before in
+    refusal-put _ _ _ _ (start .args .answer) _ (c .before .before .before .before .before .verdict .given .1) _ _ _ (c .before .before .put-refusal .ensures)
 
 pub put-answer-spec : {M : Type 1} → statement M
 put-answer-spec =
     tie.close
     (tie.spec
-    enum-known-reply
-    array-share-prefix-frames
-    slice-aggregate-put-served
+    enum-told
     put-served-requires
-    enum-known-reply-2
+    enum-known-verdict
     put-refusal-requires
     same-length
     returns
