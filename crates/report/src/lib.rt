@@ -10,7 +10,7 @@ use state::State;
 ghost use mathlib.Core.Path.{_≡_};
 ghost use mathlib.Core.Bool.{true};
 ghost use Prim.Native.Nat.{_+_, _≤_, min};
-ghost use lib.ListN.{length};
+ghost use lib.ListN.{length, replicate};
 ghost use Rattle.refusals.specs.Refusals.{refusalNumber, refusalCount, given, refused};
 ghost use Rattle.ledger.specs.Sound.{intact};
 ghost use Rattle.ledger.specs.Calls.{SetUp, Quote, Release};
@@ -209,9 +209,9 @@ fn write_text(file: &[u8], calls: &[u8], out: &mut [u8]) -> usize
     }
 }
 
-// Room for every text (`text-bound`).
+// Room for every text (`text-bound`), all of it 0.
 pub fn room() -> [u8; 720918]
-    ensures { λ r. ⌜ length r ≡ 720918 ⌝ }
+    ensures { λ r. ⌜ (r ≡ replicate 720918 0) × (length r ≡ 720918) ⌝ }
 {
     [0; 720918]
 }

@@ -19,16 +19,16 @@ slice-aggregate-write-text : tie.Need-slice-aggregate-write-text
 slice-aggregate-write-text c = search needs
 
 write-text-requires : tie.Need-write-text-requires
-write-text-requires c κs = omega (arith, text-bound (c .before .before .before .before .before .args .file .now) (c .before .before .before .before .before .args .calls .now) (λ i. c .before .before .before .before .shared-slice-known .given i .fits), bound-most (length (c .before .before .before .before .before .args .calls .now)), c .before .room .ensures)
+write-text-requires c κs = omega (arith, text-bound (c .before .before .before .before .before .args .file .now) (c .before .before .before .before .before .args .calls .now) (λ i. c .before .before .before .before .shared-slice-known .given i .fits), bound-most (length (c .before .before .before .before .before .args .calls .now)), c .before .room .ensures .1)
 
 returns : tie.Need-returns
 returns c = short-report _ _ (omega (arith, c .if1 .taken, back-long _ _ _ _ (c .before .before .write-text .ensures))) _ refl
 
 array-share-prefix-text : tie.Need-array-share-prefix-text
-array-share-prefix-text c = back-within _ _ _ _ (c .before .before .before .write-text .ensures) (omega (arith, text-bound (c .before .before .before .before .before .before .before .before .before .args .file .now) (c .before .before .before .before .before .before .before .before .before .args .calls .now) (λ i. c .before .before .before .before .before .before .before .before .shared-slice-known .given i .fits), bound-most (length (c .before .before .before .before .before .before .before .before .before .args .calls .now)), c .before .before .before .before .before .room .ensures))
+array-share-prefix-text c = back-within _ _ _ _ (c .before .before .before .write-text .ensures) (omega (arith, text-bound (c .before .before .before .before .before .before .before .before .before .args .file .now) (c .before .before .before .before .before .before .before .before .before .args .calls .now) (λ i. c .before .before .before .before .before .before .before .before .shared-slice-known .given i .fits), bound-most (length (c .before .before .before .before .before .before .before .before .before .args .calls .now)), c .before .before .before .before .before .room .ensures .1))
 
 slice-aggregate-put-bytes : tie.Need-slice-aggregate-put-bytes
-slice-aggregate-put-bytes c = sym (length-take-le (c .before .before .before .before .write-text .result) (c .before .before .before .before .write-text .last .1 .1 .0) (back-within _ _ _ _ (c .before .before .before .before .write-text .ensures) (omega (arith, text-bound (c .before .before .before .before .before .before .before .before .before .before .args .file .now) (c .before .before .before .before .before .before .before .before .before .before .args .calls .now) (λ i. c .before .before .before .before .before .before .before .before .before .shared-slice-known .given i .fits), bound-most (length (c .before .before .before .before .before .before .before .before .before .before .args .calls .now)), c .before .before .before .before .before .before .room .ensures))))
+slice-aggregate-put-bytes c = sym (length-take-le (c .before .before .before .before .write-text .result) (c .before .before .before .before .write-text .last .1 .1 .0) (back-within _ _ _ _ (c .before .before .before .before .write-text .ensures) (omega (arith, text-bound (c .before .before .before .before .before .before .before .before .before .before .args .file .now) (c .before .before .before .before .before .before .before .before .before .before .args .calls .now) (λ i. c .before .before .before .before .before .before .before .before .before .shared-slice-known .given i .fits), bound-most (length (c .before .before .before .before .before .before .before .before .before .before .args .calls .now)), c .before .before .before .before .before .before .room .ensures .1))))
 
 put-bytes-requires : tie.Need-put-bytes-requires
 put-bytes-requires c κs = back-fits _ _ _ _ (c .before .before .before .before .write-text .ensures) _ (c .before .before .if1 .left)

@@ -1,11 +1,12 @@
 -- `report::room` meets its contract. Assumes nothing.
 use Rattle.report.proofs.room.Statement.{statement}
 use Rattle.report.proofs.room.Tie as tie
+use mathlib.Core.Path.{refl}
 use Prim.Native.Nat.{ℕ, _-_}
 use lib.ListN.{length-replicate}
 
 returns : tie.Need-returns
-returns c = length-replicate {0} {A = ℕ} 720918 0
+returns c = (refl, length-replicate {0} {A = ℕ} 720918 0)
 
 pub room-spec : {M : Type 1} → statement M
 room-spec = tie.close (tie.spec returns)
