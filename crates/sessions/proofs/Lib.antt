@@ -1,3 +1,4 @@
 pub mod First
 pub mod Showing
 pub mod Beginning
+pub mod Stored

@@ -1,0 +1,92 @@
+-- Stored states go by the rules: none that `begin` led to is broken, demand 3 at the calls, and a release. Assumes nothing.
+use mathlib.Core.Path.{_≡_, refl, sym, ap, subst, _∙_}
+use mathlib.Core.Bool.{true, false}
+use mathlib.Core.List.{List, _∷_}
+use lib.Dec.{eqb}
+use borrow.Author.Tests.{eqb-false}
+use Rattle.places.specs.Places.{firsts}
+use Rattle.refusals.specs.Refusals.{refusalNumber, Outcome, Ruling, given, refused, pass}
+use Rattle.refusals.specs.declared.Refusal.{Refusal}
+use Rattle.refusals.specs.declared.Refusal.the-variants.{NumberNotLive}
+use Rattle.refusals.proofs.Refusals.{refusal-only, uncounted}
+use Rattle.network.specs.Network.{topologyOf}
+use Rattle.network.specs.Checks.{badCount, badCycle, badFrames, badRange, badClosed, linkCheck, linksCheck, networkCheck}
+use Rattle.network.specs.declared.Network.{Network}
+use Rattle.ledger.specs.Sessions.{Session, View, heldIn}
+use Rattle.ledger.specs.Sound.{intact}
+use Rattle.ledger.specs.Calls.{Call, SetUp, Quote, Release, Reply, reply, next}
+use Rattle.ledger.specs.Ledger.{Step, did}
+use Rattle.ledger.specs.Demand.{Demand3, Runs, over, then}
+use Rattle.ledger.proofs.Intact.{fresh-intact}
+use Rattle.ledger.proofs.Freeing.{release-frees}
+use Rattle.ledger.proofs.Whole.{runs-intact, demand3}
+use Rattle.state.specs.State.{viewOf}
+use Rattle.state.proofs.Replies.{quotes-back}
+use Rattle.sessions.specs.declared.Begun.{Begun}
+use Rattle.sessions.specs.declared.Shown.{Shown}
+use Rattle.sessions.specs.Calls.{shutNetwork, begunOn, Begins, notShown, Shows}
+use Rattle.sessions.specs.Stored.{StoredByRules, BegunIntact, StoredDemand3, StoredReleaseFrees}
+use Rattle.sessions.specs.Stored as stored
+
+-- ---- the rules
+-- one step of the stored states is one of the rules
+step : {v left last : View} {steps : List Step} (call : Call) (r : Reply) → r ≡ reply v call → left ≡ next v call → Runs left steps last → Runs v (did call r ∷ steps) last
+step {v} {left} {last} {steps} call r e l runs =
+    subst (λ (x : Reply). Runs v (did call x ∷ steps) last) (sym e) (then call (subst (λ (u : View). Runs u steps last) l runs))
+
+-- WHAT STORED STATES SHOW GOES BY THE RULES, call by call
+pub stored-by-rules : StoredByRules
+stored-by-rules st last steps stored.over = over
+stored-by-rules st last steps (stored.set-up n route r w rest) =
+    step (SetUp n route) _ (quotes-back (viewOf st) (SetUp n route) (r .answer) (w .answer)) (w .after .view) (stored-by-rules (r .state) last _ rest)
+stored-by-rules st last steps (stored.quote route r w rest) =
+    step (Quote route) _ (quotes-back (viewOf st) (Quote route) (r .answer) (w .answer)) (w .after .view) (stored-by-rules (r .state) last _ rest)
+stored-by-rules st last steps (stored.release n r w rest) = step (Release n) _ (w .answer) (w .after .view) (stored-by-rules (r .state) last _ rest)
+
+-- ---- what `begin` gave
+shut-passes : networkCheck (topologyOf shutNetwork) ≡ given pass
+unfolding topologyOf firsts networkCheck badCount badCycle linksCheck linkCheck badFrames badRange badClosed
+shut-passes = refl
+
+-- its network passed
+pub begun-passed : (network : Network) (r : Begun) → Begins network r → networkCheck (topologyOf (r .state .network)) ≡ given pass
+begun-passed network r b = go (networkCheck (topologyOf network)) refl (b .network)
+  where
+    go : (o : Ruling) → networkCheck (topologyOf network) ≡ o → r .state .network ≡ begunOn o network
+        → networkCheck (topologyOf (r .state .network)) ≡ given pass
+    go (given pass) e n = ap (λ (net : Network). networkCheck (topologyOf net)) n ∙ e
+    go (refused k) e n = ap (λ (net : Network). networkCheck (topologyOf net)) n ∙ shut-passes
+
+-- AFTER EVERY LIST OF CALLS FROM WHAT `begin` GAVE THE STATE ISN'T BROKEN
+pub begun-intact : BegunIntact
+begun-intact network r b last steps run =
+    let begun : intact (viewOf (r .state)) ≡ true =
+    subst (λ (v : View). intact v ≡ true) (sym (b .view)) (fresh-intact (topologyOf (r .state .network)) (begun-passed network r b)) in
+    runs-intact begun (stored-by-rules (r .state) last steps run)
+
+-- ---- demand 3
+-- another number than 18 tells the refusal
+pub number-tells : (a b : Refusal) → refusalNumber a ≡ refusalNumber b → eqb (refusalNumber b) 18 ≡ false → a ≡ b
+number-tells a b e other =
+    refusal-only a b e
+    (uncounted a (λ q. eqb-false (refusalNumber b) 18 other (sym e ∙ q)) ∙ sym (uncounted b (eqb-false (refusalNumber b) 18 other)))
+
+not-live : (q : Shown) → Shows (refused 19) q → q ≡ notShown NumberNotLive
+not-live q w = w .2 ∙ ap notShown (number-tells (w .0) NumberNotLive (w .1) refl)
+
+-- DEMAND 3 OF THE STORED STATES
+pub stored-demand3 : StoredDemand3
+stored-demand3 network r b last steps run =
+    let rules : Demand3 (topologyOf (r .state .network)) (viewOf last) steps =
+    demand3 (topologyOf (r .state .network)) (begun-passed network r b) steps (viewOf last)
+    (subst (λ (v : View). Runs v steps (viewOf last)) (b .view) (stored-by-rules (r .state) last steps run)) in
+    record {
+      rules = rules;
+      entryShown = λ e m q w. subst (λ (o : Outcome Session). Shows o (q .shown)) (rules .entryShown e m) (w .shown);
+      noneShown = λ n h q w. not-live (q .shown) (subst (λ (o : Outcome Session). Shows o (q .shown)) (rules .noneShown n h) (w .shown));
+    }
+
+-- ---- a release
+-- A RELEASE FREES EXACTLY ITS SESSION'S FRAMES, at the call
+pub stored-release-frees : StoredReleaseFrees
+stored-release-frees st n s r w shown x = ap (λ (v : View). heldIn (v .live) x) (w .after .view) ∙ release-frees (viewOf st) n s shown x
