@@ -2,3 +2,4 @@ pub mod First
 pub mod Showing
 pub mod Beginning
 pub mod Stored
+pub mod Meets
