@@ -3,3 +3,4 @@ pub mod Showing
 pub mod Beginning
 pub mod Stored
 pub mod Meets
+pub mod Agree

@@ -2,6 +2,7 @@
 use mathlib.Core.Path.{_≡_, refl, sym, ap, subst, _∙_}
 use mathlib.Core.Bool.{true, false}
 use mathlib.Core.List.{List, _∷_}
+use Prim.Native.Nat.{ℕ}
 use lib.Dec.{eqb}
 use borrow.Author.Tests.{eqb-false}
 use Rattle.places.specs.Places.{firsts}
@@ -66,13 +67,12 @@ begun-intact network r b last steps run =
 
 -- ---- demand 3
 -- another number than 18 tells the refusal
-pub number-tells : (a b : Refusal) → refusalNumber a ≡ refusalNumber b → eqb (refusalNumber b) 18 ≡ false → a ≡ b
-number-tells a b e other =
-    refusal-only a b e
-    (uncounted a (λ q. eqb-false (refusalNumber b) 18 other (sym e ∙ q)) ∙ sym (uncounted b (eqb-false (refusalNumber b) 18 other)))
+pub number-tells : (k : ℕ) (a b : Refusal) → refusalNumber a ≡ k → refusalNumber b ≡ k → eqb k 18 ≡ false → a ≡ b
+number-tells k a b p q other =
+    refusal-only a b (p ∙ sym q) (uncounted a (λ e. eqb-false k 18 other (sym p ∙ e)) ∙ sym (uncounted b (λ e. eqb-false k 18 other (sym q ∙ e))))
 
 not-live : (q : Shown) → Shows (refused 19) q → q ≡ notShown NumberNotLive
-not-live q w = w .2 ∙ ap notShown (number-tells (w .0) NumberNotLive (w .1) refl)
+not-live q w = w .2 ∙ ap notShown (number-tells 19 (w .0) NumberNotLive (w .1) refl refl)
 
 -- DEMAND 3 OF THE STORED STATES
 pub stored-demand3 : StoredDemand3
