@@ -4,6 +4,7 @@ use super::calls;
 use super::lines;
 use super::same;
 use super::show;
+use forwarding::Held;
 use network::Network;
 use state::State;
 use table::Place;
@@ -26,7 +27,20 @@ fn changed_network(network: Network, field: u8, at: usize, value: usize) -> Netw
     next
 }
 
-// A session with a new number, number of hops, delay, or link or frame of a hop.
+// What is held with a new delay, or frame of a hop.
+fn changed_held(held: Held, field: u8, index: usize, value: usize) -> Held
+    requires { ⌜ index < 8 ⌝ }
+{
+    let mut next = held;
+    match field {
+        b'd' => next.delay.0 = lines::word(value),
+        b'f' => next.frames[index] = lines::byte(value),
+        _ => {}
+    }
+    next
+}
+
+// A session with a new number, number of hops or link of a hop, or a change of what it holds.
 fn changed_place(place: Place, field: u8, index: usize, value: usize) -> Place
     requires { ⌜ index < 8 ⌝ }
 {
@@ -34,12 +48,17 @@ fn changed_place(place: Place, field: u8, index: usize, value: usize) -> Place
     match field {
         b'n' => next.number = lines::word(value),
         b'h' => next.hops = value,
-        b'd' => next.held.delay.0 = lines::word(value),
         b'r' => next.route[index] = lines::byte(value),
-        b'f' => next.held.frames[index] = lines::byte(value),
         _ => {}
     }
-    next
+    let route = next.route;
+    let held = changed_held(place.held, field, index, value);
+    Place {
+        number: next.number,
+        hops: next.hops,
+        route,
+        held,
+    }
 }
 
 // A table with a new number of live sessions, or a change of a session.

@@ -48,7 +48,8 @@ pub(super) fn served(st: State, number: u16, route: &[u8], quotes: bool) -> Stat
     };
     let answer = served.answer;
     show::answer(answer, route.len());
-    show::after(answer.verdict, same::state(st, served.state));
+    let verdict = answer.verdict;
+    show::after(verdict, same::state(st, served.state));
     served.state
 }
 
@@ -80,14 +81,16 @@ pub(super) fn number_call(st: State, letter: u8, x: usize) -> State {
             let looked = sessions::lookup(st, lines::word(x));
             let shown = looked.shown;
             show::session(shown, letter);
-            show::after(shown.verdict, same::state(st, looked.state));
+            let verdict = shown.verdict;
+            show::after(verdict, same::state(st, looked.state));
             looked.state
         }
         b'F' => {
             let tallied = sessions::free_frames(st, lines::byte(x));
             let counted = tallied.counted;
             show::counted(counted);
-            show::after(counted.verdict, same::state(st, tallied.state));
+            let verdict = counted.verdict;
+            show::after(verdict, same::state(st, tallied.state));
             tallied.state
         }
         _ => st,
@@ -114,7 +117,8 @@ fn many(st: State, line: &[u8], sets_up: bool) -> State {
         if sets_up {
             let served = sessions::set_up(next, number, route);
             let answer = served.answer;
-            accepted = with_verdict(accepted, answer.verdict);
+            let verdict = answer.verdict;
+            accepted = with_verdict(accepted, verdict);
             next = served.state;
         } else {
             let released = sessions::release(next, number);

@@ -37,14 +37,14 @@ loop-holds c = search needs
 set-up-requires : tie.Need-set-up-requires Inv-loop μ-loop
 set-up-requires c κs = search needs
 
-with-answer-requires : tie.Need-with-answer-requires Inv-loop μ-loop
-with-answer-requires c κs = search needs
+with-verdict-requires : tie.Need-with-verdict-requires Inv-loop μ-loop
+with-verdict-requires c κs = search needs
 
 release-requires : tie.Need-release-requires Inv-loop μ-loop
 release-requires c κs = search needs
 
-with-verdict-requires : tie.Need-with-verdict-requires Inv-loop μ-loop
-with-verdict-requires c κs = search needs
+with-verdict-requires-2 : tie.Need-with-verdict-requires-2 Inv-loop μ-loop
+with-verdict-requires-2 c κs = search needs
 
 add-number : tie.Need-add-number Inv-loop μ-loop
 add-number c = search needs
@@ -79,9 +79,9 @@ many-spec =
     word-requires-2
     loop-holds
     set-up-requires
-    with-answer-requires
-    release-requires
     with-verdict-requires
+    release-requires
+    with-verdict-requires-2
     add-number
     loop-less
     loop-again

@@ -1,0 +1,62 @@
+-- `session_calls::same::table` meets its contract. The loop's invariant: i is at most 96. Assumes nothing.
+use Prim.Native.Nat.{_-_, _≤_}
+use borrow.Author.Needs.{needs}
+use Rattle.session_calls.proofs.same.table.Statement.{statement}
+use Rattle.session_calls.proofs.same.table.Tie as tie
+
+abbrev Inv-loop : tie.InvT-loop
+Inv-loop one other i₀ i = i ≤ 96
+
+abbrev μ-loop : tie.MeasureT-loop
+μ-loop one other i₀ i = 96 - i
+
+loop-holds : tie.Need-loop-holds Inv-loop μ-loop
+loop-holds c = search needs
+
+mul-first : tie.Need-mul-first Inv-loop μ-loop
+mul-first c = search needs
+
+element-copy-out-first : tie.Need-element-copy-out-first Inv-loop μ-loop
+element-copy-out-first c = search needs
+
+mul-second : tie.Need-mul-second Inv-loop μ-loop
+mul-second c = search needs
+
+element-copy-out-second : tie.Need-element-copy-out-second Inv-loop μ-loop
+element-copy-out-second c = search needs
+
+place-requires : tie.Need-place-requires Inv-loop μ-loop
+place-requires c κs = search needs
+
+returns : tie.Need-returns Inv-loop μ-loop
+returns c = search needs
+
+add-i : tie.Need-add-i Inv-loop μ-loop
+add-i c = search needs
+
+loop-less : tie.Need-loop-less Inv-loop μ-loop
+loop-less c = search needs
+
+loop-again : tie.Need-loop-again Inv-loop μ-loop
+loop-again c = search needs
+
+returns-2 : tie.Need-returns-2 Inv-loop μ-loop
+returns-2 c = search needs
+
+pub table-spec : {M : Type 1} → statement M
+table-spec =
+    tie.close
+    (tie.spec
+    Inv-loop
+    μ-loop
+    loop-holds
+    mul-first
+    element-copy-out-first
+    mul-second
+    element-copy-out-second
+    place-requires
+    returns
+    add-i
+    loop-less
+    loop-again
+    returns-2)
