@@ -49,7 +49,11 @@ pub(super) fn served(st: State, number: u16, route: &[u8], quotes: bool) -> Stat
     let answer = served.answer;
     show::answer(answer, route.len());
     let verdict = answer.verdict;
-    show::after(verdict, same::state(st, served.state));
+    show::after(
+        verdict,
+        same::network(st.network, served.state.network),
+        same::state(st, served.state),
+    );
     served.state
 }
 
@@ -74,7 +78,11 @@ pub(super) fn number_call(st: State, letter: u8, x: usize) -> State {
             let released = sessions::release(st, lines::word(x));
             let verdict = released.verdict;
             show::verdict(verdict);
-            show::after(verdict, same::state(st, released.state));
+            show::after(
+                verdict,
+                same::network(st.network, released.state.network),
+                same::state(st, released.state),
+            );
             released.state
         }
         b'L' | b'E' => {
@@ -82,7 +90,11 @@ pub(super) fn number_call(st: State, letter: u8, x: usize) -> State {
             let shown = looked.shown;
             show::session(shown, letter);
             let verdict = shown.verdict;
-            show::after(verdict, same::state(st, looked.state));
+            show::after(
+                verdict,
+                same::network(st.network, looked.state.network),
+                same::state(st, looked.state),
+            );
             looked.state
         }
         b'F' => {
@@ -90,7 +102,11 @@ pub(super) fn number_call(st: State, letter: u8, x: usize) -> State {
             let counted = tallied.counted;
             show::counted(counted);
             let verdict = counted.verdict;
-            show::after(verdict, same::state(st, tallied.state));
+            show::after(
+                verdict,
+                same::network(st.network, tallied.state.network),
+                same::state(st, tallied.state),
+            );
             tallied.state
         }
         _ => st,

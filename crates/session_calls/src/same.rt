@@ -45,7 +45,7 @@ fn table(one: Table, other: Table) -> bool {
 }
 
 // All 32 places of a network.
-fn network(one: Network, other: Network) -> bool {
+pub(super) fn network(one: Network, other: Network) -> bool {
     let mut i: usize = 0;
     while i < 32 {
         let first = one.links[i];

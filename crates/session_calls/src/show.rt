@@ -122,14 +122,13 @@ pub(super) fn kept(same: bool) {
     }
 }
 
-// Says where the state after a refused call isn't the one before it.
-pub(super) fn after(verdict: Verdict, same: bool) {
-    match verdict {
-        Verdict::Passed => {}
-        Verdict::Refused(_) => {
-            if !same {
-                text(b" changed");
-            }
-        }
+// Says where the state after a refused call isn't the one before it, and where the network after any call isn't.
+pub(super) fn after(verdict: Verdict, network: bool, state: bool) {
+    let kept = match verdict {
+        Verdict::Passed => network,
+        Verdict::Refused(_) => state,
+    };
+    if !kept {
+        text(b" changed");
     }
 }
