@@ -19,7 +19,7 @@ GoesOn g k [] (i ∷ is) = ⊥
 GoesOn g k (h ∷ hs) [] = ⊥
 GoesOn g k (h ∷ hs) (i ∷ is) = (i < h .frames) × (isAllowed g h k i ≡ true) × GoesOn h i hs is
 
--- A SCHEDULE over the hops of a route, a frame for each, "hop 0 first": "a free frame at hop 0 and an allowed transition into each later hop"
+-- A SCHEDULE over the hops of a route, a frame for each, hop 0 first: "a free frame at hop 0 and an allowed transition into each later hop"
 abbrev pub IsSchedule : List Hop → List ℕ → Type 0
 IsSchedule [] fs = ⊥
 IsSchedule (h ∷ hs) [] = ⊥

@@ -1,4 +1,4 @@
--- Demand 3: one statement about a whole list of calls from a fresh network. Assumes nothing.
+-- Demand 3, in its own words and those of document 01: one statement about a whole list of calls from a fresh network. Assumes nothing.
 use mathlib.Core.Path.{_≡_}
 use mathlib.Core.Bool.{true, false}
 use mathlib.Core.Logic.{_↔_}

@@ -65,7 +65,7 @@ abbrev pub linkRead : LinkRecord → Outcome Linked
 linkRead (Fields l used) = given (record { link = l; used = used })
 linkRead (Refused r) = refused (refusalNumber r)
 
--- the values in which a network is stored: "unused hop and link places hold 0"
+-- the values in which a network is stored; a place that no link stands in has 0 in each field
 abbrev pub stored : ℕ → List Link → Network
 stored T ls = record { ticks = T; count = length ls; links = firsts 32 ls noLink }
 

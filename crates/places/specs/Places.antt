@@ -3,8 +3,7 @@ use mathlib.Core.List.{List, [], _∷_}
 use Prim.Native.Nat.{ℕ, zero, suc}
 
 module _ {A : Type 0} where
-  -- the first n elements of a list, with d in every place past its end: "unused hop and link places hold 0", and a number above an
-  -- array's places shows as a list of that length
+  -- the first n elements of a list, with d in every place past its end; a number above an array's places shows as a list of that length
   unfoldable pub firsts : ℕ → List A → A → List A
   firsts zero l d = []
   firsts (suc n) [] d = d ∷ firsts n [] d

@@ -205,15 +205,15 @@ module _ (st : State) (call : Call) where
   after-call : (after : State) × Leaves st call after
   after-call = left-for (effect call (reply (viewOf st) call)) refl
 
-  served : (q : Quoted) × Quotes (reply (viewOf st) call) q → (r : Served) × Serves st call r
-  served q = (record { answer = q .0; state = after-call .0 }, record { answer = q .1; after = after-call .1 })
+  serving : (q : Quoted) × Quotes (reply (viewOf st) call) q → (r : Served) × Serves st call r
+  serving q = (record { answer = q .0; state = after-call .0 }, record { answer = q .1; after = after-call .1 })
 
 -- EACH CONTRACT CAN BE MET ON EVERY STATE
 pub contracts-met : ContractsMet
 contracts-met st =
     record {
-      set-up = λ n route. served st (SetUp n route) (set-up-quoted (viewOf st) n route);
-      quote = λ route. served st (Quote route) (quote-quoted (viewOf st) route);
+      set-up = λ n route. serving st (SetUp n route) (set-up-quoted (viewOf st) n route);
+      quote = λ route. serving st (Quote route) (quote-quoted (viewOf st) route);
       release = λ n.
           let w = released (viewOf st) n in
           let a = after-call st (Release n) in

@@ -8,11 +8,11 @@ use lib.Count.{ones}
 use lib.Dec.{eqb, ltb}
 use Rattle.lists.specs.Count.{oneIf, countBelow}
 
--- bit i of a word: "one bit of 64 per frame, bit i for frame i"
+-- bit i of a word, as of the word of closed frames: "one bit of 64 per frame, bit i for frame i"
 unfoldable pub bitOf : ℕ → ℕ → Bool
 bitOf w i = eqb (w / 2 ^ i % 2) 1
 
--- the word of the frames below K that pass a test, with "none at K or above"
+-- the word of the frames below K that pass a test, without a bit at K or above
 unfoldable pub wordOf : ℕ → (ℕ → Bool) → ℕ
 wordOf zero f = 0
 wordOf (suc n) f = wordOf n f + oneIf (f n) * 2 ^ n
