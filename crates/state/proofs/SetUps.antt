@@ -1,5 +1,5 @@
 -- Each return of a quote and of a set-up on a state that isn't broken. Assumes nothing.
-use mathlib.Core.Path.{_≡_, refl, sym, ap, ap₂, subst, _∙_}
+use mathlib.Core.Path.{_≡_, refl, sym, ap, subst, _∙_}
 use mathlib.Core.Bool.{Bool, true, false}
 use mathlib.Core.List.{List, [], _∷_, _++_}
 use Prim.Native.Nat.{ℕ, _<_, _≤_}
@@ -9,7 +9,7 @@ use lib.Dec.{leb}
 use borrow.Author.Tests.{leb-false}
 use Rattle.places.specs.Places.{firsts}
 use Rattle.places.proofs.Firsts.{firsts-back}
-use Rattle.trellis.specs.Answer.{found, blocked, nodesOf}
+use Rattle.trellis.specs.Answer.{found, nodesOf}
 use Rattle.trellis.specs.Answer as trellis
 use Rattle.refusals.specs.Refusals.{refusalNumber, refusalCount, given, pass, ruling}
 use Rattle.refusals.specs.Refusals as outcome
@@ -22,7 +22,6 @@ use Rattle.network.specs.Network.{Topology, topologyOf}
 use Rattle.network.specs.declared.Network.{Network}
 use Rattle.forwarding.specs.declared.Delay.{Delay}
 use Rattle.forwarding.specs.declared.Held.{Held}
-use Rattle.forwarding.specs.declared.Hop.{Hop}
 use Rattle.forwarding.specs.Route.{routeAnswer}
 use Rattle.search.specs.Reading.{reading}
 use Rattle.search.specs.declared.Finding.{Finding}
@@ -43,7 +42,7 @@ use Rattle.table.specs.Table.{sessionOf, liveOf}
 use Rattle.table.proofs.Live.{in-length}
 use Rattle.state.specs.declared.State.{State}
 use Rattle.state.specs.declared.Quoted.{Quoted}
-use Rattle.state.specs.State.{viewOf, quotedOf, notQuoted, Quotes, Serves}
+use Rattle.state.specs.State.{viewOf, notQuoted, Quotes, Serves}
 use Rattle.state.specs.Inner.{Searched}
 use Rattle.state.proofs.Replies.{route-refuses, number-refuses, places-refuse, none-refuses, quote-check, refused-reply, granted-reply, refusal-leaves, stays, moves}
 

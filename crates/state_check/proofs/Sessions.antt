@@ -23,11 +23,10 @@ use Rattle.forwarding.specs.declared.Delay.{Delay}
 use Rattle.forwarding.specs.Hops.{noHop, Ready}
 use Rattle.forwarding.specs.Schedule.{isSchedule, scheduleDelay}
 use Rattle.ledger.specs.Lists.{allOf}
-use Rattle.ledger.specs.Held.{Holding, nodesIn, holdingOf}
 use Rattle.ledger.specs.Sessions.{hopsOf}
 use Rattle.ledger.specs.Inner.{HeldWords}
 use Rattle.ledger.specs.Routes.{badLength, routeCheck}
-use Rattle.ledger.specs.Sound.{passes, goodHeld, goodSession}
+use Rattle.ledger.specs.Sound.{goodHeld, goodSession}
 use Rattle.ledger.proofs.Lists.{eqb-flip}
 use Rattle.ledger.proofs.Held.{frames-in, same-held}
 use Rattle.routes.specs.Hops.{hopsFrom, delayIf, walkedDelay}

@@ -1,7 +1,6 @@
 // The text of the program frames, put into a buffer that the caller lends: its callers know the room. Each function answers the place after what
 // it put, and leaves every other byte.
 use forwarding::Held;
-ghost use mathlib.Core.Path.{_≡_};
 ghost use mathlib.Core.List.{[], _∷_, _++_};
 ghost use Prim.Native.Nat.{_+_, _≤_};
 ghost use lib.ListN.{length};

@@ -2,7 +2,6 @@
 use borrow.Author.Needs.{needs}
 use Rattle.report.proofs.place_after.Statement.{statement}
 use Rattle.report.proofs.place_after.Tie as tie
-use Prim.Native.Nat.{_-_}
 
 enum-told : tie.Need-enum-told
 enum-told c = search needs

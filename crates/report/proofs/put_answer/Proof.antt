@@ -2,7 +2,6 @@
 use borrow.Author.Needs.{needs}
 use Rattle.report.proofs.put_answer.Statement.{statement}
 use Rattle.report.proofs.put_answer.Tie as tie
-use Prim.Native.Nat.{_-_}
 use Rattle.report.proofs.Answering.{schedule-room, schedule-put, refusal-room, refusal-put}
 
 enum-told : tie.Need-enum-told

@@ -2,7 +2,6 @@
 use borrow.Author.Needs.{needs}
 use Rattle.report.proofs.put_refusal.Statement.{statement}
 use Rattle.report.proofs.put_refusal.Tie as tie
-use Prim.Native.Nat.{_-_}
 
 number-requires : tie.Need-number-requires
 number-requires c κs = search needs

@@ -2,7 +2,6 @@
 use borrow.Author.Needs.{needs}
 use Rattle.report.proofs.quote.Statement.{statement}
 use Rattle.report.proofs.quote.Tie as tie
-use Prim.Native.Nat.{_-_}
 use Rattle.report.proofs.Answering.{quote-room, quote-turn}
 
 quote-requires : tie.Need-quote-requires

@@ -2,7 +2,6 @@
 use borrow.Author.Needs.{needs}
 use Rattle.report.proofs.release.Statement.{statement}
 use Rattle.report.proofs.release.Tie as tie
-use Prim.Native.Nat.{_-_}
 use Rattle.report.proofs.Answering.{release-room, release-turn}
 
 release-requires : tie.Need-release-requires

@@ -3,7 +3,6 @@ use borrow.Author.Needs.{needs}
 use Rattle.report.proofs.report.Statement.{statement}
 use Rattle.report.proofs.report.Tie as tie
 use native.Mathlib.Omega.{arith}
-use Prim.Native.Nat.{_-_}
 use Rattle.report.proofs.Whole.{long-report}
 use Rattle.report.proofs.Bound.{text-bound}
 use Rattle.report.proofs.Whole.{long-report, back-long}

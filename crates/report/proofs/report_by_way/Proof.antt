@@ -4,7 +4,6 @@ use Rattle.report.proofs.report_by_way.Statement.{statement}
 use Rattle.report.proofs.report_by_way.Tie as tie
 use mathlib.Core.Path.{refl}
 use native.Mathlib.Omega.{arith}
-use Prim.Native.Nat.{_-_}
 use lib.ListN.{length}
 use Rattle.report.proofs.Whole.{bound-most, short-report}
 use Rattle.report.proofs.Bound.{text-bound}

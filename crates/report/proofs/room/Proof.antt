@@ -2,7 +2,7 @@
 use Rattle.report.proofs.room.Statement.{statement}
 use Rattle.report.proofs.room.Tie as tie
 use mathlib.Core.Path.{refl}
-use Prim.Native.Nat.{ℕ, _-_}
+use Prim.Native.Nat.{ℕ}
 use lib.ListN.{length-replicate}
 
 returns : tie.Need-returns

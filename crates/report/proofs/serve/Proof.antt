@@ -2,7 +2,6 @@
 use borrow.Author.Needs.{needs}
 use Rattle.report.proofs.serve.Statement.{statement}
 use Rattle.report.proofs.serve.Tie as tie
-use Prim.Native.Nat.{_-_}
 use Rattle.report.proofs.Answering.{says-set-up, says-quote, says-release, says-nothing}
 
 route-requires : tie.Need-route-requires

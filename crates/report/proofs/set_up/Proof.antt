@@ -2,7 +2,6 @@
 use borrow.Author.Needs.{needs}
 use Rattle.report.proofs.set_up.Statement.{statement}
 use Rattle.report.proofs.set_up.Tie as tie
-use Prim.Native.Nat.{_-_}
 use Rattle.report.proofs.Answering.{set-up-room, set-up-turn}
 
 set-up-requires : tie.Need-set-up-requires

@@ -2,7 +2,6 @@
 use borrow.Author.Needs.{needs}
 use Rattle.report.proofs.text_bound.Statement.{statement}
 use Rattle.report.proofs.text_bound.Tie as tie
-use Prim.Native.Nat.{_-_}
 use Rattle.report.proofs.Whole.{bound-is}
 
 counted-requires : tie.Need-counted-requires

@@ -2,7 +2,6 @@
 use borrow.Author.Needs.{needs}
 use Rattle.report.proofs.write_text.Statement.{statement}
 use Rattle.report.proofs.write_text.Tie as tie
-use Prim.Native.Nat.{_-_}
 use Rattle.report.proofs.Whole.{counted-long, refused-room, refused-put, read-room, read-put}
 
 read-network-requires : tie.Need-read-network-requires
