@@ -8,8 +8,7 @@ use lib.ListN.{length}
 use lib.Dec.{leb}
 use borrow.Author.Tests.{le-leb, leb-true, not-true}
 use Rattle.lists.proofs.Count as tests
-use Rattle.refusals.specs.Refusals.{Ruling, given, refused, pass, refuseIf, orElse}
-use Rattle.refusals.proofs.Refusals.{past, not-refused}
+use Rattle.refusals.specs.Refusals.{Ruling, given, refused, pass}
 use Rattle.network.specs.Network.{Topology}
 use Rattle.network.specs.Checks.{networkCheck}
 use Rattle.forwarding.specs.declared.Hop.{Hop}
@@ -18,7 +17,7 @@ use Rattle.forwarding.proofs.Schedules.{told-schedule, schedule-told}
 use Rattle.ledger.specs.Lists.{allOf}
 use Rattle.ledger.specs.Held.{heldOver, nodesIn, sameHeld}
 use Rattle.ledger.specs.Sessions.{Session, View, hopsOf}
-use Rattle.ledger.specs.Routes.{badLength, unknownLink, linkTwice, ratesApart, ratesOf, routeCheck}
+use Rattle.ledger.specs.Routes.{routeCheck}
 use Rattle.ledger.specs.Sound.{passes, goodNetwork, fewSessions, numberTwice, goodHeld, goodSession, frameTwice, sound, derived, intact}
 use Rattle.ledger.specs.Demand.{fresh, FreshIntact}
 use Rattle.ledger.proofs.Held.{same-is, is-same}
@@ -30,24 +29,6 @@ passes-given (refused n) e = absurd (false≢true e)
 
 pub given-passes : (r : Ruling) → r ≡ given pass → passes r ≡ true
 given-passes r e = rw e
-
--- ---- a route that passed 12 to 15
-pub record GoodRoute (net : Topology) (route : List ℕ) : Type 0 where
-  pub few : badLength (length route) ≡ false
-  pub known : unknownLink net route ≡ false
-  pub once : linkTwice route ≡ false
-  pub rates : ratesApart (ratesOf net route) ≡ false
-
-pub route-good : (net : Topology) (route : List ℕ) → routeCheck net route ≡ given pass → GoodRoute net route
-unfolding routeCheck
-route-good net route e =
-    let r : Ruling = refuseIf (ratesApart (ratesOf net route)) 15 in
-    let o : Ruling = orElse (refuseIf (linkTwice route) 14) r in
-    let k : Ruling = orElse (refuseIf (unknownLink net route) 13) o in
-    let a : (badLength (length route) ≡ false) × (k ≡ given pass) = past (badLength (length route)) 12 k pass e in
-    let b : (unknownLink net route ≡ false) × (o ≡ given pass) = past (unknownLink net route) 13 o pass (a .1) in
-    let c : (linkTwice route ≡ false) × (r ≡ given pass) = past (linkTwice route) 14 r pass (b .1) in
-    record { few = a .0; known = b .0; once = c .0; rates = not-refused (ratesApart (ratesOf net route)) 15 (c .1) }
 
 -- ---- a session that keeps the rules
 pub record GoodSession (net : Topology) (s : Session) : Type 0 where

@@ -18,7 +18,7 @@ use Rattle.ledger.specs.Routes.{routeCheck}
 use Rattle.ledger.specs.Sound.{numberTwice, sameNumber, goodSession, shareSlot, frameTwice}
 use Rattle.ledger.specs.Calls.{Call, SetUp, Quote, Release, Reply, unless, full, callCheck, granted, effect, otherThan, liveAfter, left, next, NextIntact}
 use Rattle.ledger.specs.Demand.{LeastOrBlocked, least, none}
-use Rattle.ledger.proofs.Lists.{neither-or, eqb-flip, any-cong, all-snoc, anyTwo-snoc, any-or, all-keep, anyTwo-keep, length-keep}
+use Rattle.ledger.proofs.Lists.{neither-or, eqb-flip, any-cong, all-snoc, anyTwo-snoc, any-swap, all-keep, anyTwo-keep, length-keep}
 use Rattle.ledger.proofs.Held.{held-free}
 use Rattle.ledger.proofs.Intact.{Intact, GoodSession, good-session, intact-is, is-intact}
 use Rattle.ledger.proofs.Schedules.{schedule-unclosed, delay-same, over-nodes, over-unheld}
@@ -28,11 +28,9 @@ use Rattle.ledger.proofs.Answered.{answerOn, reply-intact, Admitted, ad
 number-new : (ss : List Session) (u : Session) → isLive (u .number) ss ≡ false → anyOf (λ s. sameNumber s u) ss ≡ false
 number-new ss u h = any-cong (λ s. sameNumber s u) (λ s. eqb (s .number) (u .number)) ss (λ s. eqb-flip (u .number) (s .number)) ∙ h
 
+-- none of the others shares a frame with it that holds none of theirs
 unheld-unshared : (ss : List Session) (u : Session) → anyOf (heldIn ss) (slotsOf u) ≡ false → anyOf (λ s. shareSlot s u) ss ≡ false
-unheld-unshared [] u h = refl
-unheld-unshared (s ∷ ss) u h =
-    let a = tests.or-neither (shareSlot s u) (anyOf (heldIn ss) (slotsOf u)) (sym (any-or (λ x. holds x s) (heldIn ss) (slotsOf u)) ∙ h) in
-    neither-or (shareSlot s u) (anyOf (λ t. shareSlot t u) ss) (a .0) (unheld-unshared ss u (a .1))
+unheld-unshared ss u h = sym (any-swap holds (slotsOf u) ss) ∙ h
 
 module _ (net : Topology) (ss : List Session) (h : Intact net ss) where
   few-more : (u : Session) → full ss ≡ false → length (ss ++ (u ∷ [])) ≤ 96

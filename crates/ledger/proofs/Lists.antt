@@ -72,6 +72,10 @@ module _ {A : Type 0} where
   any-or p q [] = refl
   any-or p q (y ∷ ys) = ap (λ (b : Bool). (p y || q y) || b) (any-or p q ys) ∙ or-middle (p y) (q y) (anyOf p ys) (anyOf q ys)
 
+  any-none : (xs : List A) → anyOf (λ x. false) xs ≡ false
+  any-none [] = refl
+  any-none (x ∷ xs) = any-none xs
+
   -- lists that agree place by place are equal, and back
   pub same-list : (r : A → A → Bool) → ((x y : A) → r x y ≡ true → x ≡ y) → (xs ys : List A) → sameList r xs ys ≡ true → xs ≡ ys
   same-list r equal [] [] h = refl
@@ -184,3 +188,8 @@ module _ {A : Type 0} where
       none-member (r y) ys (tests.or-neither (anyOf (r y) ys) (anyTwo r ys) h .0) (member-at ys k d (le-of-suc-le-suc m))
   anyTwo-at r (y ∷ ys) (suc j) (suc k) d h l m =
       anyTwo-at r ys j k d (tests.or-neither (anyOf (r y) ys) (anyTwo r ys) h .1) (le-of-suc-le-suc l) (le-of-suc-le-suc m)
+
+-- some of one list with some of another: either list may come first
+pub any-swap : {A B : Type 0} (r : A → B → Bool) (xs : List A) (ys : List B) → anyOf (λ x. anyOf (r x) ys) xs ≡ anyOf (λ y. anyOf (λ x. r x y) xs) ys
+any-swap r [] ys = sym (any-none ys)
+any-swap r (x ∷ xs) ys = ap (λ (b : Bool). anyOf (r x) ys || b) (any-swap r xs ys) ∙ sym (any-or (r x) (λ y. anyOf (λ z. r z y) xs) ys)

@@ -13,7 +13,7 @@ use Rattle.places.specs.Places.{firsts}
 use Rattle.places.proofs.Firsts.{getD-firsts, firsts-filled, firsts-more}
 use Rattle.refusals.specs.Refusals.{given, pass}
 use Rattle.words.specs.Word.{bitOf, wordOf, freeAt, freeWord}
-use Rattle.words.proofs.Words.{word-lt, word-only, bit-below}
+use Rattle.words.proofs.Words.{word-cong, bit-below}
 use Rattle.network.specs.declared.Link.{Link}
 use Rattle.network.specs.declared.Network.{Network}
 use Rattle.network.specs.Network.{Topology, noLink, topologyOf}
@@ -63,8 +63,7 @@ module _ (links : List Link) (held route : List ℕ) where
 free-held : (K closed : ℕ) (held : ℕ → Bool) → K ≤ 64 → freeWord K closed (wordOf 64 held) ≡ wordOf K (λ i. not (bitOf closed i) && not (held i))
 unfolding freeWord freeAt
 free-held K closed held h =
-    word-only K (wordOf K (freeAt closed (wordOf 64 held))) (λ i. not (bitOf closed i) && not (held i)) (word-lt K (freeAt closed (wordOf 64 held)))
-    (λ i l. bit-below K (freeAt closed (wordOf 64 held)) i l ∙ rw (bit-below 64 held i (omega arith)))
+    word-cong K (freeAt closed (wordOf 64 held)) (λ i. not (bitOf closed i) && not (held i)) (λ i l. rw (bit-below 64 held i (omega arith)))
 
 pub hop-held : (network : Network) (held : List ℕ) (ss : List Session) (l : ℕ) → HeldWords held ss → networkCheck (topologyOf network) ≡ given pass → l < network .count → hopFrom (getD (network .links) l noLink) (getD held l 0) ≡ hopOf (topologyOf network) ss l
 unfolding freeOf

@@ -46,11 +46,6 @@ use Rattle.state.specs.State.{viewOf, notQuoted, Quotes, Serves}
 use Rattle.state.specs.Inner.{Searched}
 use Rattle.state.proofs.Replies.{route-refuses, number-refuses, places-refuse, none-refuses, quote-check, refused-reply, granted-reply, refusal-leaves, stays, moves}
 
--- what isn't a schedule is blocked
-pub not-schedule : (tag : Found → ℕ) → ((d : Delay) → tag (result.Schedule d) ≡ 0) → (x : Found) → tag x ≡ 1 → x ≡ result.Blocked
-not-schedule tag h (result.Schedule d) e = absurd (omega (arith, h d, e))
-not-schedule tag h result.Blocked e = refl
-
 -- ---- the checks of a set-up after 0, in turn
 module _ (network : Network) (ss : List Session) (n : ℕ) (route : List ℕ) (v : Verdict) (ev : ruling v ≡ routeCheck (topologyOf network) route) where
   pub checked-route : (r : Refusal) → v ≡ verdict.Refused r → outcome.refused (refusalNumber r) ≡ callCheck (topologyOf network) ss (SetUp n route)

@@ -11,12 +11,8 @@ use lib.Dec.{eqb}
 use borrow.Author.Tests.{eqb-true, eqb-false}
 use Rattle.words.specs.Word.{bitOf, wordOf, withBit, Words}
 use Rattle.words.proofs.Bits.{bit-zero}
-use Rattle.words.proofs.Words.{word-lt, word-only, bit-below}
+use Rattle.words.proofs.Words.{word-only, word-cong, bit-below}
 use Rattle.ledger.proofs.Lists.{eqb-flip}
-
--- words of the same bits
-pub word-cong : (K : ℕ) (f g : ℕ → Bool) → ((i : ℕ) → i < K → f i ≡ g i) → wordOf K f ≡ wordOf K g
-word-cong K f g h = word-only K (wordOf K f) g (word-lt K f) (λ i l. bit-below K f i l ∙ h i l)
 
 -- a bit of one of the words
 pub words-bit : (n : ℕ) (words : List ℕ) (p : ℕ → ℕ → Bool) → Words n words p → (a i : ℕ) → a < n → i < 64 → bitOf (getD words a 0) i ≡ p a i

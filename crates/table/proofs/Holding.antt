@@ -1,7 +1,7 @@
 -- The words of held frames of the sessions in the first places. Assumes nothing.
 use mathlib.Core.Path.{_≡_, refl, sym, ap, subst, _∙_}
-use mathlib.Core.Bool.{Bool, false, _||_}
-use mathlib.Core.List.{List, [], _∷_}
+use mathlib.Core.Bool.{_||_}
+use mathlib.Core.List.{List}
 use Prim.Native.Nat.{ℕ, _+_}
 use lib.ListN.{getD, replicate}
 use Rattle.places.specs.Places.{firsts}
@@ -9,27 +9,13 @@ use Rattle.ledger.specs.Lists.{anyOf, anyTwo}
 use Rattle.ledger.specs.Sessions.{Session, slot, slotsOf, holds, heldIn}
 use Rattle.ledger.specs.Inner.{HeldWords}
 use Rattle.ledger.specs.Sound.{shareSlot, frameTwice}
-use Rattle.ledger.proofs.Lists.{or-middle, any-snoc}
+use Rattle.ledger.proofs.Lists.{any-snoc, any-swap}
 use Rattle.table.specs.declared.Place.{Place}
 use Rattle.table.specs.Table.{sessionOf, noPlace, inPlaces}
 use Rattle.table.specs.Inner.{PlaceWithin, Within, Marked, markedIn}
 use Rattle.table.proofs.Live.{in-snoc}
 use Rattle.table.proofs.Banks.{words-bit, words-same, words-none}
 use Rattle.table.proofs.Marks.{firstSlots, any-same}
-
--- ---- some of one list with some of another: either list may come first
-module _ {A : Type 0} where
-  any-or : (p q : A → Bool) (xs : List A) → (anyOf p xs || anyOf q xs) ≡ anyOf (λ x. p x || q x) xs
-  any-or p q [] = refl
-  any-or p q (x ∷ xs) = or-middle (p x) (anyOf p xs) (q x) (anyOf q xs) ∙ ap (λ (b : Bool). (p x || q x) || b) (any-or p q xs)
-
-  any-none : (xs : List A) → anyOf (λ x. false) xs ≡ false
-  any-none [] = refl
-  any-none (x ∷ xs) = any-none xs
-
-any-swap : {A B : Type 0} (r : A → B → Bool) (xs : List A) (ys : List B) → anyOf (λ x. anyOf (r x) ys) xs ≡ anyOf (λ y. anyOf (λ x. r x y) xs) ys
-any-swap r [] ys = sym (any-none ys)
-any-swap r (x ∷ xs) ys = ap (λ (b : Bool). anyOf (r x) ys || b) (any-swap r xs ys) ∙ any-or (r x) (λ y. anyOf (λ z. r z y) xs) ys
 
 -- ---- the words of the first sessions
 pub held-none : (places : List Place) → HeldWords (replicate 32 0) (inPlaces 0 places)

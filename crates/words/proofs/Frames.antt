@@ -1,4 +1,4 @@
--- The words of all frames, of a frame more or less, and of the free frames. Assumes nothing.
+-- The words of all frames, and of a frame more or less. Assumes nothing.
 use mathlib.Core.Path.{_≡_, refl, _∙_}
 use mathlib.Core.Bool.{true, false, not, _&&_, _||_, and-true}
 use Prim.Native.Nat.{ℕ, zero, suc, _-_, _^_, _<_, _≤_}
@@ -7,7 +7,7 @@ use native.Mathlib.Omega.{arith}
 use lib.Dec.{eqb, ltb}
 use lib.Pow.{pow-pos, pow-mono}
 use borrow.Author.Tests.{ne-eqb}
-use Rattle.words.specs.Word.{bitOf, wordOf, onesBelow, withBit, withoutBit, freeAt, freeWord}
+use Rattle.words.specs.Word.{bitOf, wordOf, onesBelow, withBit, withoutBit}
 use Rattle.words.proofs.Bits.{bit-high}
 use Rattle.words.proofs.Words.{bit-word, bit-within, word-lt, word-below}
 
@@ -31,11 +31,6 @@ bit-with m w i h l = bit-within m (λ j. bitOf w j || eqb j i) (λ j g. rw (bit-
 pub bit-without : (m w i : ℕ) → w < 2 ^ m → (j : ℕ) → bitOf (withoutBit m w i) j ≡ (bitOf w j && not (eqb j i))
 unfolding withoutBit
 bit-without m w i h = bit-within m (λ j. bitOf w j && not (eqb j i)) (λ j g. rw (bit-high m w j h g))
-
--- "bit i stands for a free frame i", and none at K or above
-pub bit-free : (K closed held i : ℕ) → bitOf (freeWord K closed held) i ≡ (ltb i K && freeAt closed held i)
-unfolding freeWord
-bit-free K closed held i = bit-word K (freeAt closed held) i
 
 -- a word of n bits is one of n bits with bit i too, whatever the width m
 pub with-lt : (m n w i : ℕ) → n ≤ m → w < 2 ^ n → i < n → withBit m w i < 2 ^ n

@@ -84,3 +84,7 @@ word-below m K w h k none =
     same : w % 2 ^ K < 2 ^ K → (i : ℕ) → Dec (i < K) → bitOf w i ≡ bitOf (w % 2 ^ K) i
     same low i (yes l) = sym (bit-mod K w i l)
     same low i (no n) = let g : K ≤ i = omega arith in none i g ∙ sym (bit-high K (w % 2 ^ K) i low g)
+
+-- words of the same bits
+pub word-cong : (K : ℕ) (f g : ℕ → Bool) → ((i : ℕ) → i < K → f i ≡ g i) → wordOf K f ≡ wordOf K g
+word-cong K f g h = word-only K (wordOf K f) g (word-lt K f) (λ i l. bit-below K f i l ∙ h i l)
