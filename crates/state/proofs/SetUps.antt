@@ -37,6 +37,7 @@ use Rattle.ledger.proofs.Answered.{admitted}
 use Rattle.ledger.proofs.Refused.{not-eighteen}
 use Rattle.ledger.proofs.Scheduled.{scheduled, scheduled-back}
 use Rattle.routes.proofs.Routes.{route-long}
+use Rattle.table.specs.declared.Place.{Place}
 use Rattle.table.specs.declared.Table.{Table}
 use Rattle.table.specs.Table.{sessionOf, liveOf}
 use Rattle.table.proofs.Live.{in-length}
@@ -71,11 +72,11 @@ pub room-left : (table : Table) → full (liveOf table) ≡ false → table .liv
 room-left table e = leb-false 96 (table .live) (full-told table (leb 96 (table .live)) refl ∙ e)
 
 -- a place reads as the session that was stored in it
-pub stored-route : (ss : List Session) (number : ℕ) (route eight : List ℕ) (held : Held) → eight ≡ firsts 8 route 0 → length route ≤ 8
-    → ss ++ (sessionOf (record { number = number; hops = length route; route = eight; held = held }) ∷ [])
-    ≡ ss ++ (record { number = number; route = route; held = holdingOf (length route) held } ∷ [])
-stored-route ss number route eight held e few =
-    ap (λ (links : List ℕ). ss ++ (record { number = number; route = links; held = holdingOf (length route) held } ∷ []))
+pub stored-route : (number : ℕ) (route eight : List ℕ) (held : Held) → eight ≡ firsts 8 route 0 → length route ≤ 8
+    → sessionOf (record { number = number; hops = length route; route = eight; held = held })
+    ≡ record { number = number; route = route; held = holdingOf (length route) held }
+stored-route number route eight held e few =
+    ap (λ (links : List ℕ). record { number = number; route = links; held = holdingOf (length route) held })
     (ap (λ (l : List ℕ). firsts (length route) l 0) e ∙ firsts-back 8 route 0 few)
 
 -- ---- what a search found, as an answer
@@ -161,8 +162,9 @@ module _ (st : State) (ok : intact (viewOf st) ≡ true) where
     set-up-granted = granted-reply (viewOf st) ok (SetUp n route) passed
 
     -- the frames are held
-    module _ (f : Finding) (s : Searched (topologyOf (st .network)) (liveOf (st .table)) route f) (d : Delay) (e : f .found ≡ result.Schedule d) (table : Table)
-        (et : liveOf table ≡ liveOf (st .table) ++ (record { number = n; route = route; held = holdingOf (length route) (record { frames = f .frames; delay = d }) } ∷ [])) where
+    module _ (f : Finding) (s : Searched (topologyOf (st .network)) (liveOf (st .table)) route f) (d : Delay) (e : f .found ≡ result.Schedule d) (place : Place)
+        (ep : sessionOf place ≡ record { number = n; route = route; held = holdingOf (length route) (record { frames = f .frames; delay = d }) }) (table : Table)
+        (et : liveOf table ≡ liveOf (st .table) ++ (sessionOf place ∷ [])) where
       held : Holding
       held = found-held (SetUp n route) route f s set-up-granted d e
 
@@ -189,5 +191,5 @@ module _ (st : State) (ok : intact (viewOf st) ≡ true) where
           record {
             answer = quotes-found (SetUp n route) route f s set-up-granted d e;
             after = moves st (SetUp n route) (enters record { number = n; route = route; held = held }) (ap (effect (SetUp n route)) accepted) (enters-moves _) table
-                (et ∙ ap (λ (h : Holding). liveOf (st .table) ++ (record { number = n; route = route; held = h } ∷ [])) stored);
+                (et ∙ ap (λ (u : Session). liveOf (st .table) ++ (u ∷ [])) (ep ∙ ap (λ (h : Holding). record { number = n; route = route; held = h }) stored));
           }

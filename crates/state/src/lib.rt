@@ -10,8 +10,7 @@ use table::Place;
 use table::Table;
 ghost use mathlib.Core.Path.{_≡_};
 ghost use mathlib.Core.Bool.{true};
-ghost use mathlib.Core.List.{[], _∷_, _++_};
-ghost use Prim.Native.Nat.{_<_, _≤_};
+ghost use Prim.Native.Nat.{_≤_};
 ghost use lib.Dec.{leb};
 ghost use lib.ListN.{length};
 ghost use Rattle.refusals.specs.Refusals.{given, pass, ruling};
@@ -22,7 +21,7 @@ ghost use Rattle.ledger.specs.Sessions.{isLive};
 ghost use Rattle.ledger.specs.Routes.{routeCheck};
 ghost use Rattle.ledger.specs.Sound.{intact};
 ghost use Rattle.ledger.specs.Calls.{SetUp, Quote, callCheck, reply};
-ghost use Rattle.table.specs.Table.{liveOf};
+ghost use Rattle.table.specs.Table.{sessionOf, liveOf};
 ghost use Rattle.table.specs.Inner.{AllWithin};
 ghost use Rattle.state.specs.State.{viewOf, notQuoted, Quotes, Serves, Releases};
 ghost use Rattle.state.specs.Inner.{Searched};
@@ -133,18 +132,17 @@ fn check_set_up(network: Network, table: Table, number: u16, route: &[u8]) -> Ve
     Verdict::Passed
 }
 
-// The table with a session of this number over the route, after the others. Check 17: a place is left; check 12: the route has at most 8 links.
-fn with_session(table: Table, number: u16, route: &[u8], held: Held) -> Table
-    requires { ⌜ (table .live < 96) × (length (now route) ≤ 8) ⌝ }
-    ensures { λ r. ⌜ liveOf r ≡ liveOf table ++ (record { number = number; route = now (route .entry); held = holdingOf (length (now (route .entry))) held } ∷ []) ⌝ }
+// A session of this number over the route, as it is stored. Check 12: the route has at most 8 links.
+fn new_place(number: u16, route: &[u8], held: Held) -> Place
+    requires { ⌜ length (now route) ≤ 8 ⌝ }
+    ensures { λ r. ⌜ sessionOf r ≡ record { number = number; route = now (route .entry); held = holdingOf (length (now (route .entry))) held } ⌝ }
 {
-    let place = Place {
+    Place {
         number,
         hops: route.len(),
         route: table::in_eight(route),
         held,
-    };
-    table::with_place(table, place)
+    }
 }
 
 // Set-up: holds the frames of the least-delay schedule over the route, or refuses and leaves all as it was.
@@ -172,9 +170,10 @@ pub fn set_up(st: State, number: u16, route: &[u8]) -> Served
     };
     let frames = finding.frames;
     let held = Held { frames, delay };
+    let place = new_place(number, route, held);
     let after = State {
         network,
-        table: with_session(table, number, route, held),
+        table: table::with_place(table, place),
     };
     let answer = Quoted {
         verdict: Verdict::Passed,

@@ -45,13 +45,16 @@ returns-2 : tie.Need-returns-2
 returns-2 c = let start = c .before .before .before .before .before .before .before .before .before .before in
     serves-blocked (start .args .st) (start .pre) (SetUp _ _) _ _ (c .before .before .before .least .ensures) (set-up-granted (start .args .st) (start .pre) _ _ (sym (c .before .before .before .before .before .before .check-set-up .ensures) ∙ ap ruling (c .before .before .before .before .enum-told .given .1))) (c .before .enum-told2 .given .1) _ (c .refused2 .ensures)
 
-with-session-requires : tie.Need-with-session-requires
-with-session-requires c κs = let start = c .before .before .before .before .before .before .before .before .before .before .before in
-    (room-left (start .args .st .table) (admitted _ _ _ _ (sym (c .before .before .before .before .before .before .before .check-set-up .ensures) ∙ ap ruling (c .before .before .before .before .before .enum-told .given .1)) .room), route-long _ _ (admitted _ _ _ _ (sym (c .before .before .before .before .before .before .before .check-set-up .ensures) ∙ ap ruling (c .before .before .before .before .before .enum-told .given .1)) .passed) .1)
+new-place-requires : tie.Need-new-place-requires
+new-place-requires c κs = route-long _ _ (admitted _ _ _ _ (sym (c .before .before .before .before .before .before .before .check-set-up .ensures) ∙ ap ruling (c .before .before .before .before .before .enum-told .given .1)) .passed) .1
+
+with-place-requires : tie.Need-with-place-requires
+with-place-requires c κs = let start = c .before .before .before .before .before .before .before .before .before .before .before .before in
+    room-left (start .args .st .table) (admitted _ _ _ _ (sym (c .before .before .before .before .before .before .before .before .check-set-up .ensures) ∙ ap ruling (c .before .before .before .before .before .before .enum-told .given .1)) .room)
 
 returns-3 : tie.Need-returns-3
-returns-3 c = let start = c .before .before .before .before .before .before .before .before .before .before .before .before in
-    set-up-held (start .args .st) (start .pre) _ _ (sym (c .before .before .before .before .before .before .before .before .check-set-up .ensures) ∙ ap ruling (c .before .before .before .before .before .before .enum-told .given .1)) _ (c .before .before .before .before .before .least .ensures) _ (c .before .before .before .found .given .1) _ (c .with-session .ensures)
+returns-3 c = let start = c .before .before .before .before .before .before .before .before .before .before .before .before .before in
+    set-up-held (start .args .st) (start .pre) _ _ (sym (c .before .before .before .before .before .before .before .before .before .check-set-up .ensures) ∙ ap ruling (c .before .before .before .before .before .before .before .enum-told .given .1)) _ (c .before .before .before .before .before .before .least .ensures) _ (c .before .before .before .before .found .given .1) _ (c .before .new-place .ensures) _ (c .with-place .ensures)
 
 pub set-up-spec : {M : Type 1} → statement M
 set-up-spec =
@@ -67,5 +70,6 @@ set-up-spec =
     enum-told-2
     refused-requires-2
     returns-2
-    with-session-requires
+    new-place-requires
+    with-place-requires
     returns-3)
