@@ -11,13 +11,12 @@ use lib.Dec.{ltb}
 use borrow.Author.Tests.{lt-ltb, le-ltb, ltb-true, ltb-false}
 use Rattle.places.specs.Put.{putAt}
 use Rattle.places.proofs.Puts.{put-zero, put-length}
-use Rattle.refusals.specs.Refusals.{Ruling, given, refused, refuseIf, orElse, refusalNumber}
+use Rattle.refusals.specs.Refusals.{pass, given, refused, refuseIf, orElse, refusalNumber}
 use Rattle.refusals.specs.declared.Refusal.{Refusal}
 use Rattle.refusals.specs.declared.Verdict.the-variants.{Passed, Refused}
 use Rattle.numbers.specs.Numbers.{IsBytes}
 use Rattle.network.specs.Network.{Topology, topologyOf}
 use Rattle.network.specs.Checks.{networkCheck}
-use Rattle.network.specs.declared.Network.{Network}
 use Rattle.network_file.specs.declared.Loaded.{Loaded}
 use Rattle.network_file.specs.declared.Written.{Written}
 use Rattle.network_file.specs.declared.Written.the-variants as written
@@ -28,9 +27,8 @@ use Rattle.ledger.specs.Sessions.{View}
 use Rattle.ledger.specs.Sound.{intact}
 use Rattle.ledger.specs.Demand.{fresh}
 use Rattle.ledger.proofs.Intact.{fresh-intact}
+use Rattle.state.specs.declared.State.{State}
 use Rattle.state.specs.State.{viewOf}
-use Rattle.sessions.specs.declared.Begun.{Begun}
-use Rattle.sessions.specs.Calls.{begunOn, Begins}
 use Rattle.text.specs.Digits.{Puts}
 use Rattle.text.specs.Lines.{networkLine}
 use Rattle.report.specs.Transcript.{callsIn, counted, CountedPart, linesOf, transcript}
@@ -87,29 +85,26 @@ module _ (file calls : List ℕ) (bytes : IsBytes file) (l : Loaded) (reads : Re
     unfolding said
     says = passed-says file l reads e .1
 
-    module _ (b : Begun) (begins : Begins (l .network) b) where
-      -- what was read passed its checks, and so the state is begun on it
-      first-network : b .state .network ≡ l .network
-      first-network =
-          begins .network
-          ∙ ap (λ (o : Ruling). begunOn o (l .network)) (ap networkCheck (read-stands file said l bytes says reads) ∙ read-passes file said bytes says)
+    -- what was read passed its checks, and so a state may be begun on it
+    pub read-passed : networkCheck (topologyOf (l .network)) ≡ given pass
+    read-passed = ap networkCheck (read-stands file said l bytes says reads) ∙ read-passes file said bytes says
 
-      first-view : viewOf (b .state) ≡ fresh said
-      first-view =
-          begins .view ∙ ap (λ (net : Network). fresh (topologyOf net)) first-network ∙ ap fresh (read-stands file said l bytes says reads)
+    module _ (st : State) (begun : viewOf st ≡ fresh (topologyOf (l .network))) where
+      first-view : viewOf st ≡ fresh said
+      first-view = begun ∙ ap fresh (read-stands file said l bytes says reads)
 
-      first-intact : intact (viewOf (b .state)) ≡ true
+      first-intact : intact (viewOf st) ≡ true
       first-intact = subst (λ (v : View). intact v ≡ true) (sym first-view) (fresh-intact said (read-passes file said bytes says))
 
-      read-text : (n : ℕ) → n ≡ min (length calls) 65536 → transcript file calls ≡ linesOf 1 (viewOf (b .state)) (callsIn (take n calls))
+      read-text : (n : ℕ) → n ≡ min (length calls) 65536 → transcript file calls ≡ linesOf 1 (viewOf st) (callsIn (take n calls))
       unfolding transcript
       read-text n q = rw (says, first-view, counted-part calls n q .0)
 
       pub read-room : (n : ℕ) → n ≡ min (length calls) 65536 → (m : ℕ) → length (transcript file calls) ≤ m
-          → (intact (viewOf (b .state)) ≡ true) × (length (take n calls) ≤ 65536) × (length (linesOf 1 (viewOf (b .state)) (callsIn (take n calls))) ≤ m)
+          → (intact (viewOf st) ≡ true) × (length (take n calls) ≤ 65536) × (length (linesOf 1 (viewOf st) (callsIn (take n calls))) ≤ m)
       read-room n q m h = (first-intact, counted-part calls n q .1, rw (read-text n q) at h)
 
-      pub read-put : (n : ℕ) → n ≡ min (length calls) 65536 → (before after : List ℕ) (k : ℕ) → Puts 0 (linesOf 1 (viewOf (b .state)) (callsIn (take n calls))) before after k
+      pub read-put : (n : ℕ) → n ≡ min (length calls) 65536 → (before after : List ℕ) (k : ℕ) → Puts 0 (linesOf 1 (viewOf st) (callsIn (take n calls))) before after k
           → Puts 0 (transcript file calls) before after k
       read-put n q before after k p = rw (read-text n q) p
 

@@ -202,8 +202,7 @@ fn write_text(file: &[u8], calls: &[u8], out: &mut [u8]) -> usize
         Verdict::Refused(refusal) => text::put_network(out, 0, refusals::number(refusal)),
         Verdict::Passed => {
             let network = loaded.network;
-            let begun = sessions::begin(network);
-            let first = begun.state;
+            let first = state::fresh_state(network);
             run(first, &calls[..counted(calls.len())], out)
         }
     }

@@ -1,32 +1,43 @@
--- The network that a state is begun on. Assumes nothing.
-use mathlib.Core.Path.{_≡_, sym, ap, _∙_}
-use mathlib.Core.List.{List, []}
-use Rattle.refusals.specs.Refusals.{Ruling, ruling}
+-- The state that `begin` gives, by what the network's checks said. Assumes nothing.
+use mathlib.Core.Path.{_≡_, refl, sym, ap, _∙_}
+use Rattle.places.specs.Places.{firsts}
+use Rattle.refusals.specs.Refusals.{Ruling, given, pass, ruling}
 use Rattle.refusals.specs.declared.Refusal.{Refusal}
 use Rattle.refusals.specs.declared.Verdict.{Verdict}
 use Rattle.refusals.specs.declared.Verdict.the-variants.{Passed, Refused}
 use Rattle.network.specs.Network.{topologyOf}
-use Rattle.network.specs.Checks.{networkCheck}
+use Rattle.network.specs.Checks.{badCount, badCycle, badFrames, badRange, badClosed, linkCheck, linksCheck, networkCheck}
 use Rattle.network.specs.declared.Network.{Network}
-use Rattle.ledger.specs.Sessions.{Session}
-use Rattle.table.specs.declared.Table.{Table}
-use Rattle.table.specs.Table.{liveOf}
+use Rattle.ledger.specs.Demand.{fresh}
+use Rattle.state.specs.declared.State.{State}
+use Rattle.state.specs.State.{viewOf}
 use Rattle.sessions.specs.Calls.{shutNetwork, begunOn, Begins}
 
--- by what its checks said
-module _ (net : Network) (v : Verdict) where
-  pub on-shut : (r : Refusal) → v ≡ Refused r → (shut : Network) → shut ≡ shutNetwork → shut ≡ begunOn (ruling v) net
-  on-shut r e shut w = w ∙ ap (λ (x : Verdict). begunOn (ruling x) net) (sym e)
+-- the network on which nothing can be held passes its checks
+shut-passes : networkCheck (topologyOf shutNetwork) ≡ given pass
+unfolding topologyOf firsts networkCheck badCount badCycle linksCheck linkCheck badFrames badRange badClosed
+shut-passes = refl
 
-  pub on-itself : v ≡ Passed → net ≡ begunOn (ruling v) net
-  on-itself e = ap (λ (x : Verdict). begunOn (ruling x) net) (sym e)
+pub shut-passed : (net : Network) → net ≡ shutNetwork → networkCheck (topologyOf net) ≡ given pass
+shut-passed net e = ap (λ (n : Network). networkCheck (topologyOf n)) e ∙ shut-passes
 
--- `begin`
-pub begins : (net : Network) (v : Verdict) → ruling v ≡ networkCheck (topologyOf net) → (on : Network) → on ≡ begunOn (ruling v) net → (table : Table) → liveOf table ≡ []
-    → Begins net (record { verdict = v; state = record { network = on; table = table } })
-begins net v ev on w table e =
-    record {
-      verdict = ev;
-      network = w ∙ ap (λ (o : Ruling). begunOn o net) ev;
-      view = ap (λ (ss : List Session). record { network = topologyOf on; live = ss }) e;
-    }
+module _ (net : Network) (v : Verdict) (ev : ruling v ≡ networkCheck (topologyOf net)) where
+  pub network-passed : v ≡ Passed → networkCheck (topologyOf net) ≡ given pass
+  network-passed e = sym ev ∙ ap ruling e
+
+  begins : (w : Verdict) → v ≡ w → (on : Network) → on ≡ begunOn (ruling w) net → (st : State) → (st .network ≡ on) × (viewOf st ≡ fresh (topologyOf on))
+      → Begins net (record { verdict = w; state = st })
+  begins w ew on n st s =
+      let said : ruling w ≡ networkCheck (topologyOf net) = sym (ap ruling ew) ∙ ev in
+      record {
+        verdict = said;
+        network = s .0 ∙ n ∙ ap (λ (o : Ruling). begunOn o net) said;
+        view = s .1 ∙ ap (λ (x : Network). fresh (topologyOf x)) (sym (s .0));
+      }
+
+  pub begins-refused : (r : Refusal) → v ≡ Refused r → (shut : Network) → shut ≡ shutNetwork → (st : State) → (st .network ≡ shut) × (viewOf st ≡ fresh (topologyOf shut))
+      → Begins net (record { verdict = Refused r; state = st })
+  begins-refused r er shut n = begins (Refused r) er shut n
+
+  pub begins-passed : v ≡ Passed → (st : State) → (st .network ≡ net) × (viewOf st ≡ fresh (topologyOf net)) → Begins net (record { verdict = Passed; state = st })
+  begins-passed ep = begins Passed ep net refl

@@ -5,13 +5,12 @@ use mathlib.Core.List.{List, _∷_}
 use Prim.Native.Nat.{ℕ}
 use lib.Dec.{eqb}
 use borrow.Author.Tests.{eqb-false}
-use Rattle.places.specs.Places.{firsts}
 use Rattle.refusals.specs.Refusals.{refusalNumber, Outcome, Ruling, given, refused, pass}
 use Rattle.refusals.specs.declared.Refusal.{Refusal}
 use Rattle.refusals.specs.declared.Refusal.the-variants.{NumberNotLive}
 use Rattle.refusals.proofs.Refusals.{refusal-only, uncounted}
 use Rattle.network.specs.Network.{topologyOf}
-use Rattle.network.specs.Checks.{badCount, badCycle, badFrames, badRange, badClosed, linkCheck, linksCheck, networkCheck}
+use Rattle.network.specs.Checks.{networkCheck}
 use Rattle.network.specs.declared.Network.{Network}
 use Rattle.ledger.specs.Sessions.{Session, View, heldIn}
 use Rattle.ledger.specs.Sound.{intact}
@@ -25,9 +24,10 @@ use Rattle.state.specs.State.{viewOf}
 use Rattle.state.proofs.Replies.{quotes-back}
 use Rattle.sessions.specs.declared.Begun.{Begun}
 use Rattle.sessions.specs.declared.Shown.{Shown}
-use Rattle.sessions.specs.Calls.{shutNetwork, begunOn, Begins, notShown, Shows}
+use Rattle.sessions.specs.Calls.{begunOn, Begins, notShown, Shows}
 use Rattle.sessions.specs.Stored.{StoredByRules, BegunIntact, StoredDemand3, StoredReleaseFrees}
 use Rattle.sessions.specs.Stored as stored
+use Rattle.sessions.proofs.Beginning.{shut-passed}
 
 -- ---- the rules
 -- one step of the stored states is one of the rules
@@ -45,10 +45,6 @@ stored-by-rules st last steps (stored.quote route r w rest) =
 stored-by-rules st last steps (stored.release n r w rest) = step (Release n) _ (w .answer) (w .after .view) (stored-by-rules (r .state) last _ rest)
 
 -- ---- what `begin` gave
-shut-passes : networkCheck (topologyOf shutNetwork) ≡ given pass
-unfolding topologyOf firsts networkCheck badCount badCycle linksCheck linkCheck badFrames badRange badClosed
-shut-passes = refl
-
 -- its network passed
 pub begun-passed : (network : Network) (r : Begun) → Begins network r → networkCheck (topologyOf (r .state .network)) ≡ given pass
 begun-passed network r b = go (networkCheck (topologyOf network)) refl (b .network)
@@ -56,7 +52,7 @@ begun-passed network r b = go (networkCheck (topologyOf network)) refl (b .netwo
     go : (o : Ruling) → networkCheck (topologyOf network) ≡ o → r .state .network ≡ begunOn o network
         → networkCheck (topologyOf (r .state .network)) ≡ given pass
     go (given pass) e n = ap (λ (net : Network). networkCheck (topologyOf net)) n ∙ e
-    go (refused k) e n = ap (λ (net : Network). networkCheck (topologyOf net)) n ∙ shut-passes
+    go (refused k) e n = shut-passed (r .state .network) n
 
 -- AFTER EVERY LIST OF CALLS FROM WHAT `begin` GAVE THE STATE ISN'T BROKEN
 pub begun-intact : BegunIntact

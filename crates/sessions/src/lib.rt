@@ -10,17 +10,14 @@ use state::Released;
 use state::Served;
 use state::State;
 use table::Place;
-use table::Table;
 ghost use mathlib.Core.Path.{_≡_};
 ghost use mathlib.Core.Bool.{false};
-ghost use mathlib.Core.List.{[]};
 ghost use Prim.Native.Nat.{_≤_};
-ghost use Rattle.refusals.specs.Refusals.{ruling};
 ghost use Rattle.ledger.specs.Sound.{intact};
 ghost use Rattle.ledger.specs.Calls.{Call, SetUp, Quote};
-ghost use Rattle.table.specs.Table.{sessionOf, liveOf};
+ghost use Rattle.table.specs.Table.{sessionOf};
 ghost use Rattle.state.specs.State.{viewOf, Serves, Releases};
-ghost use Rattle.sessions.specs.Calls.{shutNetwork, begunOn, Begins, shownOf, notShown, Looks, notCounted, Tallies};
+ghost use Rattle.sessions.specs.Calls.{shutNetwork, Begins, shownOf, notShown, Looks, notCounted, Tallies};
 
 // What `begin` answers: the verdict of the network's checks, and a state that holds no sessions.
 pub struct Begun {
@@ -54,23 +51,6 @@ pub struct Tallied {
     pub state: State,
 }
 
-// A table without sessions.
-fn no_sessions() -> Table
-    ensures { λ r. ⌜ liveOf r ≡ [] ⌝ }
-{
-    let held = table::nothing_held();
-    let none = Place {
-        number: 0,
-        hops: 0,
-        route: [0u8; 8],
-        held,
-    };
-    Table {
-        live: 0,
-        places: [none; 96],
-    }
-}
-
 // A network that passes its checks and on which nothing can be held: one link of one frame, which is closed.
 fn shut_network() -> Network
     ensures { λ r. ⌜ r ≡ shutNetwork ⌝ }
@@ -87,28 +67,27 @@ fn shut_network() -> Network
     }
 }
 
-// The network that a state may be begun on: the one given, or where its checks refused it one on which nothing can be held.
-fn passed_network(network: Network, verdict: Verdict) -> Network
-    ensures { λ r. ⌜ r ≡ begunOn (ruling verdict) network ⌝ }
-{
-    match verdict {
-        Verdict::Refused(_) => shut_network(),
-        Verdict::Passed => network,
-    }
-}
-
 // The state of a fresh network: its checks, and no sessions. Where the network is refused, the state is one that can hold nothing, so that no caller who
 // built no state by hand meets 0.
 pub fn begin(network: Network) -> Begun
     ensures { λ r. ⌜ Begins network r ⌝ }
 {
-    let verdict = network::check_network(network);
-    let on = passed_network(network, verdict);
-    let state = State {
-        network: on,
-        table: no_sessions(),
-    };
-    Begun { verdict, state }
+    match network::check_network(network) {
+        Verdict::Refused(refusal) => {
+            let state = state::fresh_state(shut_network());
+            Begun {
+                verdict: Verdict::Refused(refusal),
+                state,
+            }
+        }
+        Verdict::Passed => {
+            let state = state::fresh_state(network);
+            Begun {
+                verdict: Verdict::Passed,
+                state,
+            }
+        }
+    }
 }
 
 // A set-up or a quote on a broken state: refused with 0, and the state is the same.

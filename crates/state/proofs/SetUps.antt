@@ -89,6 +89,9 @@ module _ (net : Topology) (ss : List Session) (route : List ℕ) (f : Finding) (
     pub none-found : answerOver (net .ticks) (hopsOf net ss route) ≡ refusal 18 (f .count)
     none-found = ap (replyOf (hopsOf net ss route)) (told result.Blocked e)
 
+    pub quotes-blocked : (q : Quoted) → q ≡ notQuoted (NoSchedule (f .count)) → Quotes (answerOver (net .ticks) (hopsOf net ss route)) q
+    quotes-blocked q w = subst (λ (x : Reply). Quotes x q) (sym none-found) (NoSchedule (f .count), refl, refl, w)
+
   -- a schedule: what it holds, and that in eight places
   module _ (d : Delay) (e : f .found ≡ result.Schedule d) where
     abbrev pub foundHeld : Holding
@@ -101,6 +104,11 @@ module _ (net : Topology) (ss : List Session) (route : List ℕ) (f : Finding) (
     found-places =
         places-over (hopsOf net ss route) d (firsts (length route) (f .frames) 0) (f .frames)
         (s .places ∙ ap (λ (a : trellis.Answer). firsts 8 (nodesOf a) 0) (told (result.Schedule d) e))
+
+    pub quotes-found : Quotes (answerOver (net .ticks) (hopsOf net ss route)) (record { verdict = verdict.Passed; count = f .count; held = record { frames = f .frames; delay = d } })
+    quotes-found =
+        subst (λ (x : Reply). Quotes x (record { verdict = verdict.Passed; count = f .count; held = record { frames = f .frames; delay = d } })) (sym held-found)
+        (ap (λ (h : Held). record { verdict = verdict.Passed; count = f .count; held = h }) found-places)
 
 module _ (st : State) (ok : intact (viewOf st) ≡ true) where
   -- ---- a refusal by a check: it has no count, and leaves the very same state
@@ -119,77 +127,61 @@ module _ (st : State) (ok : intact (viewOf st) ≡ true) where
     pub serves-refused : (q : Quoted) → q ≡ notQuoted r → Serves st call (record { answer = q; state = st })
     serves-refused q w = record { answer = quotes-refused q w; after = stays st call (refusal-leaves call _ _ _ refused-told) }
 
-  -- ---- a call that no check refused, and that answers what a search over its route found
-  module _ (call : Call) (route : List ℕ) (f : Finding) (s : Searched (topologyOf (st .network)) (liveOf (st .table)) route f)
-      (g : reply (viewOf st) call ≡ answerOver (topologyOf (st .network) .ticks) (hopsOf (topologyOf (st .network)) (liveOf (st .table)) route)) where
-    module _ (e : f .found ≡ result.Blocked) where
-      blocked-told : reply (viewOf st) call ≡ refusal 18 (f .count)
-      blocked-told = g ∙ none-found (topologyOf (st .network)) (liveOf (st .table)) route f s e
-
-      pub quotes-blocked : (q : Quoted) → q ≡ notQuoted (NoSchedule (f .count)) → Quotes (reply (viewOf st) call) q
-      quotes-blocked q w = subst (λ (x : Reply). Quotes x q) (sym blocked-told) (NoSchedule (f .count), refl, refl, w)
-
-      -- 18 leaves the very same state
-      pub serves-blocked : (q : Quoted) → q ≡ notQuoted (NoSchedule (f .count)) → Serves st call (record { answer = q; state = st })
-      serves-blocked q w = record { answer = quotes-blocked q w; after = stays st call (refusal-leaves call _ 18 (f .count) blocked-told) }
-
-    module _ (d : Delay) (e : f .found ≡ result.Schedule d) where
-      found-held : Holding
-      found-held = foundHeld (topologyOf (st .network)) (liveOf (st .table)) route f s d e
-
-      found-told : reply (viewOf st) call ≡ schedule found-held (f .count)
-      unfolding found-held
-      found-told = g ∙ held-found (topologyOf (st .network)) (liveOf (st .table)) route f s d e
-
-      in-eight : _≡_ {A = Held} (record { frames = f .frames; delay = d }) (heldPlaces found-held)
-      unfolding found-held
-      in-eight = found-places (topologyOf (st .network)) (liveOf (st .table)) route f s d e
-
-      pub quotes-found : Quotes (reply (viewOf st) call) (record { verdict = verdict.Passed; count = f .count; held = record { frames = f .frames; delay = d } })
-      quotes-found =
-          subst (λ (x : Reply). Quotes x (record { verdict = verdict.Passed; count = f .count; held = record { frames = f .frames; delay = d } })) (sym found-told)
-          (ap (λ (h : Held). record { verdict = verdict.Passed; count = f .count; held = h }) in-eight)
-
   -- ---- a quote, and a set-up that no check refused
-  pub quote-granted : (route : List ℕ) → routeCheck (topologyOf (st .network)) route ≡ given pass
+  quote-granted : (route : List ℕ) → routeCheck (topologyOf (st .network)) route ≡ given pass
       → reply (viewOf st) (Quote route) ≡ answerOver (topologyOf (st .network) .ticks) (hopsOf (topologyOf (st .network)) (liveOf (st .table)) route)
   unfolding granted
   quote-granted route e = granted-reply (viewOf st) ok (Quote route) (quote-check (topologyOf (st .network)) (liveOf (st .table)) route ∙ e)
 
+  pub quote-quotes : (route : List ℕ) → routeCheck (topologyOf (st .network)) route ≡ given pass → (q : Quoted)
+      → Quotes (answerOver (topologyOf (st .network) .ticks) (hopsOf (topologyOf (st .network)) (liveOf (st .table)) route)) q → Quotes (reply (viewOf st) (Quote route)) q
+  quote-quotes route e q w = subst (λ (x : Reply). Quotes x q) (sym (quote-granted route e)) w
+
   module _ (n : ℕ) (route : List ℕ) (passed : callCheck (topologyOf (st .network)) (liveOf (st .table)) (SetUp n route) ≡ given pass) where
-    pub set-up-granted : reply (viewOf st) (SetUp n route) ≡ answerOver (topologyOf (st .network) .ticks) (hopsOf (topologyOf (st .network)) (liveOf (st .table)) route)
+    abbrev net : Topology
+    net = topologyOf (st .network)
+
+    abbrev ss : List Session
+    ss = liveOf (st .table)
+
+    set-up-granted : reply (viewOf st) (SetUp n route) ≡ answerOver (net .ticks) (hopsOf net ss route)
     unfolding granted
     set-up-granted = granted-reply (viewOf st) ok (SetUp n route) passed
 
-    -- the frames are held
-    module _ (f : Finding) (s : Searched (topologyOf (st .network)) (liveOf (st .table)) route f) (d : Delay) (e : f .found ≡ result.Schedule d) (place : Place)
-        (ep : sessionOf place ≡ record { number = n; route = route; held = holdingOf (length route) (record { frames = f .frames; delay = d }) }) (table : Table)
-        (et : liveOf table ≡ liveOf (st .table) ++ (sessionOf place ∷ [])) where
-      held : Holding
-      held = found-held (SetUp n route) route f s set-up-granted d e
-
-      accepted : reply (viewOf st) (SetUp n route) ≡ schedule held (f .count)
-      unfolding held
-      accepted = found-told (SetUp n route) route f s set-up-granted d e
-
-      -- what is stored reads as what is held
-      stored : holdingOf (length route) (record { frames = f .frames; delay = d }) ≡ held
-      unfolding held
-      stored =
-          ap (holdingOf (length route)) (in-eight (SetUp n route) route f s set-up-granted d e)
-          ∙ scheduled-back (viewOf st) route held (scheduled (viewOf st) (SetUp n route) held (f .count) accepted)
-          (route-long (topologyOf (st .network)) route (admitted (topologyOf (st .network)) (liveOf (st .table)) n route passed .passed) .1)
-
-      enters-moves : (u : Session) (X : Type 0) → enters u ≡ leaves → X
-      enters-moves u X q = let z : _≡_ {A = ℕ} 0 1 = cc in absurd (omega arith)
-
-      pub set-up-held : Serves st (SetUp n route) (record {
-        answer = record { verdict = verdict.Passed; count = f .count; held = record { frames = f .frames; delay = d } };
-        state = record { network = st .network; table = table };
-      })
-      set-up-held =
+    module _ (f : Finding) (s : Searched net ss route f) where
+      -- 18 leaves the very same state
+      pub set-up-blocked : f .found ≡ result.Blocked → (q : Quoted) → q ≡ notQuoted (NoSchedule (f .count)) → Serves st (SetUp n route) (record { answer = q; state = st })
+      set-up-blocked e q w =
           record {
-            answer = quotes-found (SetUp n route) route f s set-up-granted d e;
-            after = moves st (SetUp n route) (enters record { number = n; route = route; held = held }) (ap (effect (SetUp n route)) accepted) (enters-moves _) table
-                (et ∙ ap (λ (u : Session). liveOf (st .table) ++ (u ∷ [])) (ep ∙ ap (λ (h : Holding). record { number = n; route = route; held = h }) stored));
+            answer = subst (λ (x : Reply). Quotes x q) (sym set-up-granted) (quotes-blocked net ss route f s e q w);
+            after = stays st (SetUp n route) (refusal-leaves (SetUp n route) _ 18 (f .count) (set-up-granted ∙ none-found net ss route f s e));
           }
+
+      -- the frames are held
+      module _ (d : Delay) (e : f .found ≡ result.Schedule d) (place : Place)
+          (ep : sessionOf place ≡ record { number = n; route = route; held = holdingOf (length route) (record { frames = f .frames; delay = d }) }) (table : Table)
+          (et : liveOf table ≡ ss ++ (sessionOf place ∷ [])) where
+        accepted : reply (viewOf st) (SetUp n route) ≡ schedule (foundHeld net ss route f s d e) (f .count)
+        accepted = set-up-granted ∙ held-found net ss route f s d e
+
+        -- what is stored reads as what is held
+        stored : holdingOf (length route) (record { frames = f .frames; delay = d }) ≡ foundHeld net ss route f s d e
+        stored =
+            ap (holdingOf (length route)) (found-places net ss route f s d e)
+            ∙ scheduled-back (viewOf st) route (foundHeld net ss route f s d e) (scheduled (viewOf st) (SetUp n route) (foundHeld net ss route f s d e) (f .count) accepted)
+            (route-long (topologyOf (st .network)) route (admitted (topologyOf (st .network)) (liveOf (st .table)) n route passed .passed) .1)
+
+        enters-moves : (u : Session) (X : Type 0) → enters u ≡ leaves → X
+        enters-moves u X q = let z : _≡_ {A = ℕ} 0 1 = cc in absurd (omega arith)
+
+        pub set-up-held : Serves st (SetUp n route) (record {
+          answer = record { verdict = verdict.Passed; count = f .count; held = record { frames = f .frames; delay = d } };
+          state = record { network = st .network; table = table };
+        })
+        set-up-held =
+            record {
+              answer = subst (λ (x : Reply). Quotes x (record { verdict = verdict.Passed; count = f .count; held = record { frames = f .frames; delay = d } })) (sym set-up-granted)
+                  (quotes-found net ss route f s d e);
+              after = moves st (SetUp n route) (enters record { number = n; route = route; held = foundHeld net ss route f s d e }) (ap (effect (SetUp n route)) accepted) (enters-moves _) table
+                  (et ∙ ap (λ (u : Session). ss ++ (u ∷ [])) (ep ∙ ap (λ (h : Holding). record { number = n; route = route; held = h }) stored));
+            }

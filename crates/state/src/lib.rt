@@ -10,17 +10,19 @@ use table::Place;
 use table::Table;
 ghost use mathlib.Core.Path.{_≡_};
 ghost use mathlib.Core.Bool.{true};
-ghost use Prim.Native.Nat.{_≤_};
+ghost use mathlib.Core.List.{List, []};
+ghost use Prim.Native.Nat.{ℕ, _≤_};
 ghost use lib.Dec.{leb};
 ghost use lib.ListN.{length};
 ghost use Rattle.refusals.specs.Refusals.{given, pass, ruling};
-ghost use Rattle.network.specs.Network.{topologyOf};
+ghost use Rattle.network.specs.Network.{Topology, topologyOf};
 ghost use Rattle.network.specs.Checks.{networkCheck};
 ghost use Rattle.ledger.specs.Held.{holdingOf};
-ghost use Rattle.ledger.specs.Sessions.{isLive};
+ghost use Rattle.ledger.specs.Sessions.{Session, isLive, hopsOf};
 ghost use Rattle.ledger.specs.Routes.{routeCheck};
 ghost use Rattle.ledger.specs.Sound.{intact};
-ghost use Rattle.ledger.specs.Calls.{SetUp, Quote, callCheck, reply};
+ghost use Rattle.ledger.specs.Calls.{SetUp, Quote, answerOver, callCheck, reply};
+ghost use Rattle.ledger.specs.Demand.{fresh};
 ghost use Rattle.table.specs.Table.{sessionOf, liveOf};
 ghost use Rattle.table.specs.Inner.{AllWithin};
 ghost use Rattle.state.specs.State.{viewOf, notQuoted, Quotes, Serves, Releases};
@@ -52,6 +54,34 @@ pub struct Released {
     pub state: State,
 }
 
+// A table without sessions.
+fn no_sessions() -> Table
+    ensures { λ r. ⌜ liveOf r ≡ [] ⌝ }
+{
+    let held = table::nothing_held();
+    let none = Place {
+        number: 0,
+        hops: 0,
+        route: [0u8; 8],
+        held,
+    };
+    Table {
+        live: 0,
+        places: [none; 96],
+    }
+}
+
+// The state of a network that passed its checks, without sessions.
+pub fn fresh_state(network: Network) -> State
+    requires { ⌜ networkCheck (topologyOf network) ≡ given pass ⌝ }
+    ensures { λ r. ⌜ (r .network ≡ network) × (viewOf r ≡ fresh (topologyOf network)) ⌝ }
+{
+    State {
+        network,
+        table: no_sessions(),
+    }
+}
+
 // A refused answer.
 pub fn refused(refusal: Refusal) -> Quoted
     ensures { λ r. ⌜ r ≡ notQuoted refusal ⌝ }
@@ -74,16 +104,10 @@ fn least(network: Network, table: Table, route: &[u8]) -> Finding
     search::search(network.ticks, hops, route.len())
 }
 
-// Quote: the least-delay schedule over the route in the frames now free.
-pub fn quote(st: State, route: &[u8]) -> Quoted
-    requires { ⌜ intact (viewOf st) ≡ true ⌝ }
-    ensures { λ r. ⌜ Quotes (reply (viewOf st) (Quote (now (route .entry)))) r ⌝ }
+// The answer that gives what a search found: 18 where no schedule exists.
+fn quoted_of(finding: Finding) -> Quoted
+    ensures { λ r. ⌜ ((net : Topology) (ss : List Session) (links : List ℕ) → Searched net ss links finding → Quotes (answerOver (net .ticks) (hopsOf net ss links)) r) ⌝ }
 {
-    match routes::check_route(st.network, route) {
-        Verdict::Refused(refusal) => return refused(refusal),
-        Verdict::Passed => {}
-    }
-    let finding = least(st.network, st.table, route);
     let found = finding.found;
     let Found::Schedule(delay) = found else {
         return refused(Refusal::NoSchedule(finding.count));
@@ -95,6 +119,18 @@ pub fn quote(st: State, route: &[u8]) -> Quoted
         count: finding.count,
         held,
     }
+}
+
+// Quote: the least-delay schedule over the route in the frames now free.
+pub fn quote(st: State, route: &[u8]) -> Quoted
+    requires { ⌜ intact (viewOf st) ≡ true ⌝ }
+    ensures { λ r. ⌜ Quotes (reply (viewOf st) (Quote (now (route .entry)))) r ⌝ }
+{
+    match routes::check_route(st.network, route) {
+        Verdict::Refused(refusal) => return refused(refusal),
+        Verdict::Passed => {}
+    }
+    quoted_of(least(st.network, st.table, route))
 }
 
 // Whether the number is live.

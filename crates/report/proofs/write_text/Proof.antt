@@ -2,7 +2,7 @@
 use borrow.Author.Needs.{needs}
 use Rattle.report.proofs.write_text.Statement.{statement}
 use Rattle.report.proofs.write_text.Tie as tie
-use Rattle.report.proofs.Whole.{counted-long, refused-room, refused-put, read-room, read-put}
+use Rattle.report.proofs.Whole.{counted-long, refused-room, refused-put, read-passed, read-room, read-put}
 
 read-network-requires : tie.Need-read-network-requires
 read-network-requires c κs = search needs
@@ -19,17 +19,19 @@ put-network-requires c κs = refused-room (c .before .before .before .before .be
 enum-told : tie.Need-enum-told
 enum-told c = search needs
 
-begin-requires : tie.Need-begin-requires
-begin-requires c κs = search needs
+fresh-state-requires : tie.Need-fresh-state-requires
+fresh-state-requires c κs = let start = c .before .before .before .before .before .before .before in
+    read-passed (start .args .file .now) (start .args .calls .now) (λ i. c .before .before .before .before .before .before .shared-slice-known .given i .fits) _ (c .before .before .before .read-network .ensures) (c .before .enum-told .given .1)
 
 counted-requires : tie.Need-counted-requires
 counted-requires c κs = search needs
 
 slice-aggregate-run : tie.Need-slice-aggregate-run
-slice-aggregate-run c = counted-long (c .before .before .before .before .before .before .before .before .before .before .before .args .calls .now) _ (c .before .counted .ensures)
+slice-aggregate-run c = counted-long (c .before .before .before .before .before .before .before .before .before .before .args .calls .now) _ (c .before .counted .ensures)
 
 run-requires : tie.Need-run-requires
-run-requires c κs = read-room (c .before .before .before .before .before .before .before .before .before .before .before .before .args .file .now) (c .before .before .before .before .before .before .before .before .before .before .before .before .args .calls .now) (λ i. c .before .before .before .before .before .before .before .before .before .before .before .shared-slice-known .given i .fits) _ (c .before .before .before .before .before .before .before .before .read-network .ensures) (c .before .before .before .before .before .before .enum-told .given .1) _ (c .before .before .before .before .begin .ensures) _ (c .before .before .counted .ensures) _ (c .before .before .before .before .before .before .before .before .before .before .before .before .pre)
+run-requires c κs = let start = c .before .before .before .before .before .before .before .before .before .before .before in
+    read-room (start .args .file .now) (start .args .calls .now) (λ i. c .before .before .before .before .before .before .before .before .before .before .shared-slice-known .given i .fits) _ (c .before .before .before .before .before .before .before .read-network .ensures) (c .before .before .before .before .before .enum-told .given .1) _ (c .before .before .before .fresh-state .ensures .1) _ (c .before .before .counted .ensures) _ (start .pre)
 
 same-length : tie.Need-same-length
 same-length c = search needs
@@ -41,7 +43,8 @@ same-length-2 : tie.Need-same-length-2
 same-length-2 c = search needs
 
 returns-2 : tie.Need-returns-2
-returns-2 c = read-put (c .before .before .before .before .before .before .before .before .before .before .before .before .before .before .before .args .file .now) (c .before .before .before .before .before .before .before .before .before .before .before .before .before .before .before .args .calls .now) (λ i. c .before .before .before .before .before .before .before .before .before .before .before .before .before .before .shared-slice-known .given i .fits) _ (c .before .before .before .before .before .before .before .before .before .before .before .read-network .ensures) (c .before .before .before .before .before .before .before .before .before .enum-told .given .1) _ (c .before .before .before .before .before .before .before .begin .ensures) _ (c .before .before .before .before .before .counted .ensures) _ _ _ (c .before .before .run .ensures)
+returns-2 c = let start = c .before .before .before .before .before .before .before .before .before .before .before .before .before .before in
+    read-put (start .args .file .now) (start .args .calls .now) (λ i. c .before .before .before .before .before .before .before .before .before .before .before .before .before .shared-slice-known .given i .fits) _ (c .before .before .before .before .before .before .before .before .before .before .read-network .ensures) (c .before .before .before .before .before .before .before .before .enum-told .given .1) _ (c .before .before .before .before .before .before .fresh-state .ensures .1) _ (c .before .before .before .before .before .counted .ensures) _ _ _ (c .before .before .run .ensures)
 
 pub write-text-spec : {M : Type 1} → statement M
 write-text-spec =
@@ -52,7 +55,7 @@ write-text-spec =
     number-requires
     put-network-requires
     enum-told
-    begin-requires
+    fresh-state-requires
     counted-requires
     slice-aggregate-run
     run-requires

@@ -8,7 +8,7 @@ use Rattle.ledger.specs.Calls.{Quote}
 use Rattle.ledger.proofs.Intact.{intact-is}
 use Rattle.state.proofs.Within.{all-within}
 use Rattle.state.proofs.Replies.{quote-check}
-use Rattle.state.proofs.SetUps.{quotes-refused, quotes-blocked, quotes-found, quote-granted}
+use Rattle.state.proofs.SetUps.{quotes-refused, quote-quotes}
 
 check-route-requires : tie.Need-check-route-requires
 check-route-requires c κs = intact-is _ (c .before .pre) .network
@@ -30,24 +30,12 @@ least-requires : tie.Need-least-requires
 least-requires c κs = let start = c .before .before .before .before in
     (intact-is _ (start .pre) .network, sym (c .before .before .check-route .ensures) ∙ ap ruling (c .enum-told .given .1), all-within (start .args .st) (start .pre))
 
-enum-known-found : tie.Need-enum-known-found
-enum-known-found c = search needs
-
-enum-told-2 : tie.Need-enum-told-2
-enum-told-2 c = search needs
-
-refused-requires-2 : tie.Need-refused-requires-2
-refused-requires-2 c κs = search needs
+quoted-of-requires : tie.Need-quoted-of-requires
+quoted-of-requires c κs = search needs
 
 returns-2 : tie.Need-returns-2
-returns-2 c = let start = c .before .before .before .before .before .before .before .before in
-    let passed = sym (c .before .before .before .before .before .before .check-route .ensures) ∙ ap ruling (c .before .before .before .before .enum-told .given .1) in
-    quotes-blocked (start .args .st) (start .pre) (Quote _) _ _ (c .before .before .before .least .ensures) (quote-granted (start .args .st) (start .pre) _ passed) (c .before .enum-told2 .given .1) _ (c .refused2 .ensures)
-
-returns-3 : tie.Need-returns-3
-returns-3 c = let start = c .before .before .before .before .before .before .before .before .before in
-    let passed = sym (c .before .before .before .before .before .before .before .check-route .ensures) ∙ ap ruling (c .before .before .before .before .before .enum-told .given .1) in
-    quotes-found (start .args .st) (start .pre) (Quote _) _ _ (c .before .before .before .before .least .ensures) (quote-granted (start .args .st) (start .pre) _ passed) _ (c .before .before .found .given .1)
+returns-2 c = let start = c .before .before .before .before .before .before in
+    quote-quotes (start .args .st) (start .pre) _ (sym (c .before .before .before .before .check-route .ensures) ∙ ap ruling (c .before .before .enum-told .given .1)) _ (c .quoted-of .ensures _ _ _ (c .before .least .ensures))
 
 pub quote-spec : {M : Type 1} → statement M
 quote-spec =
@@ -59,8 +47,5 @@ quote-spec =
     returns
     enum-told
     least-requires
-    enum-known-found
-    enum-told-2
-    refused-requires-2
-    returns-2
-    returns-3)
+    quoted-of-requires
+    returns-2)

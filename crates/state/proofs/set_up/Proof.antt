@@ -9,7 +9,7 @@ use Rattle.ledger.proofs.Intact.{intact-is}
 use Rattle.ledger.proofs.Answered.{admitted}
 use Rattle.routes.proofs.Routes.{route-long}
 use Rattle.state.proofs.Within.{few-live, all-within}
-use Rattle.state.proofs.SetUps.{serves-refused, serves-blocked, room-left, set-up-granted, set-up-held}
+use Rattle.state.proofs.SetUps.{serves-refused, room-left, set-up-blocked, set-up-held}
 
 check-set-up-requires : tie.Need-check-set-up-requires
 check-set-up-requires c κs = let start = c .before .before .before in
@@ -43,7 +43,7 @@ refused-requires-2 c κs = search needs
 
 returns-2 : tie.Need-returns-2
 returns-2 c = let start = c .before .before .before .before .before .before .before .before .before .before in
-    serves-blocked (start .args .st) (start .pre) (SetUp _ _) _ _ (c .before .before .before .least .ensures) (set-up-granted (start .args .st) (start .pre) _ _ (sym (c .before .before .before .before .before .before .check-set-up .ensures) ∙ ap ruling (c .before .before .before .before .enum-told .given .1))) (c .before .enum-told2 .given .1) _ (c .refused2 .ensures)
+    set-up-blocked (start .args .st) (start .pre) _ _ (sym (c .before .before .before .before .before .before .check-set-up .ensures) ∙ ap ruling (c .before .before .before .before .enum-told .given .1)) _ (c .before .before .before .least .ensures) (c .before .enum-told2 .given .1) _ (c .refused2 .ensures)
 
 new-place-requires : tie.Need-new-place-requires
 new-place-requires c κs = route-long _ _ (admitted _ _ _ _ (sym (c .before .before .before .before .before .before .before .check-set-up .ensures) ∙ ap ruling (c .before .before .before .before .before .enum-told .given .1)) .passed) .1

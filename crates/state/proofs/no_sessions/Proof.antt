@@ -1,7 +1,7 @@
--- `sessions::no_sessions` meets its contract. Assumes nothing.
+-- `state::no_sessions` meets its contract. Assumes nothing.
 use borrow.Author.Needs.{needs}
-use Rattle.sessions.proofs.no_sessions.Statement.{statement}
-use Rattle.sessions.proofs.no_sessions.Tie as tie
+use Rattle.state.proofs.no_sessions.Statement.{statement}
+use Rattle.state.proofs.no_sessions.Tie as tie
 use Rattle.table.proofs.Live.{in-none}
 
 nothing-held-requires : tie.Need-nothing-held-requires
