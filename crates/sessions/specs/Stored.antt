@@ -4,9 +4,10 @@ use mathlib.Core.Bool.{true, false, not, _&&_}
 use mathlib.Core.List.{List, [], _∷_, map, List·Memᴰ}
 use Prim.Native.Nat.{ℕ}
 use lib.ListN.{length}
-use Rattle.refusals.specs.Refusals.{given}
+use Rattle.refusals.specs.Refusals.{given, refused}
 use Rattle.refusals.specs.declared.Refusal.the-variants.{NumberNotLive}
 use Rattle.network.specs.Network.{Topology, topologyOf}
+use Rattle.network.specs.Checks.{networkCheck}
 use Rattle.network.specs.declared.Network.{Network}
 use Rattle.ledger.specs.Sessions.{Session, Slot, holds, heldIn, isLive, hopsOf}
 use Rattle.ledger.specs.Sound.{intact}
@@ -41,6 +42,11 @@ StoredByRules = (st last : State) (steps : List Step) → StoredRun st steps las
 abbrev pub BegunIntact : Type 0
 BegunIntact = (network : Network) (r : Begun) → Begins network r → (last : State) (steps : List Step) → StoredRun (r .state) steps last
     → intact (viewOf last) ≡ true
+
+-- WHERE `begin` REFUSED THE NETWORK NOTHING IS EVER HELD: no list of calls on the state that it gave leaves a session
+abbrev pub NothingHeld : Type 0
+NothingHeld = (network : Network) (r : Begun) (k : ℕ) → Begins network r → networkCheck (topologyOf network) ≡ refused k
+    → (last : State) (steps : List Step) → StoredRun (r .state) steps last → viewOf last .live ≡ []
 
 -- demand 3, and at the call `sessions::lookup`: "On the state after the list, lookup gives each entry's route, frames and delay for its number, and 19 for
 -- every number without an entry"
