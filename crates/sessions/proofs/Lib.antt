@@ -4,3 +4,4 @@ pub mod Beginning
 pub mod Stored
 pub mod Meets
 pub mod Agree
+pub mod Nothing
