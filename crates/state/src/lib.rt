@@ -206,15 +206,15 @@ pub fn set_up(st: State, number: u16, route: &[u8]) -> Served
     };
     let frames = finding.frames;
     let held = Held { frames, delay };
-    let place = new_place(number, route, held);
-    let after = State {
-        network,
-        table: table::with_place(table, place),
-    };
     let answer = Quoted {
         verdict: Verdict::Passed,
         count: finding.count,
         held,
+    };
+    let place = new_place(number, route, held);
+    let after = State {
+        network,
+        table: table::with_place(table, place),
     };
     Served {
         answer,
