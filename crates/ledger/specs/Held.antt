@@ -36,12 +36,12 @@ sameHeld a b = sameList eqb (a .frames) (b .frames) && eqb (a .delay) (b .delay)
 abbrev pub NodesHeld : Type 0
 NodesHeld = (hops : List Hop) (delay : ℕ) (nodes : List ℕ) → IsSchedule hops nodes → nodesIn hops (heldOver hops delay nodes) ≡ nodes
 
--- ---- as it is stored
--- what the first n of eight places hold
+-- ---- in eight places
+-- what the first n of them hold
 abbrev pub holdingOf : ℕ → Held → Holding
 holdingOf n h = record { frames = firsts n (h .frames) 0; delay = h .delay .0 }
 
--- in eight places: "unused hop and link places hold 0"
+-- as an answer has it: "unused hop and link places hold 0"
 abbrev pub heldPlaces : Holding → Held
 heldPlaces h = record { frames = firsts 8 (h .frames) 0; delay = record { 0 = h .delay } }
 

@@ -26,10 +26,10 @@ abbrev pub ledger : List Step → List Session
 ledger steps = ledgerFrom [] steps
 
 -- whether an answer is a schedule, and whether it is a refusal
-abbrev pub isGiven : Reply → Bool
-isGiven (schedule held count) = true
-isGiven freed = false
-isGiven (refusal number count) = false
+abbrev pub hasSchedule : Reply → Bool
+hasSchedule (schedule held count) = true
+hasSchedule freed = false
+hasSchedule (refusal number count) = false
 
 abbrev pub isRefusal : Reply → Bool
 isRefusal (schedule held count) = false
@@ -38,7 +38,7 @@ isRefusal (refusal number count) = true
 
 -- "A set-up is accepted when its answer is a schedule"
 abbrev pub acceptedSetUp : Step → Bool
-acceptedSetUp (did (SetUp n route) r) = isGiven r
+acceptedSetUp (did (SetUp n route) r) = hasSchedule r
 acceptedSetUp (did (Quote route) r) = false
 acceptedSetUp (did (Release n) r) = false
 

@@ -60,7 +60,7 @@ sound v =
     && (allOf (goodSession (v .network)) (v .live)
     && not (frameTwice (v .live)))))
 
--- "0 takes in ... every stored field added later, by the rule that gives it": no field of the base follows from others
+-- "0 takes in ... every stored field added later, by the rule that gives it": no field of a view follows from its others
 abbrev pub derived : View → Bool
 derived v = true
 

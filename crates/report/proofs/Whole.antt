@@ -28,7 +28,8 @@ use Rattle.ledger.specs.Sound.{intact}
 use Rattle.ledger.specs.Demand.{fresh}
 use Rattle.ledger.proofs.Intact.{fresh-intact}
 use Rattle.state.specs.declared.State.{State}
-use Rattle.state.specs.State.{viewOf}
+use Rattle.state.specs.State.{viewOf, freshState}
+use Rattle.state.proofs.Replies.{fresh-shown}
 use Rattle.text.specs.Digits.{Puts}
 use Rattle.text.specs.Lines.{networkLine}
 use Rattle.report.specs.Transcript.{callsIn, counted, CountedPart, linesOf, transcript}
@@ -89,9 +90,9 @@ module _ (file calls : List ℕ) (bytes : IsBytes file) (l : Loaded) (reads : Re
     pub read-passed : networkCheck (topologyOf (l .network)) ≡ given pass
     read-passed = ap networkCheck (read-stands file said l bytes says reads) ∙ read-passes file said bytes says
 
-    module _ (st : State) (begun : viewOf st ≡ fresh (topologyOf (l .network))) where
+    module _ (st : State) (begun : st ≡ freshState (l .network)) where
       first-view : viewOf st ≡ fresh said
-      first-view = begun ∙ ap fresh (read-stands file said l bytes says reads)
+      first-view = ap viewOf begun ∙ fresh-shown (l .network) ∙ ap fresh (read-stands file said l bytes says reads)
 
       first-intact : intact (viewOf st) ≡ true
       first-intact = subst (λ (v : View). intact v ≡ true) (sym first-view) (fresh-intact said (read-passes file said bytes says))

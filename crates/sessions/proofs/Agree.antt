@@ -1,10 +1,10 @@
 -- States that show the same agree, and what a quote depends on. Assumes nothing.
 use mathlib.Core.Path.{_≡_, refl, sym, ap, ap₂, subst, _∙_}
 use mathlib.Core.List.{List, _∷_, map, nil≢cons, head-eq-of-cons-eq, tail-eq-of-cons-eq}
-use Prim.Native.Nat.{ℕ}
 use Rattle.refusals.specs.Refusals.{Outcome, given, refused}
+use Rattle.refusals.specs.declared.Refusal.{Refusal}
 use Rattle.refusals.proofs.Refusals.{refusal-only}
-use Rattle.ledger.specs.Sessions.{Session, View}
+use Rattle.ledger.specs.Sessions.{View}
 use Rattle.ledger.specs.Calls.{Call, Quote, Reply, schedule, freed, refusal, reply, next, lookup, freeCount}
 use Rattle.ledger.specs.Ledger.{Step, did, callOf}
 use Rattle.ledger.specs.Demand.{Runs, over, then}
@@ -12,21 +12,15 @@ use Rattle.ledger.proofs.Quoted.{quote-depends}
 use Rattle.state.specs.declared.Quoted.{Quoted}
 use Rattle.state.specs.State.{viewOf, notQuoted, Quotes}
 use Rattle.state.proofs.Replies.{quotes-back}
-use Rattle.sessions.specs.declared.Shown.{Shown}
-use Rattle.sessions.specs.declared.Counted.{Counted}
-use Rattle.sessions.specs.Calls.{notShown, Shows, notCounted, Counts}
+use Rattle.sessions.specs.Calls.{Tells, shownOf, notShown, countedOf, notCounted}
 use Rattle.sessions.specs.Stored.{ArrangementFree, StoredQuoteDepends}
 use Rattle.sessions.proofs.Stored.{stored-by-rules, number-tells}
 use Rattle.sessions.proofs.Meets.{Named, lookup-named, count-named}
 
 -- ---- two answers to one outcome are the same
-shows-same : (o : Outcome Session) → Named o → (a b : Shown) → Shows o a → Shows o b → a ≡ b
-shows-same (given s) h a b p q = p ∙ sym q
-shows-same (refused k) h a b p q = p .2 ∙ ap notShown (number-tells k (p .0) (q .0) (p .1) (q .1) (h .2)) ∙ sym (q .2)
-
-counts-same : (o : Outcome ℕ) → Named o → (a b : Counted) → Counts o a → Counts o b → a ≡ b
-counts-same (given n) h a b p q = p ∙ sym q
-counts-same (refused k) h a b p q = p .2 ∙ ap notCounted (number-tells k (p .0) (q .0) (p .1) (q .1) (h .2)) ∙ sym (q .2)
+tells-same : {A B : Type 0} (of : A → B) (not : Refusal → B) (o : Outcome A) → Named o → (a b : B) → Tells of not o a → Tells of not o b → a ≡ b
+tells-same of not (given x) h a b p q = p ∙ sym q
+tells-same of not (refused k) h a b p q = p .2 ∙ ap not (number-tells k (p .0) (q .0) (p .1) (q .1) (h .2)) ∙ sym (q .2)
 
 quotes-same : (r : Reply) (a b : Quoted) → Quotes r a → Quotes r b → a ≡ b
 quotes-same (schedule held count) a b p q = p ∙ sym q
@@ -49,11 +43,11 @@ pub arrangement-free : ArrangementFree
 arrangement-free st other e =
     record {
       lookups = λ n r q a b.
-          shows-same (lookup (viewOf st) n) (lookup-named (viewOf st) n) (r .shown) (q .shown) (a .shown)
-          (subst (λ (v : View). Shows (lookup v n) (q .shown)) (sym e) (b .shown));
+          tells-same shownOf notShown (lookup (viewOf st) n) (lookup-named (viewOf st) n) (r .shown) (q .shown) (a .shown)
+          (subst (λ (v : View). Tells shownOf notShown (lookup v n) (q .shown)) (sym e) (b .shown));
       counts = λ l r q a b.
-          counts-same (freeCount (viewOf st) l) (count-named (viewOf st) l) (r .counted) (q .counted) (a .counted)
-          (subst (λ (v : View). Counts (freeCount v l) (q .counted)) (sym e) (b .counted));
+          tells-same countedOf notCounted (freeCount (viewOf st) l) (count-named (viewOf st) l) (r .counted) (q .counted) (a .counted)
+          (subst (λ (v : View). Tells countedOf notCounted (freeCount v l) (q .counted)) (sym e) (b .counted));
       lists = λ steps others last end a b.
           runs-same (stored-by-rules st last steps a)
           (subst (λ (v : View). Runs v others (viewOf end)) (sym e) (stored-by-rules other end others b));

@@ -8,9 +8,8 @@ use Rattle.refusals.specs.declared.Verdict.the-variants.{Passed, Refused}
 use Rattle.network.specs.Network.{topologyOf}
 use Rattle.network.specs.Checks.{badCount, badCycle, badFrames, badRange, badClosed, linkCheck, linksCheck, networkCheck}
 use Rattle.network.specs.declared.Network.{Network}
-use Rattle.ledger.specs.Demand.{fresh}
 use Rattle.state.specs.declared.State.{State}
-use Rattle.state.specs.State.{viewOf}
+use Rattle.state.specs.State.{freshState}
 use Rattle.sessions.specs.Calls.{shutNetwork, begunOn, Begins}
 
 -- the network on which nothing can be held passes its checks
@@ -25,19 +24,14 @@ module _ (net : Network) (v : Verdict) (ev : ruling v ≡ networkCheck (topology
   pub network-passed : v ≡ Passed → networkCheck (topologyOf net) ≡ given pass
   network-passed e = sym ev ∙ ap ruling e
 
-  begins : (w : Verdict) → v ≡ w → (on : Network) → on ≡ begunOn (ruling w) net → (st : State) → (st .network ≡ on) × (viewOf st ≡ fresh (topologyOf on))
-      → Begins net (record { verdict = w; state = st })
+  begins : (w : Verdict) → v ≡ w → (on : Network) → on ≡ begunOn (ruling w) net → (st : State) → st ≡ freshState on → Begins net (record { verdict = w; state = st })
   begins w ew on n st s =
       let said : ruling w ≡ networkCheck (topologyOf net) = sym (ap ruling ew) ∙ ev in
-      record {
-        verdict = said;
-        network = s .0 ∙ n ∙ ap (λ (o : Ruling). begunOn o net) said;
-        view = s .1 ∙ ap (λ (x : Network). fresh (topologyOf x)) (sym (s .0));
-      }
+      record { verdict = said; state = s ∙ ap freshState (n ∙ ap (λ (o : Ruling). begunOn o net) said) }
 
-  pub begins-refused : (r : Refusal) → v ≡ Refused r → (shut : Network) → shut ≡ shutNetwork → (st : State) → (st .network ≡ shut) × (viewOf st ≡ fresh (topologyOf shut))
+  pub begins-refused : (r : Refusal) → v ≡ Refused r → (shut : Network) → shut ≡ shutNetwork → (st : State) → st ≡ freshState shut
       → Begins net (record { verdict = Refused r; state = st })
   begins-refused r er shut n = begins (Refused r) er shut n
 
-  pub begins-passed : v ≡ Passed → (st : State) → (st .network ≡ net) × (viewOf st ≡ fresh (topologyOf net)) → Begins net (record { verdict = Passed; state = st })
+  pub begins-passed : v ≡ Passed → (st : State) → st ≡ freshState net → Begins net (record { verdict = Passed; state = st })
   begins-passed ep = begins Passed ep net refl

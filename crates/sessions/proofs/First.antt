@@ -15,7 +15,7 @@ use Rattle.state.specs.State.{viewOf, notQuoted, Quotes, Serves, Releases}
 use Rattle.state.proofs.Replies.{refusal-leaves, stays}
 use Rattle.sessions.specs.declared.Shown.{Shown}
 use Rattle.sessions.specs.declared.Counted.{Counted}
-use Rattle.sessions.specs.Calls.{notShown, Shows, Looks, notCounted, Counts, Tallies}
+use Rattle.sessions.specs.Calls.{Tells, shownOf, notShown, Looks, countedOf, notCounted, Tallies}
 
 module _ (st : State) (b : Bool) (eb : b ≡ not (intact (viewOf st))) where
   turned : (x : Bool) → b ≡ not x → (b ≡ false → x ≡ true) × (b ≡ true → x ≡ false)
@@ -57,11 +57,11 @@ module _ (st : State) (e : intact (viewOf st) ≡ false) where
   broken-lookup n = rw e
 
   pub broken-looks : (n : ℕ) (r : Refusal) → refusalNumber r ≡ 0 → (q : Shown) → q ≡ notShown r → Looks st n (record { shown = q; state = st })
-  broken-looks n r p q w = record { shown = subst (λ (o : Outcome Session). Shows o q) (sym (broken-lookup n)) (r, p, w); same = refl }
+  broken-looks n r p q w = record { shown = subst (λ (o : Outcome Session). Tells shownOf notShown o q) (sym (broken-lookup n)) (r, p, w); same = refl }
 
   broken-count : (l : ℕ) → freeCount (viewOf st) l ≡ refused 0
   unfolding freeCount
   broken-count l = rw e
 
   pub broken-tallies : (l : ℕ) (r : Refusal) → refusalNumber r ≡ 0 → (q : Counted) → q ≡ notCounted r → Tallies st l (record { counted = q; state = st })
-  broken-tallies l r p q w = record { counted = subst (λ (o : Outcome ℕ). Counts o q) (sym (broken-count l)) (r, p, w); same = refl }
+  broken-tallies l r p q w = record { counted = subst (λ (o : Outcome ℕ). Tells countedOf notCounted o q) (sym (broken-count l)) (r, p, w); same = refl }

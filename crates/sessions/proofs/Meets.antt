@@ -12,14 +12,15 @@ use Rattle.places.specs.Places.{firsts}
 use Rattle.places.proofs.Firsts.{firsts-back}
 use Rattle.trellis.specs.Answer.{found, blocked}
 use Rattle.trellis.specs.Answer as trellis
-use Rattle.refusals.specs.Refusals.{refusalNumber, refusalCount, Outcome, Ruling, given, refused, pass, Pass, refuseIf, orElse}
+use Rattle.refusals.specs.Refusals.{refusalNumber, refusalCount, Outcome, Ruling, given, refused, pass, Pass, refuseIf, orElse, ruling}
 use Rattle.refusals.specs.declared.Refusal.{Refusal}
-use Rattle.refusals.specs.declared.Refusal.the-variants.{BrokenState, RouteLength, UnknownLink, LinkTwice, RatesApart, NumberLive, PlacesFull, NoSchedule, NumberNotLive}
+use Rattle.refusals.specs.declared.Refusal.the-variants.{BrokenState, LinkCount, CycleLength, FrameCount, RangeOutside, ClosedOutside, RouteLength, UnknownLink, LinkTwice, RatesApart, NumberLive, PlacesFull, NoSchedule, NumberNotLive}
 use Rattle.refusals.specs.declared.Verdict.{Verdict}
 use Rattle.refusals.specs.declared.Verdict.the-variants as verdict
 use Rattle.refusals.proofs.Refusals.{uncounted}
-use Rattle.network.specs.Network.{Topology}
-use Rattle.network.specs.Checks.{networkCheck}
+use Rattle.network.specs.Network.{Topology, topologyOf}
+use Rattle.network.specs.Checks.{badCount, badCycle, badFrames, badRange, badClosed, linkCheck, linksCheck, networkCheck}
+use Rattle.network.specs.declared.Link.{Link}
 use Rattle.forwarding.specs.declared.Hop.{Hop}
 use Rattle.forwarding.specs.Route.{routeAnswer}
 use Rattle.words.specs.Word.{freeFrames}
@@ -42,12 +43,10 @@ use Rattle.table.specs.Table.{sessionOf, noPlace, liveOf}
 use Rattle.state.specs.declared.State.{State}
 use Rattle.state.specs.declared.Quoted.{Quoted}
 use Rattle.state.specs.declared.Served.{Served}
-use Rattle.state.specs.State.{viewOf, quotedOf, notQuoted, Quotes, releasedIn, Leaves, Serves}
+use Rattle.state.specs.State.{viewOf, freshState, quotedOf, notQuoted, Quotes, releasedIn, Leaves, Serves}
 use Rattle.state.proofs.Replies.{refusal-leaves, stays, moves}
-use Rattle.sessions.specs.declared.Shown.{Shown}
-use Rattle.sessions.specs.declared.Counted.{Counted}
-use Rattle.sessions.specs.Calls.{shownOf, notShown, Shows, countedOf, notCounted, Counts}
-use Rattle.sessions.specs.Stored.{StoredRun, over, set-up, quote, release, ContractsMet, StoredSteps, EveryListStored}
+use Rattle.sessions.specs.Calls.{begunOn, Tells, shownOf, notShown, countedOf, notCounted}
+use Rattle.sessions.specs.Stored.{StoredRun, over, set-up, quote, release, ContractsMet, BeginMet, StoredSteps, EveryListStored}
 
 -- ---- what a check refuses with has its refusal, and isn't 18
 abbrev pub Named : {A : Type 0} → Outcome A → Type 0
@@ -108,13 +107,9 @@ count-named v l =
     named-or (brokenCheck v) (orElse (refuseIf b 13) n) (broken-named v) (named-or (refuseIf b 13) n (named-if b UnknownLink refl) tt)
 
 -- ---- the answers: what is given, or the refusal with the number
-shown-for : (o : Outcome Session) → Named o → (q : Shown) × Shows o q
-shown-for (given s) h = (shownOf s, refl)
-shown-for (refused k) h = (notShown (h .0), (h .0, h .1, refl))
-
-counted-for : (o : Outcome ℕ) → Named o → (q : Counted) × Counts o q
-counted-for (given n) h = (countedOf n, refl)
-counted-for (refused k) h = (notCounted (h .0), (h .0, h .1, refl))
+told-for : {A B : Type 0} (of : A → B) (not : Refusal → B) (o : Outcome A) → Named o → (q : B) × Tells of not o q
+told-for of not (given a) h = (of a, refl)
+told-for of not (refused k) h = (not (h .0), (h .0, h .1, refl))
 
 quoted-unless : (o : Ruling) (r : Reply) → Named o → (q : Quoted) × Quotes r q → (q : Quoted) × Quotes (unless o r) q
 quoted-unless (given p) r h w = w
@@ -219,12 +214,45 @@ contracts-met st =
           let a = after-call st (Release n) in
           (record { verdict = w .0; state = a .0 }, record { answer = w .1; after = a .1 });
       lookup = λ n.
-          let q = shown-for (lookup (viewOf st) n) (lookup-named (viewOf st) n) in
+          let q = told-for shownOf notShown (lookup (viewOf st) n) (lookup-named (viewOf st) n) in
           (record { shown = q .0; state = st }, record { shown = q .1; same = refl });
       free-frames = λ l.
-          let q = counted-for (freeCount (viewOf st) l) (count-named (viewOf st) l) in
+          let q = told-for countedOf notCounted (freeCount (viewOf st) l) (count-named (viewOf st) l) in
           (record { counted = q .0; state = st }, record { counted = q .1; same = refl });
     }
+
+-- ---- `begin`
+link-named : (T : ℕ) (k : Link) → Named (linkCheck T k)
+unfolding linkCheck
+link-named T k =
+    let c : Ruling = refuseIf (badClosed (k .frames) (k .closed)) 9 in
+    let r : Ruling = orElse (refuseIf (badRange (k .frames) (k .range)) 8) c in
+    named-or (refuseIf (badFrames T (k .frames)) 7) r (named-if (badFrames T (k .frames)) FrameCount refl)
+    (named-or (refuseIf (badRange (k .frames) (k .range)) 8) c (named-if (badRange (k .frames) (k .range)) RangeOutside refl)
+    (named-if (badClosed (k .frames) (k .closed)) ClosedOutside refl))
+
+links-named : (T : ℕ) (ks : List Link) → Named (linksCheck T ks)
+unfolding linksCheck
+links-named T [] = tt
+links-named T (k ∷ ks) = named-or (linkCheck T k) (linksCheck T ks) (link-named T k) (links-named T ks)
+
+network-named : (net : Topology) → Named (networkCheck net)
+unfolding networkCheck
+network-named net =
+    let l : Ruling = linksCheck (net .ticks) (net .links) in
+    let t : Ruling = orElse (refuseIf (badCycle (net .ticks)) 3) l in
+    named-or (refuseIf (badCount (length (net .links))) 2) t (named-if (badCount (length (net .links))) LinkCount refl)
+    (named-or (refuseIf (badCycle (net .ticks)) 3) l (named-if (badCycle (net .ticks)) CycleLength refl) (links-named (net .ticks) (net .links)))
+
+verdict-for : (o : Ruling) → Named o → (w : Verdict) × (ruling w ≡ o)
+verdict-for (given pass) h = (verdict.Passed, refl)
+verdict-for (refused k) h = (verdict.Refused (h .0), ap refused (h .1))
+
+-- THE CONTRACT OF `begin` CAN BE MET ON EVERY NETWORK
+pub begin-met : BeginMet
+begin-met network =
+    let w = verdict-for (networkCheck (topologyOf network)) (network-named (topologyOf network)) in
+    (record { verdict = w .0; state = freshState (begunOn (networkCheck (topologyOf network)) network) }, record { verdict = w .1; state = refl })
 
 -- ---- lists of calls
 -- one call before the steps of others

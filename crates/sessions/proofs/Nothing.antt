@@ -7,21 +7,20 @@ use native.Mathlib.Omega.{arith}
 use lib.ListN.{length, getD}
 use Rattle.lists.proofs.Count as tests
 use Rattle.places.specs.Places.{firsts}
-use Rattle.refusals.specs.Refusals.{Ruling}
 use Rattle.words.specs.Word.{bitOf, wordOf}
 use Rattle.network.specs.Network.{Topology, topologyOf}
 use Rattle.forwarding.specs.Forwarding.{isFree}
 use Rattle.forwarding.specs.Schedule.{IsSchedule}
 use Rattle.ledger.specs.Lists.{allOf}
-use Rattle.ledger.specs.Sessions.{Session, View, freeOf, hopOf, hopsOf}
+use Rattle.ledger.specs.Sessions.{Session, freeOf, hopOf, hopsOf}
 use Rattle.ledger.specs.Sound.{goodSession}
 use Rattle.ledger.proofs.Intact.{session-good, intact-is}
 use Rattle.ledger.proofs.Whole.{runs-network}
 use Rattle.routes.proofs.Routes.{route-long, route-known}
 use Rattle.state.specs.State.{viewOf}
-use Rattle.sessions.specs.Calls.{shutNetwork, begunOn}
+use Rattle.sessions.specs.Calls.{shutNetwork}
 use Rattle.sessions.specs.Stored.{NothingHeld}
-use Rattle.sessions.proofs.Stored.{stored-by-rules, begun-intact}
+use Rattle.sessions.proofs.Stored.{stored-by-rules, shut-begun, begun-intact}
 
 -- ---- the network of one link, whose one frame is closed
 abbrev shut : Topology
@@ -62,7 +61,7 @@ no-session (s ∷ ss) e =
 -- WHERE `begin` REFUSED THE NETWORK NOTHING IS EVER HELD
 pub nothing-held : NothingHeld
 nothing-held network r k b e last steps run =
-    let begun : viewOf (r .state) .network ≡ shut = ap (λ (v : View). v .network) (b .view) ∙ ap topologyOf (b .network ∙ ap (λ (o : Ruling). begunOn o network) e) in
+    let begun : viewOf (r .state) .network ≡ shut = ap topologyOf (shut-begun network r b k e) in
     let on : viewOf last .network ≡ shut = runs-network (stored-by-rules (r .state) last steps run) ∙ begun in
     let good : allOf (goodSession (viewOf last .network)) (viewOf last .live) ≡ true = intact-is (viewOf last) (begun-intact network r b last steps run) .sessions in
     no-session (viewOf last .live) (subst (λ (net : Topology). allOf (goodSession net) (viewOf last .live) ≡ true) on good)

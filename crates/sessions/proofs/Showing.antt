@@ -37,7 +37,7 @@ use Rattle.state.specs.State.{viewOf}
 use Rattle.state.proofs.Within.{place-session, all-within}
 use Rattle.sessions.specs.declared.Shown.{Shown}
 use Rattle.sessions.specs.declared.Counted.{Counted}
-use Rattle.sessions.specs.Calls.{shownOf, notShown, Shows, Looks, notCounted, Counts, Tallies}
+use Rattle.sessions.specs.Calls.{Tells, shownOf, notShown, Looks, countedOf, notCounted, Tallies}
 
 -- what is shown of a stored session
 pub place-shown : (place : Place) (route : List ℕ) (held : Held) → route ≡ firsts 8 (firsts (place .hops) (place .route) 0) 0
@@ -60,7 +60,7 @@ module _ (st : State) (ok : intact (viewOf st) ≡ true) where
     pub lookup-refused : st .table .live ≤ place → (r : Refusal) → refusalNumber r ≡ 19 → (q : Shown) → q ≡ notShown r → Looks st n (record { shown = q; state = st })
     lookup-refused h r p q w =
         record {
-          shown = subst (λ (o : Outcome Session). Shows o q) (sym (lookup-told (refused 19) (gone-refused n (liveOf (st .table)) (omega (arith, h, e, live-length))))) (r, p, w);
+          shown = subst (λ (o : Outcome Session). Tells shownOf notShown o q) (sym (lookup-told (refused 19) (gone-refused n (liveOf (st .table)) (omega (arith, h, e, live-length))))) (r, p, w);
           same = refl;
         }
 
@@ -76,7 +76,7 @@ module _ (st : State) (ok : intact (viewOf st) ≡ true) where
       place-hops = all-within st ok .each place h .few
 
       pub lookup-shown : (q : Shown) → q ≡ shownOf (sessionOf (getD (st .table .places) place noPlace)) → Looks st n (record { shown = q; state = st })
-      lookup-shown q w = record { shown = subst (λ (o : Outcome Session). Shows o q) (sym lookup-given) w; same = refl }
+      lookup-shown q w = record { shown = subst (λ (o : Outcome Session). Tells shownOf notShown o q) (sym lookup-given) w; same = refl }
 
   -- ---- free frames
   module _ (l : ℕ) where
@@ -85,7 +85,7 @@ module _ (st : State) (ok : intact (viewOf st) ≡ true) where
     free-refused h = rw (ok, many-links (st .network), not-known (st .network .count) l l refl h)
 
     pub link-refused : st .network .count ≤ l → (r : Refusal) → refusalNumber r ≡ 13 → (q : Counted) → q ≡ notCounted r → Tallies st l (record { counted = q; state = st })
-    link-refused h r p q w = record { counted = subst (λ (o : Outcome ℕ). Counts o q) (sym (free-refused h)) (r, p, w); same = refl }
+    link-refused h r p q w = record { counted = subst (λ (o : Outcome ℕ). Tells countedOf notCounted o q) (sym (free-refused h)) (r, p, w); same = refl }
 
     module _ (h : l < st .network .count) where
       pub link-in : l < 32
@@ -103,7 +103,7 @@ module _ (st : State) (ok : intact (viewOf st) ≡ true) where
           → Tallies st l (record { counted = record { verdict = Passed; count = count }; state = st })
       link-counted held w count e =
           record {
-            counted = subst (λ (o : Outcome ℕ). Counts o (record { verdict = Passed; count = count })) (sym free-given)
+            counted = subst (λ (o : Outcome ℕ). Tells countedOf notCounted o (record { verdict = Passed; count = count })) (sym free-given)
                 (ap (λ (n : ℕ). record { verdict = Passed; count = n })
                 (e ∙ sym (free-count (k .frames) (k .closed) (getD held l 0))
                 ∙ ap (λ (x : Hop). freeFrames (x .frames) (x .free)) (hop-held (st .network) held (liveOf (st .table)) l w passed h)));

@@ -13,9 +13,8 @@ use Rattle.network.specs.declared.Network.{Network}
 use Rattle.ledger.specs.Held.{noHolding, heldPlaces}
 use Rattle.ledger.specs.Sessions.{Session}
 use Rattle.ledger.specs.Calls.{lookup, freeCount}
-use Rattle.ledger.specs.Demand.{fresh}
 use Rattle.state.specs.declared.State.{State}
-use Rattle.state.specs.State.{viewOf}
+use Rattle.state.specs.State.{viewOf, freshState}
 use Rattle.sessions.specs.declared.Begun.{Begun}
 use Rattle.sessions.specs.declared.Shown.{Shown}
 use Rattle.sessions.specs.declared.Looked.{Looked}
@@ -35,8 +34,13 @@ begunOn (refused n) net = shutNetwork
 -- the network's checks, and a state that holds no sessions
 pub record Begins (net : Network) (r : Begun) : Type 0 where
   pub verdict : ruling (r .verdict) ≡ networkCheck (topologyOf net)
-  pub network : r .state .network ≡ begunOn (networkCheck (topologyOf net)) net
-  pub view : viewOf (r .state) ≡ fresh (topologyOf (r .state .network))
+  pub state : r .state ≡ freshState (begunOn (networkCheck (topologyOf net)) net)
+
+-- ---- calls that leave the very same state
+-- the program's answer is the rule's: the answer that gives what is given, or that of a refusal with the rule's number
+abbrev pub Tells : {A B : Type 0} → (A → B) → (Refusal → B) → Outcome A → B → Type 0
+Tells of not (given a) q = q ≡ of a
+Tells of not (refused n) q = (r : Refusal) × (refusalNumber r ≡ n) × (q ≡ not r)
 
 -- ---- lookup
 -- a session's route, frames and delay, and a refused lookup: "unused hop and link places hold 0"
@@ -46,14 +50,9 @@ shownOf s = record { verdict = Passed; hops = length (s .route); route = firsts 
 abbrev pub notShown : Refusal → Shown
 notShown r = record { verdict = Refused r; hops = 0; route = firsts 8 [] 0; held = heldPlaces noHolding }
 
--- the program's answer is the rule's
-abbrev pub Shows : Outcome Session → Shown → Type 0
-Shows (given s) q = q ≡ shownOf s
-Shows (refused n) q = (r : Refusal) × (refusalNumber r ≡ n) × (q ≡ notShown r)
-
 -- a lookup, and the very same state
 pub record Looks (st : State) (number : ℕ) (r : Looked) : Type 0 where
-  pub shown : Shows (lookup (viewOf st) number) (r .shown)
+  pub shown : Tells shownOf notShown (lookup (viewOf st) number) (r .shown)
   pub same : r .state ≡ st
 
 -- ---- free frames
@@ -64,12 +63,7 @@ countedOf n = record { verdict = Passed; count = n }
 abbrev pub notCounted : Refusal → Counted
 notCounted r = record { verdict = Refused r; count = 0 }
 
--- the program's answer is the rule's
-abbrev pub Counts : Outcome ℕ → Counted → Type 0
-Counts (given n) q = q ≡ countedOf n
-Counts (refused k) q = (r : Refusal) × (refusalNumber r ≡ k) × (q ≡ notCounted r)
-
 -- the free frames of a link, and the very same state
 pub record Tallies (st : State) (link : ℕ) (r : Tallied) : Type 0 where
-  pub counted : Counts (freeCount (viewOf st) link) (r .counted)
+  pub counted : Tells countedOf notCounted (freeCount (viewOf st) link) (r .counted)
   pub same : r .state ≡ st

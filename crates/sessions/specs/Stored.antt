@@ -4,14 +4,15 @@ use mathlib.Core.Bool.{true, false, not, _&&_}
 use mathlib.Core.List.{List, [], _∷_, map, List·Memᴰ}
 use Prim.Native.Nat.{ℕ}
 use lib.ListN.{length}
-use Rattle.refusals.specs.Refusals.{given, refused}
+use Rattle.refusals.specs.Refusals.{refused}
 use Rattle.refusals.specs.declared.Refusal.the-variants.{NumberNotLive}
+use Rattle.refusals.specs.declared.Verdict.the-variants.{Passed}
 use Rattle.network.specs.Network.{Topology, topologyOf}
 use Rattle.network.specs.Checks.{networkCheck}
 use Rattle.network.specs.declared.Network.{Network}
 use Rattle.ledger.specs.Sessions.{Session, Slot, holds, heldIn, isLive, hopsOf}
 use Rattle.ledger.specs.Sound.{intact}
-use Rattle.ledger.specs.Calls.{Call, SetUp, Quote, Release, refusal, lookup}
+use Rattle.ledger.specs.Calls.{Call, SetUp, Quote, Release, refusal}
 use Rattle.ledger.specs.Ledger.{Step, did, callOf, ledger}
 use Rattle.ledger.specs.Demand.{Demand3, Runs}
 use Rattle.state.specs.declared.State.{State}
@@ -72,6 +73,10 @@ pub record CanBeMet (st : State) : Type 0 where
 abbrev pub ContractsMet : Type 0
 ContractsMet = (st : State) → CanBeMet st
 
+-- AND SO CAN THAT OF `begin` ON EVERY NETWORK
+abbrev pub BeginMet : Type 0
+BeginMet = (network : Network) → (r : Begun) × Begins network r
+
 -- the steps of a list of calls, from a stored state on
 pub record StoredSteps (st : State) (calls : List Call) : Type 0 where
   pub steps : List Step
@@ -105,7 +110,12 @@ StoredQuoteDepends = (st other : State) (route : List ℕ) (r q : Served) → Se
     → hopsOf (viewOf st .network) (viewOf st .live) route ≡ hopsOf (viewOf other .network) (viewOf other .live) route
     → r .answer ≡ q .answer
 
--- A RELEASE, at the call, "frees exactly that session's frames": those that lookup showed
+-- what a release of session n frees: a frame is held after it exactly when it was held before and isn't one of the session that lookup showed
+pub record FreesShown (st after : State) (q : Looked) : Type 0 where
+  pub session : Session
+  pub shown : q .shown ≡ shownOf session
+  pub frees : (x : Slot) → heldIn (viewOf after .live) x ≡ (heldIn (viewOf st .live) x && not (holds x session))
+
+-- A RELEASE, at the call, "frees exactly that session's frames"
 abbrev pub StoredReleaseFrees : Type 0
-StoredReleaseFrees = (st : State) (n : ℕ) (s : Session) (r : Released) → Releases st n r → lookup (viewOf st) n ≡ given s
-    → (x : Slot) → heldIn (viewOf (r .state) .live) x ≡ (heldIn (viewOf st .live) x && not (holds x s))
+StoredReleaseFrees = (st : State) (n : ℕ) (q : Looked) (r : Released) → Looks st n q → q .shown .verdict ≡ Passed → Releases st n r → FreesShown st (r .state) q

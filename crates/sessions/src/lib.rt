@@ -91,7 +91,7 @@ pub fn begin(network: Network) -> Begun
 }
 
 // A set-up or a quote on a broken state: refused with 0, and the state is the same.
-fn not_served(st: State) -> Served
+fn broken_answer(st: State) -> Served
     ensures { λ r. ⌜ ((call : Call) → intact (viewOf st) ≡ false → Serves st call r) ⌝ }
 {
     Served {
@@ -106,7 +106,7 @@ pub fn set_up(st: State, number: u16, route: &[u8]) -> Served
     ensures { λ r. ⌜ Serves st (SetUp number (now (route .entry))) r ⌝ }
 {
     if state_check::broken(st) {
-        return not_served(st);
+        return broken_answer(st);
     }
     state::set_up(st, number, route)
 }
@@ -116,7 +116,7 @@ pub fn quote(st: State, route: &[u8]) -> Served
     ensures { λ r. ⌜ Serves st (Quote (now (route .entry))) r ⌝ }
 {
     if state_check::broken(st) {
-        return not_served(st);
+        return broken_answer(st);
     }
     Served {
         answer: state::quote(st, route),

@@ -6,7 +6,7 @@ use Prim.Native.Nat.{ℕ, _≤_}
 use lib.ListN.{length}
 use Rattle.refusals.specs.Refusals.{given, pass}
 use Rattle.refusals.specs.Refusals as outcome
-use Rattle.network.specs.Network.{Topology}
+use Rattle.network.specs.Network.{Topology, topologyOf}
 use Rattle.ledger.specs.Held.{Holding}
 use Rattle.ledger.specs.Sessions.{Session, View, isLive}
 use Rattle.ledger.specs.Routes.{routeCheck}
@@ -18,9 +18,10 @@ use Rattle.ledger.proofs.Scheduled.{linksOf, Scheduled, scheduled, scheduled-ba
 use Rattle.routes.proofs.Routes.{route-long}
 use Rattle.table.specs.declared.Table.{Table}
 use Rattle.table.specs.Table.{liveOf}
+use Rattle.table.proofs.Live.{in-none}
 use Rattle.state.specs.declared.State.{State}
 use Rattle.state.specs.declared.Quoted.{Quoted}
-use Rattle.state.specs.State.{viewOf, Quotes, quotedIn, Leaves, LeftIntact}
+use Rattle.state.specs.State.{viewOf, FreshShown, Quotes, quotedIn, Leaves, LeftIntact}
 
 -- ---- the checks of a call after 0, one after the other
 module _ (net : Topology) (ss : List Session) (n : ℕ) (route : List ℕ) where
@@ -85,6 +86,10 @@ moves st call f e other t l =
       network = refl;
       same = λ q. other _ (sym e ∙ q);
     }
+
+-- A STATE WITHOUT SESSIONS SHOWS A FRESH NETWORK
+pub fresh-shown : FreshShown
+fresh-shown net = ap (λ (ss : List Session). record { network = topologyOf net; live = ss }) (in-none _)
 
 -- A CALL ON A STATE THAT ISN'T BROKEN LEAVES ONE THAT ISN'T BROKEN
 pub left-intact : LeftIntact

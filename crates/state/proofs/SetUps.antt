@@ -80,6 +80,10 @@ stored-route number route eight held e few =
     (ap (λ (l : List ℕ). firsts (length route) l 0) e ∙ firsts-back 8 route 0 few)
 
 -- ---- what a search found, as an answer
+-- what it found, in eight places
+abbrev pub inEight : Finding → Delay → Held
+inEight f d = record { frames = f .frames; delay = d }
+
 module _ (net : Topology) (ss : List Session) (route : List ℕ) (f : Finding) (s : Searched net ss route f) where
   told : (x : Found) → f .found ≡ x → routeAnswer (net .ticks) (hopsOf net ss route) ≡ reading (length route) x (f .count) (f .frames)
   told x e = sym (s .answer) ∙ ap (λ (y : Found). reading (length route) y (f .count) (f .frames)) e
@@ -100,14 +104,14 @@ module _ (net : Topology) (ss : List Session) (route : List ℕ) (f : Finding) (
     pub held-found : answerOver (net .ticks) (hopsOf net ss route) ≡ schedule foundHeld (f .count)
     held-found = ap (replyOf (hopsOf net ss route)) (told (result.Schedule d) e)
 
-    pub found-places : _≡_ {A = Held} (record { frames = f .frames; delay = d }) (heldPlaces foundHeld)
+    pub found-places : inEight f d ≡ heldPlaces foundHeld
     found-places =
         places-over (hopsOf net ss route) d (firsts (length route) (f .frames) 0) (f .frames)
         (s .places ∙ ap (λ (a : trellis.Answer). firsts 8 (nodesOf a) 0) (told (result.Schedule d) e))
 
-    pub quotes-found : Quotes (answerOver (net .ticks) (hopsOf net ss route)) (record { verdict = verdict.Passed; count = f .count; held = record { frames = f .frames; delay = d } })
+    pub quotes-found : Quotes (answerOver (net .ticks) (hopsOf net ss route)) (record { verdict = verdict.Passed; count = f .count; held = inEight f d })
     quotes-found =
-        subst (λ (x : Reply). Quotes x (record { verdict = verdict.Passed; count = f .count; held = record { frames = f .frames; delay = d } })) (sym held-found)
+        subst (λ (x : Reply). Quotes x (record { verdict = verdict.Passed; count = f .count; held = inEight f d })) (sym held-found)
         (ap (λ (h : Held). record { verdict = verdict.Passed; count = f .count; held = h }) found-places)
 
 module _ (st : State) (ok : intact (viewOf st) ≡ true) where
@@ -159,13 +163,13 @@ module _ (st : State) (ok : intact (viewOf st) ≡ true) where
 
       -- the frames are held
       module _ (d : Delay) (e : f .found ≡ result.Schedule d) (place : Place)
-          (ep : sessionOf place ≡ record { number = n; route = route; held = holdingOf (length route) (record { frames = f .frames; delay = d }) }) (table : Table)
+          (ep : sessionOf place ≡ record { number = n; route = route; held = holdingOf (length route) (inEight f d) }) (table : Table)
           (et : liveOf table ≡ ss ++ (sessionOf place ∷ [])) where
         accepted : reply (viewOf st) (SetUp n route) ≡ schedule (foundHeld net ss route f s d e) (f .count)
         accepted = set-up-granted ∙ held-found net ss route f s d e
 
         -- what is stored reads as what is held
-        stored : holdingOf (length route) (record { frames = f .frames; delay = d }) ≡ foundHeld net ss route f s d e
+        stored : holdingOf (length route) (inEight f d) ≡ foundHeld net ss route f s d e
         stored =
             ap (holdingOf (length route)) (found-places net ss route f s d e)
             ∙ scheduled-back (viewOf st) route (foundHeld net ss route f s d e) (scheduled (viewOf st) (SetUp n route) (foundHeld net ss route f s d e) (f .count) accepted)
@@ -175,12 +179,12 @@ module _ (st : State) (ok : intact (viewOf st) ≡ true) where
         enters-moves u X q = let z : _≡_ {A = ℕ} 0 1 = cc in absurd (omega arith)
 
         pub set-up-held : Serves st (SetUp n route) (record {
-          answer = record { verdict = verdict.Passed; count = f .count; held = record { frames = f .frames; delay = d } };
+          answer = record { verdict = verdict.Passed; count = f .count; held = inEight f d };
           state = record { network = st .network; table = table };
         })
         set-up-held =
             record {
-              answer = subst (λ (x : Reply). Quotes x (record { verdict = verdict.Passed; count = f .count; held = record { frames = f .frames; delay = d } })) (sym set-up-granted)
+              answer = subst (λ (x : Reply). Quotes x (record { verdict = verdict.Passed; count = f .count; held = inEight f d })) (sym set-up-granted)
                   (quotes-found net ss route f s d e);
               after = moves st (SetUp n route) (enters record { number = n; route = route; held = foundHeld net ss route f s d e }) (ap (effect (SetUp n route)) accepted) (enters-moves _) table
                   (et ∙ ap (λ (u : Session). ss ++ (u ∷ [])) (ep ∙ ap (λ (h : Holding). record { number = n; route = route; held = h }) stored));

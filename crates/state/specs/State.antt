@@ -1,16 +1,21 @@
 -- The stored state, what it shows, and what the program's answers say in the words of the rules. Assumes nothing.
 use mathlib.Core.Path.{_≡_}
 use mathlib.Core.Bool.{true}
+use mathlib.Core.List.{[]}
 use Prim.Native.Nat.{ℕ}
+use lib.ListN.{replicate}
+use Rattle.places.specs.Places.{firsts}
 use Rattle.refusals.specs.Refusals.{refusalNumber, refusalCount}
 use Rattle.refusals.specs.declared.Refusal.{Refusal}
 use Rattle.refusals.specs.declared.Verdict.{Verdict}
 use Rattle.refusals.specs.declared.Verdict.the-variants.{Passed, Refused}
 use Rattle.network.specs.Network.{topologyOf}
+use Rattle.network.specs.declared.Network.{Network}
 use Rattle.ledger.specs.Held.{Holding, noHolding, holdingOf, heldPlaces}
 use Rattle.ledger.specs.Sessions.{View}
 use Rattle.ledger.specs.Sound.{intact}
 use Rattle.ledger.specs.Calls.{Call, Release, Reply, schedule, freed, refusal, reply, leaves, effect, next}
+use Rattle.ledger.specs.Demand.{fresh}
 use Rattle.table.specs.Table.{liveOf}
 use Rattle.state.specs.declared.State.{State}
 use Rattle.state.specs.declared.Quoted.{Quoted}
@@ -20,6 +25,18 @@ use Rattle.state.specs.declared.Released.{Released}
 -- what a stored state shows: unused places are no part of it, and a number above its places shows in it
 abbrev pub viewOf : State → View
 viewOf st = record { network = topologyOf (st .network); live = liveOf (st .table) }
+
+-- a state without sessions, as it is stored: no place of its table is in use, and each holds 0
+abbrev pub freshState : Network → State
+freshState net =
+    record {
+      network = net;
+      table = record { live = 0; places = replicate 96 record { number = 0; hops = 0; route = firsts 8 [] 0; held = heldPlaces noHolding } };
+    }
+
+-- A STATE WITHOUT SESSIONS SHOWS A FRESH NETWORK
+abbrev pub FreshShown : Type 0
+FreshShown = (net : Network) → viewOf (freshState net) ≡ fresh (topologyOf net)
 
 -- ---- the answers
 -- the answer that gives a schedule, and a refused one: "In an answer, unused hop and link places hold 0"

@@ -13,19 +13,19 @@ ghost use mathlib.Core.Bool.{true};
 ghost use mathlib.Core.List.{List, []};
 ghost use Prim.Native.Nat.{ℕ, _≤_};
 ghost use lib.Dec.{leb};
-ghost use lib.ListN.{length};
+ghost use lib.ListN.{length, replicate};
+ghost use Rattle.places.specs.Places.{firsts};
 ghost use Rattle.refusals.specs.Refusals.{given, pass, ruling};
 ghost use Rattle.network.specs.Network.{Topology, topologyOf};
 ghost use Rattle.network.specs.Checks.{networkCheck};
-ghost use Rattle.ledger.specs.Held.{holdingOf};
+ghost use Rattle.ledger.specs.Held.{noHolding, holdingOf, heldPlaces};
 ghost use Rattle.ledger.specs.Sessions.{Session, isLive, hopsOf};
 ghost use Rattle.ledger.specs.Routes.{routeCheck};
 ghost use Rattle.ledger.specs.Sound.{intact};
 ghost use Rattle.ledger.specs.Calls.{SetUp, Quote, answerOver, callCheck, reply};
-ghost use Rattle.ledger.specs.Demand.{fresh};
 ghost use Rattle.table.specs.Table.{sessionOf, liveOf};
 ghost use Rattle.table.specs.Inner.{AllWithin};
-ghost use Rattle.state.specs.State.{viewOf, notQuoted, Quotes, Serves, Releases};
+ghost use Rattle.state.specs.State.{viewOf, freshState, notQuoted, Quotes, Serves, Releases};
 ghost use Rattle.state.specs.Inner.{Searched};
 
 // The stored state: a network and its live sessions.
@@ -56,7 +56,7 @@ pub struct Released {
 
 // A table without sessions.
 fn no_sessions() -> Table
-    ensures { λ r. ⌜ liveOf r ≡ [] ⌝ }
+    ensures { λ r. ⌜ r ≡ record { live = 0; places = replicate 96 record { number = 0; hops = 0; route = firsts 8 [] 0; held = heldPlaces noHolding } } ⌝ }
 {
     let held = table::nothing_held();
     let none = Place {
@@ -74,7 +74,7 @@ fn no_sessions() -> Table
 // The state of a network that passed its checks, without sessions.
 pub fn fresh_state(network: Network) -> State
     requires { ⌜ networkCheck (topologyOf network) ≡ given pass ⌝ }
-    ensures { λ r. ⌜ (r .network ≡ network) × (viewOf r ≡ fresh (topologyOf network)) ⌝ }
+    ensures { λ r. ⌜ r ≡ freshState network ⌝ }
 {
     State {
         network,
@@ -105,7 +105,7 @@ fn least(network: Network, table: Table, route: &[u8]) -> Finding
 }
 
 // The answer that gives what a search found: 18 where no schedule exists.
-fn quoted_of(finding: Finding) -> Quoted
+fn answer_of(finding: Finding) -> Quoted
     ensures { λ r. ⌜ ((net : Topology) (ss : List Session) (links : List ℕ) → Searched net ss links finding → Quotes (answerOver (net .ticks) (hopsOf net ss links)) r) ⌝ }
 {
     let found = finding.found;
@@ -130,7 +130,7 @@ pub fn quote(st: State, route: &[u8]) -> Quoted
         Verdict::Refused(refusal) => return refused(refusal),
         Verdict::Passed => {}
     }
-    quoted_of(least(st.network, st.table, route))
+    answer_of(least(st.network, st.table, route))
 }
 
 // Whether the number is live.

@@ -1,7 +1,7 @@
 // The live sessions as they are stored: a table of 96 places, the first of them used, in the order of set-up.
 // What gives each `requires`: check 0, that at most 96 sessions are live (`place_of`, `without`, `number_twice`) and that the links and frames of each are
-// within the arrays (`held_words`, `frame_twice`); check 17, that a place is left (`with_place`); check 12, that a route has at most 8 links (`in_eight`), and
-// check 0 of a stored one (`cleared`).
+// within the arrays (`held_words`, `frame_twice` and what these call); check 17, that a place is left (`with_place`); check 12, that a route has at most 8
+// links, and check 0 that a stored one has (`in_eight`, `cleared`).
 use forwarding::Delay;
 use forwarding::Held;
 ghost use mathlib.Core.Path.{_≡_};

@@ -31,7 +31,7 @@ slice-aggregate-run c = counted-long (c .before .before .before .before .before 
 
 run-requires : tie.Need-run-requires
 run-requires c κs = let start = c .before .before .before .before .before .before .before .before .before .before .before in
-    read-room (start .args .file .now) (start .args .calls .now) (λ i. c .before .before .before .before .before .before .before .before .before .before .shared-slice-known .given i .fits) _ (c .before .before .before .before .before .before .before .read-network .ensures) (c .before .before .before .before .before .enum-told .given .1) _ (c .before .before .before .fresh-state .ensures .1) _ (c .before .before .counted .ensures) _ (start .pre)
+    read-room (start .args .file .now) (start .args .calls .now) (λ i. c .before .before .before .before .before .before .before .before .before .before .shared-slice-known .given i .fits) _ (c .before .before .before .before .before .before .before .read-network .ensures) (c .before .before .before .before .before .enum-told .given .1) _ (c .before .before .before .fresh-state .ensures) _ (c .before .before .counted .ensures) _ (start .pre)
 
 same-length : tie.Need-same-length
 same-length c = search needs
@@ -44,7 +44,7 @@ same-length-2 c = search needs
 
 returns-2 : tie.Need-returns-2
 returns-2 c = let start = c .before .before .before .before .before .before .before .before .before .before .before .before .before .before in
-    read-put (start .args .file .now) (start .args .calls .now) (λ i. c .before .before .before .before .before .before .before .before .before .before .before .before .before .shared-slice-known .given i .fits) _ (c .before .before .before .before .before .before .before .before .before .before .read-network .ensures) (c .before .before .before .before .before .before .before .before .enum-told .given .1) _ (c .before .before .before .before .before .before .fresh-state .ensures .1) _ (c .before .before .before .before .before .counted .ensures) _ _ _ (c .before .before .run .ensures)
+    read-put (start .args .file .now) (start .args .calls .now) (λ i. c .before .before .before .before .before .before .before .before .before .before .before .before .before .shared-slice-known .given i .fits) _ (c .before .before .before .before .before .before .before .before .before .before .read-network .ensures) (c .before .before .before .before .before .before .before .before .enum-told .given .1) _ (c .before .before .before .before .before .before .fresh-state .ensures) _ (c .before .before .before .before .before .counted .ensures) _ _ _ (c .before .before .run .ensures)
 
 pub write-text-spec : {M : Type 1} → statement M
 write-text-spec =

@@ -30,12 +30,12 @@ least-requires : tie.Need-least-requires
 least-requires c κs = let start = c .before .before .before .before in
     (intact-is _ (start .pre) .network, sym (c .before .before .check-route .ensures) ∙ ap ruling (c .enum-told .given .1), all-within (start .args .st) (start .pre))
 
-quoted-of-requires : tie.Need-quoted-of-requires
-quoted-of-requires c κs = search needs
+answer-of-requires : tie.Need-answer-of-requires
+answer-of-requires c κs = search needs
 
 returns-2 : tie.Need-returns-2
 returns-2 c = let start = c .before .before .before .before .before .before in
-    quote-quotes (start .args .st) (start .pre) _ (sym (c .before .before .before .before .check-route .ensures) ∙ ap ruling (c .before .before .enum-told .given .1)) _ (c .quoted-of .ensures _ _ _ (c .before .least .ensures))
+    quote-quotes (start .args .st) (start .pre) _ (sym (c .before .before .before .before .check-route .ensures) ∙ ap ruling (c .before .before .enum-told .given .1)) _ (c .answer-of .ensures _ _ _ (c .before .least .ensures))
 
 pub quote-spec : {M : Type 1} → statement M
 quote-spec =
@@ -47,5 +47,5 @@ quote-spec =
     returns
     enum-told
     least-requires
-    quoted-of-requires
+    answer-of-requires
     returns-2)

@@ -1,7 +1,7 @@
--- `state::quoted_of` meets its contract. Assumes nothing.
+-- `state::answer_of` meets its contract. Assumes nothing.
 use borrow.Author.Needs.{needs}
-use Rattle.state.proofs.quoted_of.Statement.{statement}
-use Rattle.state.proofs.quoted_of.Tie as tie
+use Rattle.state.proofs.answer_of.Statement.{statement}
+use Rattle.state.proofs.answer_of.Tie as tie
 use Rattle.state.proofs.SetUps.{quotes-blocked, quotes-found}
 
 enum-known-found : tie.Need-enum-known-found
@@ -19,7 +19,7 @@ returns c = λ net ss links s. quotes-blocked net ss links _ s (c .before .enum-
 returns-2 : tie.Need-returns-2
 returns-2 c = λ net ss links s. quotes-found net ss links _ s _ (c .before .before .found .given .1)
 
-pub quoted-of-spec : {M : Type 1} → statement M
-quoted-of-spec =
+pub answer-of-spec : {M : Type 1} → statement M
+answer-of-spec =
     tie.close
     (tie.spec enum-known-found enum-told refused-requires returns returns-2)
