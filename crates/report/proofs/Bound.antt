@@ -41,7 +41,7 @@ use Rattle.call_records.specs.Records.{readRecord, routeIn, callAs, callIn}
 use Rattle.call_records.proofs.Cases.{in-bytes}
 use Rattle.call_records.proofs.Lengths.{record-long}
 use Rattle.text.specs.Lines.{letterOf, line, liveLine}
-use Rattle.text.proofs.Long.{served-long, freed-long, refused-long, blocked-long, live-long, network-long}
+use Rattle.text.proofs.Long.{scheduled-long, freed-long, refused-long, blocked-long, live-long, network-long}
 use Rattle.report.specs.Transcript.{thenOthers, callsAfter, counted, linesOf, textOn, transcript}
 use Rattle.report.specs.Reports.{textBound, TextWithin, tooShort, lengthOr20, RoomServes}
 use Rattle.report.proofs.Numbers.{file-number, call-number}
@@ -94,7 +94,7 @@ module _ (net : Topology) (ss : List Session) (ok : networkCheck net ≡ given p
       let most = delay-bound (net .ticks) hops w (ready .cycle) (omega (arith, hops-long route, ready .few-hops)) p (g .schedule) in
       let c = count-most (net .ticks) hops count (omega (arith, hops-long route, ready .few-hops)) p (g .count-is) in
       let frames : (i : ℕ) → getD (heldOver hops d w .frames) i 0 < 100 = rw (frames-over hops d w) (schedule-small (net .ticks) hops w p (g .schedule)) in
-      omega (arith, served-long place letter (heldOver hops d w) count h (omega (arith, most, g .delay-is, delay-over hops d w)) c frames, schedule-length hops w (g .schedule), ap (λ (fs : List ℕ). length fs) (frames-over hops d w), hops-long route)
+      omega (arith, scheduled-long place letter (heldOver hops d w) count h (omega (arith, most, g .delay-is, delay-over hops d w)) c frames, schedule-length hops w (g .schedule), ap (λ (fs : List ℕ). length fs) (frames-over hops d w), hops-long route)
   route-line place letter h route e r (none count q is nowhere) =
       let ready = route-ready net ss route ok e in
       let c = count-most (net .ticks) (hopsOf net ss route) count (omega (arith, hops-long route, ready .few-hops)) (hops-ready route e) is in

@@ -53,7 +53,7 @@ fn put_answer(
     let verdict = answer.verdict;
     let held = answer.held;
     match verdict {
-        Verdict::Passed => text::put_served(out, at, place, letter, answer.count, held, hops),
+        Verdict::Passed => text::put_scheduled(out, at, place, letter, answer.count, held, hops),
         Verdict::Refused(refusal) => put_refusal(out, at, place, letter, refusal),
     }
 }

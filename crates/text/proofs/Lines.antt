@@ -44,9 +44,9 @@ unfolding countText
 count-some number count h = rw (eq-eqb number 18 h)
 
 -- ---- the lines
-pub served-is : (place letter : ℕ) (held : Holding) (count : ℕ) → line place letter (schedule held count) ≡ joined (lineHead place letter ∷ (32 ∷ 111 ∷ 107 ∷ []) ∷ scheduleText held count ∷ (10 ∷ []) ∷ [])
+pub scheduled-is : (place letter : ℕ) (held : Holding) (count : ℕ) → line place letter (schedule held count) ≡ joined (lineHead place letter ∷ (32 ∷ 111 ∷ 107 ∷ []) ∷ scheduleText held count ∷ (10 ∷ []) ∷ [])
 unfolding line joined
-served-is place letter held count = refl
+scheduled-is place letter held count = refl
 
 pub freed-is : (place letter : ℕ) → line place letter freed ≡ joined (lineHead place letter ∷ (32 ∷ 111 ∷ 107 ∷ 10 ∷ []) ∷ [])
 unfolding line joined

@@ -12,10 +12,10 @@ use lib.Dec.{ltb}
 use Rattle.ledger.specs.Held.{Holding}
 use Rattle.ledger.specs.Calls.{schedule, freed, refusal}
 use Rattle.text.specs.Digits.{dec, spaced, spacedAll}
-use Rattle.text.specs.Lines.{countText, scheduleText, lineHead, line, liveLine, networkLine, ServedLong, FreedLong, RefusedLong, BlockedLong, LiveLong, NetworkLong}
+use Rattle.text.specs.Lines.{countText, scheduleText, lineHead, line, liveLine, networkLine, ScheduledLong, FreedLong, RefusedLong, BlockedLong, LiveLong, NetworkLong}
 use Rattle.text.proofs.Digits.{dec-small, long-more}
 use Rattle.text.proofs.Chains.{joined}
-use Rattle.text.proofs.Lines.{head-is, schedule-is, count-none, count-some, served-is, freed-is, refused-is, live-is, network-is}
+use Rattle.text.proofs.Lines.{head-is, schedule-is, count-none, count-some, scheduled-is, freed-is, refused-is, live-is, network-is}
 
 by-ten : (n : ℕ) → (n < 10) ⊎ (10 ≤ n)
 by-ten n = cases (ltb n 10) refl
@@ -70,10 +70,10 @@ schedule-long held count d c f =
     omega (arith, long-of (scheduleText held count) (spaced (held .delay) ∷ spaced count ∷ spacedAll (held .frames) ∷ []) (schedule-is held count), frames-long (held .frames) f)
 
 -- ---- the lines
-pub served-long : ServedLong
-served-long place letter held count p d c f = omega (
+pub scheduled-long : ScheduledLong
+scheduled-long place letter held count p d c f = omega (
   arith,
-  long-of (line place letter (schedule held count)) (lineHead place letter ∷ (32 ∷ 111 ∷ 107 ∷ []) ∷ scheduleText held count ∷ (10 ∷ []) ∷ []) (served-is place letter held count),
+  long-of (line place letter (schedule held count)) (lineHead place letter ∷ (32 ∷ 111 ∷ 107 ∷ []) ∷ scheduleText held count ∷ (10 ∷ []) ∷ []) (scheduled-is place letter held count),
   head-long place letter p,
   schedule-long held count d c f,
 )

@@ -47,8 +47,8 @@ networkLine n = (110 ∷ 101 ∷ 116 ∷ 32 ∷ 110 ∷ 111 ∷ []) ++ (spaced n
 
 -- ---- how long a line is at most, for a place of at most five digits
 -- a schedule: a delay of four digits, a count of five and frames of two
-abbrev pub ServedLong : Type 0
-ServedLong = (place letter : ℕ) (held : Holding) (count : ℕ) → place < 100000 → held .delay < 10000 → count < 100000 → ((i : ℕ) → getD (held .frames) i 0 < 100)
+abbrev pub ScheduledLong : Type 0
+ScheduledLong = (place letter : ℕ) (held : Holding) (count : ℕ) → place < 100000 → held .delay < 10000 → count < 100000 → ((i : ℕ) → getD (held .frames) i 0 < 100)
     → length (line place letter (schedule held count)) ≤ 22 + 3 * length (held .frames)
 
 -- a release

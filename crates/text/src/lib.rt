@@ -103,7 +103,7 @@ fn put_count(out: &mut [u8], at: usize, number: u8, count: u32) -> usize
 }
 
 // The line of a call that was answered by a schedule. Check 12: a route has at most 8 hops.
-pub fn put_served(
+pub fn put_scheduled(
     out: &mut [u8],
     at: usize,
     place: u32,

@@ -7,8 +7,8 @@ use Rattle.report.proofs.Answering.{schedule-room, schedule-put, refusa
 enum-told : tie.Need-enum-told
 enum-told c = search needs
 
-put-served-requires : tie.Need-put-served-requires
-put-served-requires c κs = let start = c .before .before .before .before .before in
+put-scheduled-requires : tie.Need-put-scheduled-requires
+put-scheduled-requires c κs = let start = c .before .before .before .before .before in
     schedule-room _ _ _ _ (start .args .answer) _ (c .before .enum-told .given .1) (start .pre)
 
 enum-known-verdict : tie.Need-enum-known-verdict
@@ -23,7 +23,7 @@ same-length c = search needs
 
 returns : tie.Need-returns
 returns c = let start = c .before .before .before .before .before .before .before .before in
-    schedule-put _ _ _ _ (start .args .answer) (c .before .before .before .before .enum-told .given .1) _ _ _ (c .before .before .put-served .ensures)
+    schedule-put _ _ _ _ (start .args .answer) (c .before .before .before .before .enum-told .given .1) _ _ _ (c .before .before .put-scheduled .ensures)
 
 same-length-2 : tie.Need-same-length-2
 same-length-2 c = search needs
@@ -37,7 +37,7 @@ put-answer-spec =
     tie.close
     (tie.spec
     enum-told
-    put-served-requires
+    put-scheduled-requires
     enum-known-verdict
     put-refusal-requires
     same-length
