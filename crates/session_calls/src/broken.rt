@@ -88,11 +88,12 @@ fn with_change(st: State, line: &[u8], k: usize) -> State
     }
 }
 
-// A state built by hand, by one change or two, in place of a state.
+// A state built by hand, by one change, in place of a state; whether the comparison tells the two apart.
 pub(super) fn put(st: State, line: &[u8]) -> State {
-    let next = with_change(with_change(st, line, 1), line, 5);
+    let next = with_change(st, line, 1);
     show::text(b" live");
     show::next(next.table.live as u64);
+    show::kept(same::state(st, next));
     next
 }
 

@@ -8,6 +8,7 @@ use network::Link;
 use network::Network;
 use refusals::Verdict;
 use sessions::Begun;
+use state::Released;
 use state::State;
 ghost use Prim.Native.Nat.{_≤_};
 
@@ -39,7 +40,7 @@ fn begin(line: &[u8]) -> Begun {
     })
 }
 
-// A set-up, or a quote.
+// A set-up, or a quote, which never changes a state.
 pub(super) fn served(st: State, number: u16, route: &[u8], quotes: bool) -> State {
     let served = if quotes {
         sessions::quote(st, route)
@@ -49,11 +50,12 @@ pub(super) fn served(st: State, number: u16, route: &[u8], quotes: bool) -> Stat
     let answer = served.answer;
     show::answer(answer, route.len());
     let verdict = answer.verdict;
-    show::after(
-        verdict,
-        same::network(st.network, served.state.network),
-        same::state(st, served.state),
-    );
+    let same = if quotes {
+        same::state(st, served.state)
+    } else {
+        same::after(verdict, st, served.state)
+    };
+    show::after(same);
     served.state
 }
 
@@ -71,42 +73,28 @@ fn route_call(st: State, line: &[u8], k: usize) -> State
     served(st, lines::word(lines::number(line, 1)), &links[..n], k == 1)
 }
 
-// A release, a lookup or the free frames of a link, by its letter. Any other letter leaves the state.
+// A release, a lookup or the free frames of a link, by its letter; the last two never change a state. Any other letter leaves the state.
 pub(super) fn number_call(st: State, letter: u8, x: usize) -> State {
     match letter {
         b'R' => {
             let released = sessions::release(st, lines::word(x));
             let verdict = released.verdict;
             show::verdict(verdict);
-            show::after(
-                verdict,
-                same::network(st.network, released.state.network),
-                same::state(st, released.state),
-            );
+            show::after(same::after(verdict, st, released.state));
             released.state
         }
         b'L' | b'E' => {
             let looked = sessions::lookup(st, lines::word(x));
             let shown = looked.shown;
             show::session(shown, letter);
-            let verdict = shown.verdict;
-            show::after(
-                verdict,
-                same::network(st.network, looked.state.network),
-                same::state(st, looked.state),
-            );
+            show::after(same::state(st, looked.state));
             looked.state
         }
         b'F' => {
             let tallied = sessions::free_frames(st, lines::byte(x));
             let counted = tallied.counted;
             show::counted(counted);
-            let verdict = counted.verdict;
-            show::after(
-                verdict,
-                same::network(st.network, tallied.state.network),
-                same::state(st, tallied.state),
-            );
+            show::after(same::state(st, tallied.state));
             tallied.state
         }
         _ => st,
@@ -121,7 +109,20 @@ fn with_verdict(accepted: u64, verdict: Verdict) -> u64 {
     }
 }
 
-// A set-up over one link, or a release, for each number from one to before another, and how many of them were accepted.
+// A set-up or a release: its verdict, and the state after it.
+fn set_up_or_release(st: State, number: u16, route: &[u8], sets_up: bool) -> Released {
+    if !sets_up {
+        return sessions::release(st, number);
+    }
+    let served = sessions::set_up(st, number, route);
+    let answer = served.answer;
+    let verdict = answer.verdict;
+    let state = served.state;
+    Released { verdict, state }
+}
+
+// A set-up over one link, or a release, for each number from one to before another, and how many of them were accepted. The state is compared
+// after each of them.
 fn many(st: State, line: &[u8], sets_up: bool) -> State {
     let one = [lines::byte(lines::number(line, 3)); 1];
     let route: &[u8] = &one;
@@ -129,23 +130,18 @@ fn many(st: State, line: &[u8], sets_up: bool) -> State {
     let mut number = lines::word(lines::number(line, 1));
     let mut next = st;
     let mut accepted: u64 = 0;
+    let mut same = true;
     while number < to {
-        if sets_up {
-            let served = sessions::set_up(next, number, route);
-            let answer = served.answer;
-            let verdict = answer.verdict;
-            accepted = with_verdict(accepted, verdict);
-            next = served.state;
-        } else {
-            let released = sessions::release(next, number);
-            let verdict = released.verdict;
-            accepted = with_verdict(accepted, verdict);
-            next = released.state;
-        }
+        let done = set_up_or_release(next, number, route, sets_up);
+        let verdict = done.verdict;
+        accepted = with_verdict(accepted, verdict);
+        same = same & same::after(verdict, next, done.state);
+        next = done.state;
         number += 1;
     }
     show::verdict(Verdict::Passed);
     show::next(accepted);
+    show::after(same);
     next
 }
 

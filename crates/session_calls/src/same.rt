@@ -1,5 +1,6 @@
 // Whether two states are the same, place by place, also where a place is not in use.
 use network::Network;
+use refusals::Verdict;
 use state::State;
 use table::Place;
 use table::Table;
@@ -45,7 +46,7 @@ fn table(one: Table, other: Table) -> bool {
 }
 
 // All 32 places of a network.
-pub(super) fn network(one: Network, other: Network) -> bool {
+fn network(one: Network, other: Network) -> bool {
     let mut i: usize = 0;
     while i < 32 {
         let first = one.links[i];
@@ -65,4 +66,12 @@ pub(super) fn state(one: State, other: State) -> bool {
     let links = network(one.network, other.network);
     let sessions = table(one.table, other.table);
     links & sessions
+}
+
+// Whether a call left what it must leave: the whole state where it was refused, the network where it was accepted.
+pub(super) fn after(verdict: Verdict, one: State, other: State) -> bool {
+    match verdict {
+        Verdict::Passed => network(one.network, other.network),
+        Verdict::Refused(_) => state(one, other),
+    }
 }

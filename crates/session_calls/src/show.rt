@@ -36,6 +36,13 @@ pub(super) fn next(x: u64) {
     io::print_decimal(STDOUT_FILENO, x);
 }
 
+// A number that must be 0, after a space: shown only where it isn't.
+fn stray(x: u64) {
+    if x != 0 {
+        next(x);
+    }
+}
+
 // `ok`, or `no` with the refusal, for 18 also the count.
 pub(super) fn verdict(verdict: Verdict) {
     match verdict {
@@ -63,7 +70,7 @@ fn places(eight: [u8; 8], n: usize) {
     }
 }
 
-// The answer to a set-up or a quote over a route of n links.
+// The answer to a set-up or a quote over a route of n links. A refused one must have 0 for delay, count and frames.
 pub(super) fn answer(answer: Quoted, n: usize) {
     let said = answer.verdict;
     let held = answer.held;
@@ -75,11 +82,15 @@ pub(super) fn answer(answer: Quoted, n: usize) {
             next(answer.count as u64);
             places(frames, n);
         }
-        Verdict::Refused(_) => places(frames, 0),
+        Verdict::Refused(_) => {
+            stray(held.delay.0 as u64);
+            stray(answer.count as u64);
+            places(frames, 0);
+        }
     }
 }
 
-// What a lookup shows: for the letter E all eight places of its route and its frames.
+// What a lookup shows: for the letter E all eight places of its route and its frames. A refused one must have 0 for hops, route, frames and delay.
 pub(super) fn session(shown: Shown, letter: u8) {
     let n = if letter == b'E' { 8 } else { shown.hops };
     let said = shown.verdict;
@@ -97,23 +108,25 @@ pub(super) fn session(shown: Shown, letter: u8) {
             next(held.delay.0 as u64);
         }
         Verdict::Refused(_) => {
+            stray(shown.hops as u64);
             places(route, 0);
             places(frames, 0);
+            stray(held.delay.0 as u64);
         }
     }
 }
 
-// The number of free frames of a link.
+// The number of free frames of a link. A refused count must be 0.
 pub(super) fn counted(counted: Counted) {
     let said = counted.verdict;
     verdict(said);
     match said {
         Verdict::Passed => next(counted.count as u64),
-        Verdict::Refused(_) => {}
+        Verdict::Refused(_) => stray(counted.count as u64),
     }
 }
 
-// Whether a state is the same after some calls.
+// Whether two states are the same.
 pub(super) fn kept(same: bool) {
     if same {
         text(b" same");
@@ -122,13 +135,9 @@ pub(super) fn kept(same: bool) {
     }
 }
 
-// Says where the state after a refused call isn't the one before it, and where the network after any call isn't.
-pub(super) fn after(verdict: Verdict, network: bool, state: bool) {
-    let kept = match verdict {
-        Verdict::Passed => network,
-        Verdict::Refused(_) => state,
-    };
-    if !kept {
+// Says where a call changed what it must leave.
+pub(super) fn after(same: bool) {
+    if !same {
         text(b" changed");
     }
 }

@@ -5,10 +5,10 @@ use Rattle.session_calls.proofs.calls.many.Statement.{statement}
 use Rattle.session_calls.proofs.calls.many.Tie as tie
 
 abbrev Inv-loop : tie.InvT-loop
-Inv-loop line sets-up route to number₀ next₀ accepted₀ number next accepted = Unit
+Inv-loop line sets-up route to number₀ next₀ accepted₀ same₀ number next accepted same = Unit
 
 abbrev μ-loop : tie.MeasureT-loop
-μ-loop line sets-up route to number₀ next₀ accepted₀ number next accepted = to - number
+μ-loop line sets-up route to number₀ next₀ accepted₀ same₀ number next accepted same = to - number
 
 number-requires : tie.Need-number-requires Inv-loop μ-loop
 number-requires c κs = search needs
@@ -34,17 +34,14 @@ word-requires-2 c κs = search needs
 loop-holds : tie.Need-loop-holds Inv-loop μ-loop
 loop-holds c = search needs
 
-set-up-requires : tie.Need-set-up-requires Inv-loop μ-loop
-set-up-requires c κs = search needs
+set-up-or-release-requires : tie.Need-set-up-or-release-requires Inv-loop μ-loop
+set-up-or-release-requires c κs = search needs
 
 with-verdict-requires : tie.Need-with-verdict-requires Inv-loop μ-loop
 with-verdict-requires c κs = search needs
 
-release-requires : tie.Need-release-requires Inv-loop μ-loop
-release-requires c κs = search needs
-
-with-verdict-requires-2 : tie.Need-with-verdict-requires-2 Inv-loop μ-loop
-with-verdict-requires-2 c κs = search needs
+after-requires : tie.Need-after-requires Inv-loop μ-loop
+after-requires c κs = search needs
 
 add-number : tie.Need-add-number Inv-loop μ-loop
 add-number c = search needs
@@ -60,6 +57,9 @@ verdict-requires c κs = search needs
 
 next-requires : tie.Need-next-requires Inv-loop μ-loop
 next-requires c κs = search needs
+
+after-requires-2 : tie.Need-after-requires-2 Inv-loop μ-loop
+after-requires-2 c κs = search needs
 
 returns : tie.Need-returns Inv-loop μ-loop
 returns c = search needs
@@ -78,13 +78,13 @@ many-spec =
     number-requires-3
     word-requires-2
     loop-holds
-    set-up-requires
+    set-up-or-release-requires
     with-verdict-requires
-    release-requires
-    with-verdict-requires-2
+    after-requires
     add-number
     loop-less
     loop-again
     verdict-requires
     next-requires
+    after-requires-2
     returns)
