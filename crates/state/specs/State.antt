@@ -16,6 +16,7 @@ use Rattle.ledger.specs.Sessions.{View}
 use Rattle.ledger.specs.Sound.{intact}
 use Rattle.ledger.specs.Calls.{Call, Release, Reply, schedule, freed, refusal, reply, leaves, effect, next}
 use Rattle.ledger.specs.Demand.{fresh}
+use Rattle.table.specs.declared.Table.{Table}
 use Rattle.table.specs.Table.{liveOf}
 use Rattle.state.specs.declared.State.{State}
 use Rattle.state.specs.declared.Quoted.{Quoted}
@@ -26,13 +27,13 @@ use Rattle.state.specs.declared.Released.{Released}
 abbrev pub viewOf : State → View
 viewOf st = record { network = topologyOf (st .network); live = liveOf (st .table) }
 
--- a state without sessions, as it is stored: no place of its table is in use, and each holds 0
+-- a table without sessions: no place is in use, and each holds 0
+abbrev pub emptyTable : Table
+emptyTable = record { live = 0; places = replicate 96 record { number = 0; hops = 0; route = firsts 8 [] 0; held = heldPlaces noHolding } }
+
+-- a state without sessions, as it is stored
 abbrev pub freshState : Network → State
-freshState net =
-    record {
-      network = net;
-      table = record { live = 0; places = replicate 96 record { number = 0; hops = 0; route = firsts 8 [] 0; held = heldPlaces noHolding } };
-    }
+freshState net = record { network = net; table = emptyTable }
 
 -- A STATE WITHOUT SESSIONS SHOWS A FRESH NETWORK
 abbrev pub FreshShown : Type 0

@@ -10,22 +10,21 @@ use table::Place;
 use table::Table;
 ghost use mathlib.Core.Path.{_≡_};
 ghost use mathlib.Core.Bool.{true};
-ghost use mathlib.Core.List.{List, []};
+ghost use mathlib.Core.List.{List};
 ghost use Prim.Native.Nat.{ℕ, _≤_};
 ghost use lib.Dec.{leb};
-ghost use lib.ListN.{length, replicate};
-ghost use Rattle.places.specs.Places.{firsts};
+ghost use lib.ListN.{length};
 ghost use Rattle.refusals.specs.Refusals.{given, pass, ruling};
 ghost use Rattle.network.specs.Network.{Topology, topologyOf};
 ghost use Rattle.network.specs.Checks.{networkCheck};
-ghost use Rattle.ledger.specs.Held.{noHolding, holdingOf, heldPlaces};
+ghost use Rattle.ledger.specs.Held.{holdingOf};
 ghost use Rattle.ledger.specs.Sessions.{Session, isLive, hopsOf};
 ghost use Rattle.ledger.specs.Routes.{routeCheck};
 ghost use Rattle.ledger.specs.Sound.{intact};
 ghost use Rattle.ledger.specs.Calls.{SetUp, Quote, answerOver, callCheck, reply};
 ghost use Rattle.table.specs.Table.{sessionOf, liveOf};
 ghost use Rattle.table.specs.Inner.{AllWithin};
-ghost use Rattle.state.specs.State.{viewOf, freshState, notQuoted, Quotes, Serves, Releases};
+ghost use Rattle.state.specs.State.{viewOf, emptyTable, freshState, notQuoted, Quotes, Serves, Releases};
 ghost use Rattle.state.specs.Inner.{Searched};
 
 // The stored state: a network and its live sessions.
@@ -56,7 +55,7 @@ pub struct Released {
 
 // A table without sessions.
 fn no_sessions() -> Table
-    ensures { λ r. ⌜ r ≡ record { live = 0; places = replicate 96 record { number = 0; hops = 0; route = firsts 8 [] 0; held = heldPlaces noHolding } } ⌝ }
+    ensures { λ r. ⌜ r ≡ emptyTable ⌝ }
 {
     let held = table::nothing_held();
     let none = Place {
