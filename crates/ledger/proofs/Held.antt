@@ -1,4 +1,4 @@
--- What a schedule holds, field by field: the one file of proofs that goes by its fields and by what a node is. Assumes nothing.
+-- What a schedule holds, field by field, and that a node is a frame: no other file unfolds what is held over hops. Assumes nothing.
 use mathlib.Core.Path.{_≡_, refl, sym, ap, ap₂, _∙_}
 use mathlib.Core.Bool.{Bool, true, _&&_}
 use mathlib.Core.List.{List, [], _∷_}

@@ -96,8 +96,8 @@ pub record Agree (st other : State) : Type 0 where
       → map callOf steps ≡ map callOf others → (steps ≡ others) × (viewOf last ≡ viewOf end)
 
 -- WHAT THE RULES LEAVE FREE IS FREE: "the inner arrangement of stored sessions, which is free so long as lookup and later answers agree". Free are the places
--- of the table past its live sessions and the places of a stored session past its hops; the order of the sessions is not, it is that of set-up. States that
--- differ in these alone show the same, and agree
+-- of the table past its live sessions and the places of a stored session past its hops; the order of the sessions is not, it is that of set-up. `viewOf`
+-- has none of these, and states that show the same agree
 abbrev pub ArrangementFree : Type 0
 ArrangementFree = (st other : State) → viewOf st ≡ viewOf other → Agree st other
 
@@ -110,7 +110,7 @@ StoredQuoteDepends = (st other : State) (route : List ℕ) (r q : Served) → Se
     → hopsOf (viewOf st .network) (viewOf st .live) route ≡ hopsOf (viewOf other .network) (viewOf other .live) route
     → r .answer ≡ q .answer
 
--- what a release of session n frees: a frame is held after it exactly when it was held before and isn't one of the session that lookup showed
+-- what a release frees: a frame is held after it exactly when it was held before and isn't one of the session that lookup showed
 pub record FreesShown (st after : State) (q : Looked) : Type 0 where
   pub session : Session
   pub shown : q .shown ≡ shownOf session

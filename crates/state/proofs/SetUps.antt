@@ -84,6 +84,9 @@ stored-route number route eight held e few =
 abbrev pub inEight : Finding → Delay → Held
 inEight f d = record { frames = f .frames; delay = d }
 
+abbrev pub foundQuoted : Finding → Delay → Quoted
+foundQuoted f d = record { verdict = verdict.Passed; count = f .count; held = inEight f d }
+
 module _ (net : Topology) (ss : List Session) (route : List ℕ) (f : Finding) (s : Searched net ss route f) where
   told : (x : Found) → f .found ≡ x → routeAnswer (net .ticks) (hopsOf net ss route) ≡ reading (length route) x (f .count) (f .frames)
   told x e = sym (s .answer) ∙ ap (λ (y : Found). reading (length route) y (f .count) (f .frames)) e
@@ -109,10 +112,10 @@ module _ (net : Topology) (ss : List Session) (route : List ℕ) (f : Finding) (
         places-over (hopsOf net ss route) d (firsts (length route) (f .frames) 0) (f .frames)
         (s .places ∙ ap (λ (a : trellis.Answer). firsts 8 (nodesOf a) 0) (told (result.Schedule d) e))
 
-    pub quotes-found : Quotes (answerOver (net .ticks) (hopsOf net ss route)) (record { verdict = verdict.Passed; count = f .count; held = inEight f d })
-    quotes-found =
-        subst (λ (x : Reply). Quotes x (record { verdict = verdict.Passed; count = f .count; held = inEight f d })) (sym held-found)
-        (ap (λ (h : Held). record { verdict = verdict.Passed; count = f .count; held = h }) found-places)
+    pub quotes-found : (q : Quoted) → q ≡ foundQuoted f d → Quotes (answerOver (net .ticks) (hopsOf net ss route)) q
+    quotes-found q e =
+        subst (λ (x : Reply). Quotes x q) (sym held-found)
+        (e ∙ ap (λ (h : Held). record { verdict = verdict.Passed; count = f .count; held = h }) found-places)
 
 module _ (st : State) (ok : intact (viewOf st) ≡ true) where
   -- ---- a refusal by a check: it has no count, and leaves the very same state
@@ -162,30 +165,27 @@ module _ (st : State) (ok : intact (viewOf st) ≡ true) where
           }
 
       -- the frames are held
-      module _ (d : Delay) (e : f .found ≡ result.Schedule d) (place : Place)
-          (ep : sessionOf place ≡ record { number = n; route = route; held = holdingOf (length route) (inEight f d) }) (table : Table)
+      module _ (d : Delay) (e : f .found ≡ result.Schedule d) (q : Quoted) (eq : q ≡ foundQuoted f d) (place : Place)
+          (ep : sessionOf place ≡ record { number = n; route = route; held = holdingOf (length route) (q .held) }) (table : Table)
           (et : liveOf table ≡ ss ++ (sessionOf place ∷ [])) where
         accepted : reply (viewOf st) (SetUp n route) ≡ schedule (foundHeld net ss route f s d e) (f .count)
         accepted = set-up-granted ∙ held-found net ss route f s d e
 
         -- what is stored reads as what is held
-        stored : holdingOf (length route) (inEight f d) ≡ foundHeld net ss route f s d e
+        stored : holdingOf (length route) (q .held) ≡ foundHeld net ss route f s d e
         stored =
-            ap (holdingOf (length route)) (found-places net ss route f s d e)
+            ap (λ (x : Quoted). holdingOf (length route) (x .held)) eq
+            ∙ ap (holdingOf (length route)) (found-places net ss route f s d e)
             ∙ scheduled-back (viewOf st) route (foundHeld net ss route f s d e) (scheduled (viewOf st) (SetUp n route) (foundHeld net ss route f s d e) (f .count) accepted)
             (route-long (topologyOf (st .network)) route (admitted (topologyOf (st .network)) (liveOf (st .table)) n route passed .passed) .1)
 
         enters-moves : (u : Session) (X : Type 0) → enters u ≡ leaves → X
         enters-moves u X q = let z : _≡_ {A = ℕ} 0 1 = cc in absurd (omega arith)
 
-        pub set-up-held : Serves st (SetUp n route) (record {
-          answer = record { verdict = verdict.Passed; count = f .count; held = inEight f d };
-          state = record { network = st .network; table = table };
-        })
+        pub set-up-held : Serves st (SetUp n route) (record { answer = q; state = record { network = st .network; table = table } })
         set-up-held =
             record {
-              answer = subst (λ (x : Reply). Quotes x (record { verdict = verdict.Passed; count = f .count; held = inEight f d })) (sym set-up-granted)
-                  (quotes-found net ss route f s d e);
+              answer = subst (λ (x : Reply). Quotes x q) (sym set-up-granted) (quotes-found net ss route f s d e q eq);
               after = moves st (SetUp n route) (enters record { number = n; route = route; held = foundHeld net ss route f s d e }) (ap (effect (SetUp n route)) accepted) (enters-moves _) table
                   (et ∙ ap (λ (u : Session). ss ++ (u ∷ [])) (ep ∙ ap (λ (h : Holding). record { number = n; route = route; held = h }) stored));
             }

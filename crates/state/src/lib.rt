@@ -1,5 +1,6 @@
 // The stored state, and the calls of the program on a state that isn't broken: check 0 has passed, which is what each call's `requires` asks.
 // The crate `sessions` offers these calls on every state, and those that the program doesn't make.
+use forwarding::Delay;
 use forwarding::Held;
 use network::Network;
 use refusals::Refusal;
@@ -15,6 +16,7 @@ ghost use Prim.Native.Nat.{ℕ, _≤_};
 ghost use lib.Dec.{leb};
 ghost use lib.ListN.{length};
 ghost use Rattle.refusals.specs.Refusals.{given, pass, ruling};
+ghost use Rattle.refusals.specs.declared.Verdict.the-variants.{Passed};
 ghost use Rattle.network.specs.Network.{Topology, topologyOf};
 ghost use Rattle.network.specs.Checks.{networkCheck};
 ghost use Rattle.ledger.specs.Held.{holdingOf};
@@ -103,6 +105,19 @@ fn least(network: Network, table: Table, route: &[u8]) -> Finding
     search::search(network.ticks, hops, route.len())
 }
 
+// The answer that gives the schedule that a search found, with this delay: the one place where what is held is made.
+fn scheduled(finding: Finding, delay: Delay) -> Quoted
+    ensures { λ r. ⌜ r ≡ record { verdict = Passed; count = finding .count; held = record { frames = finding .frames; delay = delay } } ⌝ }
+{
+    let frames = finding.frames;
+    let held = Held { frames, delay };
+    Quoted {
+        verdict: Verdict::Passed,
+        count: finding.count,
+        held,
+    }
+}
+
 // The answer that gives what a search found: 18 where no schedule exists.
 fn answer_of(finding: Finding) -> Quoted
     ensures { λ r. ⌜ ((net : Topology) (ss : List Session) (links : List ℕ) → Searched net ss links finding → Quotes (answerOver (net .ticks) (hopsOf net ss links)) r) ⌝ }
@@ -111,13 +126,7 @@ fn answer_of(finding: Finding) -> Quoted
     let Found::Schedule(delay) = found else {
         return refused(Refusal::NoSchedule(finding.count));
     };
-    let frames = finding.frames;
-    let held = Held { frames, delay };
-    Quoted {
-        verdict: Verdict::Passed,
-        count: finding.count,
-        held,
-    }
+    scheduled(finding, delay)
 }
 
 // Quote: the least-delay schedule over the route in the frames now free.
@@ -203,13 +212,8 @@ pub fn set_up(st: State, number: u16, route: &[u8]) -> Served
             state: st,
         };
     };
-    let frames = finding.frames;
-    let held = Held { frames, delay };
-    let answer = Quoted {
-        verdict: Verdict::Passed,
-        count: finding.count,
-        held,
-    };
+    let answer = scheduled(finding, delay);
+    let held = answer.held;
     let place = new_place(number, route, held);
     let after = State {
         network,

@@ -189,7 +189,7 @@ pub fn number_twice(table: Table) -> bool
     false
 }
 
-// A route in eight places, the others 0.
+// A route, or the frames of its hops, in eight places, the others 0.
 pub fn in_eight(route: &[u8]) -> [u8; 8]
     requires { ⌜ length (now route) ≤ 8 ⌝ }
     ensures { λ r. ⌜ r ≡ firsts 8 (now (route .entry)) 0 ⌝ }

@@ -16,10 +16,13 @@ refused-requires c κs = search needs
 returns : tie.Need-returns
 returns c = λ net ss links s. quotes-blocked net ss links _ s (c .before .enum-told .given .1) _ (c .refused .ensures)
 
+scheduled-requires : tie.Need-scheduled-requires
+scheduled-requires c κs = search needs
+
 returns-2 : tie.Need-returns-2
-returns-2 c = λ net ss links s. quotes-found net ss links _ s _ (c .before .before .found .given .1)
+returns-2 c = λ net ss links s. quotes-found net ss links _ s _ (c .before .before .found .given .1) _ (c .scheduled .ensures)
 
 pub answer-of-spec : {M : Type 1} → statement M
 answer-of-spec =
     tie.close
-    (tie.spec enum-known-found enum-told refused-requires returns returns-2)
+    (tie.spec enum-known-found enum-told refused-requires returns scheduled-requires returns-2)

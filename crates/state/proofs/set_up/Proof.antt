@@ -45,16 +45,19 @@ returns-2 : tie.Need-returns-2
 returns-2 c = let start = c .before .before .before .before .before .before .before .before .before .before in
     set-up-blocked (start .args .st) (start .pre) _ _ (sym (c .before .before .before .before .before .before .check-set-up .ensures) ∙ ap ruling (c .before .before .before .before .enum-told .given .1)) _ (c .before .before .before .least .ensures) (c .before .enum-told2 .given .1) _ (c .refused2 .ensures)
 
+scheduled-requires : tie.Need-scheduled-requires
+scheduled-requires c κs = search needs
+
 new-place-requires : tie.Need-new-place-requires
-new-place-requires c κs = route-long _ _ (admitted _ _ _ _ (sym (c .before .before .before .before .before .before .before .check-set-up .ensures) ∙ ap ruling (c .before .before .before .before .before .enum-told .given .1)) .passed) .1
+new-place-requires c κs = route-long _ _ (admitted _ _ _ _ (sym (c .before .before .before .before .before .before .before .before .check-set-up .ensures) ∙ ap ruling (c .before .before .before .before .before .before .enum-told .given .1)) .passed) .1
 
 with-place-requires : tie.Need-with-place-requires
-with-place-requires c κs = let start = c .before .before .before .before .before .before .before .before .before .before .before .before in
-    room-left (start .args .st .table) (admitted _ _ _ _ (sym (c .before .before .before .before .before .before .before .before .check-set-up .ensures) ∙ ap ruling (c .before .before .before .before .before .before .enum-told .given .1)) .room)
+with-place-requires c κs = let start = c .before .before .before .before .before .before .before .before .before .before .before .before .before in
+    room-left (start .args .st .table) (admitted _ _ _ _ (sym (c .before .before .before .before .before .before .before .before .before .check-set-up .ensures) ∙ ap ruling (c .before .before .before .before .before .before .before .enum-told .given .1)) .room)
 
 returns-3 : tie.Need-returns-3
-returns-3 c = let start = c .before .before .before .before .before .before .before .before .before .before .before .before .before in
-    set-up-held (start .args .st) (start .pre) _ _ (sym (c .before .before .before .before .before .before .before .before .before .check-set-up .ensures) ∙ ap ruling (c .before .before .before .before .before .before .before .enum-told .given .1)) _ (c .before .before .before .before .before .before .least .ensures) _ (c .before .before .before .before .found .given .1) _ (c .before .new-place .ensures) _ (c .with-place .ensures)
+returns-3 c = let start = c .before .before .before .before .before .before .before .before .before .before .before .before .before .before in
+    set-up-held (start .args .st) (start .pre) _ _ (sym (c .before .before .before .before .before .before .before .before .before .before .check-set-up .ensures) ∙ ap ruling (c .before .before .before .before .before .before .before .before .enum-told .given .1)) _ (c .before .before .before .before .before .before .before .least .ensures) _ (c .before .before .before .before .before .found .given .1) _ (c .before .before .before .scheduled .ensures) _ (c .before .new-place .ensures) _ (c .with-place .ensures)
 
 pub set-up-spec : {M : Type 1} → statement M
 set-up-spec =
@@ -70,6 +73,7 @@ set-up-spec =
     enum-told-2
     refused-requires-2
     returns-2
+    scheduled-requires
     new-place-requires
     with-place-requires
     returns-3)
