@@ -1,129 +1,37 @@
--- What a record says, case by case; where it lies. Assumes nothing.
-use mathlib.Core.Path.{_≡_, refl, ap, _∙_}
+-- The record that the reader finds, case by case, and where it lies. Assumes nothing.
+use mathlib.Core.Path.{_≡_, refl, sym, ap, _∙_}
 use mathlib.Core.Bool.{Bool, true, false, cond}
 use mathlib.Core.List.{List}
-use mathlib.Core.Logic.{_⊎_, inl, inr}
 use Prim.Native.Nat.{ℕ, zero, suc, _+_, _-_, _≤_, _<_}
 use native.Mathlib.Nat.{not-suc-le-zero, le-of-suc-le-suc}
 use native.Mathlib.Omega.{arith}
 use lib.ListN.{length, getD, take, drop, List·getD-eq-default}
 use lib.Seq.{getD-drop}
 use lib.Dec.{eqb, ltb}
-use borrow.Author.Tests.{lt-ltb, le-ltb, ltb-false, ne-eqb}
+use borrow.Author.Tests.{lt-ltb, le-ltb, ltb-false, eqb-true, ne-eqb}
 use Rattle.numbers.specs.Numbers.{numberIn, IsBytes}
 use Rattle.numbers.proofs.Laws.{number-bound}
 use Rattle.places.proofs.Parts.{part-rest}
-use Rattle.call_records.specs.declared.Kind.the-variants.{SetUp, Quote, Release, Unreadable}
-use Rattle.call_records.specs.declared.Form.{Form}
+use Rattle.call_records.specs.declared.Kind.{Kind}
+use Rattle.call_records.specs.declared.Kind.the-variants.{SetUp, Quote, Release}
 use Rattle.call_records.specs.declared.Record.{Record}
-use Rattle.call_records.specs.Records.{noForm, formOf, headOf, linksIn, numberOf, endOf, noRecord, recordAs, readRecord, routeIn, InBytes}
+use Rattle.call_records.specs.Inner.{noRecord, recordWithin, routedRecord, readRecord, routeIn, InBytes}
 
--- ---- the layout of a kind
-module _ (kind : ℕ) where
-  pub first-form : kind ≡ 1 → record { kind = SetUp; width = 2; routed = true } ≡ formOf kind
-  unfolding formOf
-  first-form e = rw e
+-- a byte past the end counts as 0
+pub links-past : (s : List ℕ) (at : ℕ) → length s ≤ at → (0 ≡ getD s at 0) × (0 < 256)
+links-past s at h = (sym (List·getD-eq-default s 0 h), omega arith)
 
-  pub second-form : kind ≡ 2 → record { kind = Quote; width = 0; routed = true } ≡ formOf kind
-  unfolding formOf
-  second-form e = rw e
+-- ---- a record of a kind
+module _ (kind : Kind) (width start end : ℕ) (s : List ℕ) where
+  pub past-end : length s < end → (r : Record) → r ≡ noRecord (length s) → r ≡ recordWithin kind width start end s
+  unfolding recordWithin
+  past-end h r e = e ∙ rw (lt-ltb (length s) end h)
 
-  pub third-form : kind ≡ 3 → record { kind = Release; width = 2; routed = false } ≡ formOf kind
-  unfolding formOf
-  third-form e = rw e
+  pub whole : end ≤ length s → (x : ℕ) → x ≡ numberIn width (take (length s - 1) (drop 1 s)) → record { kind = kind; number = x; start = start; end = end } ≡ recordWithin kind width start end s
+  unfolding recordWithin
+  whole h x e = rw (le-ltb (length s) end h, e, part-rest 1 s)
 
-  pub other-form : (kind ≡ 1 → ⊥) → (kind ≡ 2 → ⊥) → (kind ≡ 3 → ⊥) → noForm ≡ formOf kind
-  unfolding formOf
-  other-form a b c = rw (ne-eqb kind 1 a, ne-eqb kind 2 b, ne-eqb kind 3 c)
-
-  by-forms : (p q r : Bool) → (cond p (record { kind = SetUp; width = 2; routed = true }) (cond q (record { kind = Quote; width = 0; routed = true }) (cond r (record { kind = Release; width = 2; routed = false }) noForm))) .width ≤ 2
-  by-forms true q r = omega arith
-  by-forms false true r = omega arith
-  by-forms false false true = omega arith
-  by-forms false false false = omega arith
-
-  narrow : formOf kind .width ≤ 2
-  unfolding formOf
-  narrow = by-forms (eqb kind 1) (eqb kind 2) (eqb kind 3)
-
-  -- a number of a record takes two bytes at most
-  pub form-narrow : (f : Form) → f ≡ formOf kind → f .width ≤ 2
-  form-narrow f e = rw e narrow
-
--- ---- the bytes before a route, and its length
-pub routed-head : (w : ℕ) (b : Bool) → b ≡ true → 2 + w ≡ headOf w b
-unfolding headOf
-routed-head w b e = rw e
-
-pub plain-head : (w : ℕ) (b : Bool) → b ≡ false → 1 + w ≡ headOf w b
-unfolding headOf
-plain-head w b e = rw e
-
-head-least : (w : ℕ) (b : Bool) → 1 + w ≤ headOf w b
-unfolding headOf
-head-least w true = omega arith
-head-least w false = omega arith
-
-head-most : (w : ℕ) (b : Bool) → headOf w b ≤ 2 + w
-unfolding headOf
-head-most w true = omega arith
-head-most w false = omega arith
-
-pub plain-links : (w : ℕ) (b : Bool) (s : List ℕ) → b ≡ false → (0 ≡ linksIn w b s) × (0 < 256)
-unfolding linksIn
-plain-links w b s e = (rw e, omega arith)
-
-pub links-past : (w : ℕ) (b : Bool) (s : List ℕ) → b ≡ true → length s ≤ 1 + w → (0 ≡ linksIn w b s) × (0 < 256)
-unfolding linksIn
-links-past w b s e h = (rw (e, List·getD-eq-default s 0 h), omega arith)
-
-pub links-there : (w x : ℕ) (b : Bool) (s : List ℕ) → b ≡ true → x ≡ getD s (1 + w) 0 → x < 256 → (x ≡ linksIn w b s) × (x < 256)
-unfolding linksIn
-links-there w x b s e q h = (q ∙ rw e, h)
-
--- ---- the number
-pub number-read : (w x : ℕ) (s : List ℕ) → x ≡ numberIn w (take (length s - 1) (drop 1 s)) → x ≡ numberOf w s
-unfolding numberOf
-number-read w x s e = e ∙ ap (numberIn w) (part-rest 1 s)
-
--- ---- a record
-module _ (s : List ℕ) (f : Form) (start links : ℕ) (is : f ≡ formOf (getD s 0 0)) (before : start ≡ headOf (f .width) (f .routed)) (after : links ≡ linksIn (f .width) (f .routed) s) where
-  end-is : start + links ≡ endOf f s
-  unfolding endOf
-  end-is = rw (before, after)
-
-  pub end-small : links < 256 → start + links ≤ 259
-  end-small h = omega (arith, before, head-most (f .width) (f .routed), form-narrow (getD s 0 0) f is)
-
-  pub number-there : start + links ≤ length s → (f .width ≤ 2) × (1 + f .width ≤ length s)
-  number-there h = (form-narrow (getD s 0 0) f is, omega (arith, before, head-least (f .width) (f .routed)))
-
-  pub past-end : length s < start + links → (r : Record) → r ≡ noRecord → r ≡ readRecord s
-  unfolding readRecord recordAs
-  past-end h r e = e ∙ rw (← is, ← end-is, lt-ltb (length s) (start + links) h)
-
-  pub whole : start + links ≤ length s → (x : ℕ) → x ≡ numberOf (f .width) s → record { kind = f .kind; number = x; start = start; end = start + links } ≡ readRecord s
-  unfolding readRecord recordAs
-  whole h x e = rw (← is, ← end-is, le-ltb (length s) (start + links) h, ← before, e)
-
-pub none-left : (s : List ℕ) → length s ≡ 0 → (r : Record) → r ≡ noRecord → r ≡ readRecord s
-unfolding readRecord recordAs endOf formOf headOf linksIn
-none-left s h r e =
-    let l : length s ≤ 0 = omega arith in
-    let z : getD s 0 0 ≡ 0 = List·getD-eq-default s 0 l in
-    e ∙ rw (z, h)
-
--- ---- where a record lies
-lies : (f : Form) (s : List ℕ) (b : Bool) → ltb (length s) (endOf f s) ≡ b → InBytes (cond b noRecord (record { kind = f .kind; number = numberOf (f .width) s; start = headOf (f .width) (f .routed); end = endOf f s })) (length s)
-unfolding endOf
-lies f s true e = record { ordered = omega arith; within = omega arith }
-lies f s false e = record { ordered = omega arith; within = ltb-false (length s) (endOf f s) e }
-
-pub in-bytes : (s : List ℕ) → InBytes (readRecord s) (length s)
-unfolding readRecord recordAs
-in-bytes s = let f = formOf (getD s 0 0) in lies f s (ltb (length s) (endOf f s)) refl
-
--- the number of a record fits 16 bits
+-- its number fits 16 bits
 narrow-number : (w : ℕ) (s : List ℕ) → IsBytes s → w ≤ 2 → numberIn w s < 65536
 narrow-number zero s b h = omega (arith, number-bound 0 s b)
 narrow-number (suc zero) s b h = omega (arith, number-bound 1 s b)
@@ -133,19 +41,71 @@ narrow-number (suc (suc (suc w))) s b h = absurd (not-suc-le-zero (le-of-suc-le-
 pub number-small : (w : ℕ) (s : List ℕ) → IsBytes s → w ≤ 2 → (x : ℕ) → x ≡ numberIn w (take (length s - 1) (drop 1 s)) → x < 65536
 number-small w s b h x e = rw (e, part-rest 1 s) (narrow-number w (drop 1 s) (λ i. rw (getD-drop 1 s i 0) (b (1 + i))) h)
 
+pub routed : (kind : Kind) (width links : ℕ) (s : List ℕ) → links ≡ getD s (1 + width) 0 → (r : Record) → r ≡ recordWithin kind width (2 + width) (2 + width + links) s → r ≡ routedRecord kind width s
+unfolding routedRecord
+routed kind width links s e r q = q ∙ rw e
+
+-- ---- the record at the start of s, by its kind
+module _ (s : List ℕ) (r : Record) where
+  pub none-left : length s ≡ 0 → r ≡ noRecord 0 → r ≡ readRecord s
+  unfolding readRecord
+  none-left h e =
+      let z : getD s 0 0 ≡ 0 = List·getD-eq-default s 0 (omega arith) in
+      e ∙ rw (z, h)
+
+  pub set-up-read : getD s 0 0 ≡ 1 → r ≡ routedRecord SetUp 2 s → r ≡ readRecord s
+  unfolding readRecord
+  set-up-read k e = e ∙ rw k
+
+  pub quote-read : getD s 0 0 ≡ 2 → r ≡ routedRecord Quote 0 s → r ≡ readRecord s
+  unfolding readRecord
+  quote-read k e = e ∙ rw k
+
+  pub release-read : getD s 0 0 ≡ 3 → r ≡ recordWithin Release 2 3 3 s → r ≡ readRecord s
+  unfolding readRecord
+  release-read k e = e ∙ rw k
+
+  pub none-read : (getD s 0 0 ≡ 1 → ⊥) → (getD s 0 0 ≡ 2 → ⊥) → (getD s 0 0 ≡ 3 → ⊥) → r ≡ noRecord (length s) → r ≡ readRecord s
+  unfolding readRecord
+  none-read a b c e = e ∙ rw (ne-eqb (getD s 0 0) 1 a, ne-eqb (getD s 0 0) 2 b, ne-eqb (getD s 0 0) 3 c)
+
 -- the route is the part between
 pub route-part : (r : Record) (s : List ℕ) → take (r .end - r .start) (drop (r .start) s) ≡ routeIn r s
 unfolding routeIn
 route-part r s = refl
 
--- a record that can be read has a byte at least
-used-by : (f : Form) (s : List ℕ) (b : Bool) → (r : Record) → r ≡ cond b noRecord (record { kind = f .kind; number = numberOf (f .width) s; start = headOf (f .width) (f .routed); end = endOf f s }) → (r .kind ≡ Unreadable) ⊎ (1 ≤ r .end)
-unfolding endOf
-used-by f s true r e = inl (ap (λ (x : Record). x .kind) e)
-used-by f s false r e =
-    let n : r .end ≡ headOf (f .width) (f .routed) + linksIn (f .width) (f .routed) s = ap (λ (x : Record). x .end) e in
-    inr (omega (arith, n, head-least (f .width) (f .routed)))
+-- ---- where a record lies: within the bytes, and it takes one at least where there is one
+record Lies (r : Record) (n : ℕ) : Type 0 where
+  lies : InBytes r n
+  some : 0 < n → 1 ≤ r .end
 
-pub some-byte : (s : List ℕ) → (readRecord s .kind ≡ Unreadable) ⊎ (1 ≤ readRecord s .end)
-unfolding readRecord recordAs
-some-byte s = let f = formOf (getD s 0 0) in used-by f s (ltb (length s) (endOf f s)) (readRecord s) refl
+none-lies : (n : ℕ) → Lies (noRecord n) n
+none-lies n = record { lies = record { ordered = omega arith; within = omega arith }; some = λ (h : 0 < n). h }
+
+within-lies : (kind : Kind) (width start end : ℕ) (s : List ℕ) → start ≤ end → 1 ≤ start → Lies (recordWithin kind width start end s) (length s)
+unfolding recordWithin
+within-lies kind width start end s h k = go (ltb (length s) end) refl
+  where
+    go : (b : Bool) → ltb (length s) end ≡ b → Lies (cond b (noRecord (length s)) (record { kind = kind; number = numberIn width (drop 1 s); start = start; end = end })) (length s)
+    go true e = none-lies (length s)
+    go false e = record { lies = record { ordered = h; within = ltb-false (length s) end e }; some = λ (z : 0 < length s). omega arith }
+
+routed-lies : (kind : Kind) (width : ℕ) (s : List ℕ) → Lies (routedRecord kind width s) (length s)
+unfolding routedRecord
+routed-lies kind width s = within-lies kind width (2 + width) (2 + width + getD s (1 + width) 0) s (omega arith) (omega arith)
+
+by-kind : (p q r : Bool) (s : List ℕ) → Lies (cond p (routedRecord SetUp 2 s) (cond q (routedRecord Quote 0 s) (cond r (recordWithin Release 2 3 3 s) (noRecord (length s))))) (length s)
+by-kind true q r s = routed-lies SetUp 2 s
+by-kind false true r s = routed-lies Quote 0 s
+by-kind false false true s = within-lies Release 2 3 3 s (omega arith) (omega arith)
+by-kind false false false s = none-lies (length s)
+
+lies-there : (s : List ℕ) → Lies (readRecord s) (length s)
+unfolding readRecord
+lies-there s = by-kind (eqb (getD s 0 0) 1) (eqb (getD s 0 0) 2) (eqb (getD s 0 0) 3) s
+
+pub in-bytes : (s : List ℕ) → InBytes (readRecord s) (length s)
+in-bytes s = lies-there s .lies
+
+pub some-byte : (s : List ℕ) → 0 < length s → 1 ≤ readRecord s .end
+some-byte s = lies-there s .some

@@ -1,75 +1,75 @@
--- Call records (document 01, "The program frames"), as places in the call bytes and as calls. Assumes nothing.
-use mathlib.Core.Bool.{Bool, true, false, cond}
-use mathlib.Core.List.{List}
-use Prim.Native.Nat.{ℕ, _+_, _-_, _≤_}
-use lib.ListN.{length, getD, take, drop}
+-- Call records (document 01, "The program frames"): what their bytes say. Assumes nothing.
+use mathlib.Core.Path.{_≡_}
+use mathlib.Core.Bool.{cond}
+use mathlib.Core.List.{List, [], _∷_}
+use Prim.Native.Nat.{ℕ, zero, suc, _+_, _*_, _≤_, min}
+use lib.ListN.{length, take, drop}
 use lib.Dec.{eqb, ltb}
 use Rattle.refusals.specs.Refusals.{Outcome, given, refused}
-use Rattle.numbers.specs.Numbers.{numberIn}
-use Rattle.ledger.specs.Calls as calls
-use Rattle.call_records.specs.declared.Kind.{Kind}
-use Rattle.call_records.specs.declared.Kind.the-variants.{SetUp, Quote, Release, Unreadable}
-use Rattle.call_records.specs.declared.Form.{Form}
-use Rattle.call_records.specs.declared.Record.{Record}
+use Rattle.ledger.specs.Calls.{Call, SetUp, Quote, Release}
 
--- 11: "A call record's kind isn't 1 to 3"
-abbrev pub noForm : Form
-noForm = record { kind = Unreadable; width = 0; routed = false }
+-- what the record at the start of some bytes says, and the bytes after it
+pub record Said : Type 0 where
+  pub call : Outcome Call
+  pub rest : List ℕ
 
--- "Kinds: 01 set-up (number in two bytes low first, route length, route); 02 quote (route length, route); 03 release (number)"; a kind that is
--- added later stands here
-unfoldable pub formOf : ℕ → Form
-formOf kind =
-    cond (eqb kind 1) (record { kind = SetUp; width = 2; routed = true })
-    (cond (eqb kind 2) (record { kind = Quote; width = 0; routed = true })
-    (cond (eqb kind 3) (record { kind = Release; width = 2; routed = false })
-    noForm))
+-- 11: "A call record's kind isn't 1 to 3, or the record runs past the end"; it "ends the calls"
+abbrev pub unreadable : Said
+unreadable = record { call = refused 11; rest = [] }
 
--- the bytes before a route: the kind, the number and, where a route follows, its length
-unfoldable pub headOf : ℕ → Bool → ℕ
-headOf width routed = cond routed (2 + width) (1 + width)
+-- "route length, route": n links, and the bytes after them
+unfoldable pub withRoute : (List ℕ → Call) → ℕ → List ℕ → Said
+withRoute call n s = cond (ltb (length s) n) unreadable (record { call = given (call (take n s)); rest = drop n s })
 
--- the route's length, in the byte after the number
-unfoldable pub linksIn : ℕ → Bool → List ℕ → ℕ
-linksIn width routed s = cond routed (getD s (1 + width) 0) 0
+-- "01 set-up (number in two bytes low first, route length, route)", from the number on
+unfoldable pub setUpSaid : List ℕ → Said
+setUpSaid [] = unreadable
+setUpSaid (low ∷ []) = unreadable
+setUpSaid (low ∷ high ∷ []) = unreadable
+setUpSaid (low ∷ high ∷ n ∷ s) = withRoute (SetUp (low + 256 * high)) n s
 
--- "number in two bytes low first", after the kind
-unfoldable pub numberOf : ℕ → List ℕ → ℕ
-numberOf width s = numberIn width (drop 1 s)
+-- "02 quote (route length, route)", from the route's length on
+unfoldable pub quoteSaid : List ℕ → Said
+quoteSaid [] = unreadable
+quoteSaid (n ∷ s) = withRoute Quote n s
 
--- the place after a record of this layout
-unfoldable pub endOf : Form → List ℕ → ℕ
-endOf f s = headOf (f .width) (f .routed) + linksIn (f .width) (f .routed) s
+-- "03 release (number)", from the number on
+unfoldable pub releaseSaid : List ℕ → Said
+releaseSaid [] = unreadable
+releaseSaid (low ∷ []) = unreadable
+releaseSaid (low ∷ high ∷ s) = record { call = given (Release (low + 256 * high)); rest = s }
 
--- 11: "or the record runs past the end"
-abbrev pub noRecord : Record
-noRecord = record { kind = Unreadable; number = 0; start = 0; end = 0 }
+-- WHAT THE RECORD AT THE START OF SOME CALL BYTES SAYS, by its kind; a kind that is added later stands here
+unfoldable pub firstCall : List ℕ → Said
+firstCall [] = unreadable
+firstCall (kind ∷ s) =
+    cond (eqb kind 1) (setUpSaid s)
+    (cond (eqb kind 2) (quoteSaid s)
+    (cond (eqb kind 3) (releaseSaid s)
+    unreadable))
 
--- the record of this layout at the start of s
-unfoldable pub recordAs : Form → List ℕ → Record
-recordAs f s =
-    cond (ltb (length s) (endOf f s)) noRecord
-    (record { kind = f .kind; number = numberOf (f .width) s; start = headOf (f .width) (f .routed); end = endOf f s })
+-- the calls of some call bytes, in their order; f is at least the number of bytes, and only says that the definition ends
+unfoldable pub callsBy : ℕ → List ℕ → List (Outcome Call)
+callsBy zero s = []
+callsBy (suc f) [] = []
+callsBy (suc f) (b ∷ s) = firstCall (b ∷ s) .call ∷ callsBy f (firstCall (b ∷ s) .rest)
 
--- THE RECORD at the start of s; where s is empty its kind counts as 0
-unfoldable pub readRecord : List ℕ → Record
-readRecord s = recordAs (formOf (getD s 0 0)) s
+-- THE CALLS OF SOME CALL BYTES; the last is 11 where a record can't be read
+unfoldable pub callsIn : List ℕ → List (Outcome Call)
+callsIn s = callsBy (length s) s
 
--- "The route is handed back as that part of the call bytes"
-unfoldable pub routeIn : Record → List ℕ → List ℕ
-routeIn r s = take (r .end - r .start) (drop (r .start) s)
+-- NO BYTES ARE NO CALLS
+abbrev pub NoCalls : Type 0
+NoCalls = callsIn [] ≡ []
 
--- the call that a record says, or 11
-abbrev pub callAs : Kind → ℕ → List ℕ → Outcome calls.Call
-callAs SetUp n route = given (calls.SetUp n route)
-callAs Quote n route = given (calls.Quote route)
-callAs Release n route = given (calls.Release n)
-callAs Unreadable n route = refused 11
+-- THE CALLS OF SOME BYTES ARE THE FIRST CALL AND THE CALLS OF THE REST
+abbrev pub FirstThenRest : Type 0
+FirstThenRest = (b : ℕ) (s : List ℕ) → callsIn (b ∷ s) ≡ firstCall (b ∷ s) .call ∷ callsIn (firstCall (b ∷ s) .rest)
 
-abbrev pub callIn : Record → List ℕ → Outcome calls.Call
-callIn r s = callAs (r .kind) (r .number) (routeIn r s)
+-- "the first 65,536 bytes of call records from standard input; what follows them is ignored"
+unfoldable pub counted : List ℕ → List ℕ
+counted s = take 65536 s
 
--- a record that lies within as many bytes
-pub record InBytes (r : Record) (n : ℕ) : Type 0 where
-  pub ordered : r .start ≤ r .end
-  pub within : r .end ≤ n
+-- THE BYTES THAT COUNT are as many of the first as there are, up to 65,536
+abbrev pub CountedPart : Type 0
+CountedPart = (s : List ℕ) (n : ℕ) → n ≡ min (length s) 65536 → (take n s ≡ counted s) × (length (take n s) ≤ 65536)

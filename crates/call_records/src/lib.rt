@@ -1,8 +1,8 @@
 // Call records (document 01, "The program frames"): what the record at the start of some call bytes says, and its route as a part of those bytes.
 ghost use mathlib.Core.Path.{_≡_};
-ghost use Prim.Native.Nat.{_+_, _≤_, _<_};
-ghost use lib.ListN.{length};
-ghost use Rattle.call_records.specs.Records.{formOf, headOf, linksIn, numberOf, noRecord, readRecord, routeIn, InBytes};
+ghost use Prim.Native.Nat.{_+_, _≤_, _<_, min};
+ghost use lib.ListN.{length, getD};
+ghost use Rattle.call_records.specs.Inner.{noRecord, recordWithin, routedRecord, readRecord, routeIn, InBytes};
 
 // Which call a record is for.
 pub enum Kind {
@@ -13,13 +13,6 @@ pub enum Kind {
     Unreadable,
 }
 
-// How the records of a kind are laid out: the kind's byte, the number in so many bytes, and, where a route follows, its length in a byte and the route.
-pub struct Form {
-    pub kind: Kind,
-    pub width: usize,
-    pub routed: bool,
-}
-
 // What a record says: its call, the session's number (0 for a quote), the place after the bytes before its route, and the place after the record.
 pub struct Record {
     pub kind: Kind,
@@ -28,77 +21,62 @@ pub struct Record {
     pub end: usize,
 }
 
-// The layout of a kind's records: 01 set-up, 02 quote, 03 release.
-fn form_of(kind: u8) -> Form
-    ensures { λ r. ⌜ r ≡ formOf kind ⌝ }
+// How many of so many call bytes count: the first 65,536.
+pub fn counted(n: usize) -> usize
+    ensures { λ r. ⌜ r ≡ min n 65536 ⌝ }
 {
-    match kind {
-        1 => Form {
-            kind: Kind::SetUp,
-            width: 2,
-            routed: true,
-        },
-        2 => Form {
-            kind: Kind::Quote,
-            width: 0,
-            routed: true,
-        },
-        3 => Form {
-            kind: Kind::Release,
-            width: 2,
-            routed: false,
-        },
-        _ => Form {
-            kind: Kind::Unreadable,
-            width: 0,
-            routed: false,
-        },
+    if n < 65536 {
+        return n;
     }
+    65536
 }
 
-// The bytes before a route: the kind, the number and, where a route follows, its length.
-fn head(width: usize, routed: bool) -> usize
-    requires { ⌜ width ≤ 8 ⌝ }
-    ensures { λ r. ⌜ r ≡ headOf width routed ⌝ }
+// The length of a route: the byte at its place. A byte past the end counts as 0: the record then runs past the end as well.
+fn links(rest: &[u8], at: usize) -> usize
+    ensures { λ r. ⌜ (r ≡ getD (now (rest .entry)) at 0) × (r < 256) ⌝ }
 {
-    if routed {
-        return 2 + width;
-    }
-    1 + width
-}
-
-// The length of a route: the byte after the number. A byte past the end counts as 0: the record then runs past the end as well.
-fn links(rest: &[u8], width: usize, routed: bool) -> usize
-    requires { ⌜ width ≤ 8 ⌝ }
-    ensures { λ r. ⌜ (r ≡ linksIn width routed (now (rest .entry))) × (r < 256) ⌝ }
-{
-    if !routed {
+    if rest.len() <= at {
         return 0;
     }
-    if rest.len() <= 1 + width {
-        return 0;
-    }
-    rest[1 + width] as usize
+    rest[at] as usize
 }
 
-// The number of a record, after its kind.
-fn number(rest: &[u8], width: usize) -> u16
-    requires { ⌜ (width ≤ 2) × (1 + width ≤ length (now rest)) ⌝ }
-    ensures { λ r. ⌜ r ≡ numberOf width (now (rest .entry)) ⌝ }
-{
-    numbers::read_number(&rest[1..], width) as u16
-}
-
-// A record that can't be read.
-fn unreadable() -> Record
-    ensures { λ r. ⌜ r ≡ noRecord ⌝ }
+// A record that can't be read, of so many bytes: it takes all of them, and so ends the calls.
+fn unreadable(bytes: usize) -> Record
+    ensures { λ r. ⌜ r ≡ noRecord bytes ⌝ }
 {
     Record {
         kind: Kind::Unreadable,
         number: 0,
-        start: 0,
-        end: 0,
+        start: bytes,
+        end: bytes,
     }
+}
+
+// A record of a kind, its number in `width` bytes after the kind, which is to end within `rest`.
+fn within(rest: &[u8], kind: Kind, width: usize, start: usize, end: usize) -> Record
+    requires { ⌜ (width ≤ 2) × (1 + width ≤ end) ⌝ }
+    ensures { λ r. ⌜ r ≡ recordWithin kind width start end (now (rest .entry)) ⌝ }
+{
+    if rest.len() < end {
+        return unreadable(rest.len());
+    }
+    Record {
+        kind,
+        number: numbers::read_number(&rest[1..], width) as u16,
+        start,
+        end,
+    }
+}
+
+// A record whose number is followed by a route's length and the route.
+fn with_route(rest: &[u8], kind: Kind, width: usize) -> Record
+    requires { ⌜ width ≤ 2 ⌝ }
+    ensures { λ r. ⌜ r ≡ routedRecord kind width (now (rest .entry)) ⌝ }
+{
+    let start = 2 + width;
+    let end = start + links(rest, 1 + width);
+    within(rest, kind, width, start, end)
 }
 
 // The record at the start of `rest`.
@@ -106,20 +84,14 @@ pub fn read_record(rest: &[u8]) -> Record
     ensures { λ r. ⌜ r ≡ readRecord (now (rest .entry)) ⌝ }
 {
     if rest.len() == 0 {
-        return unreadable();
+        return unreadable(0);
     }
-    let form = form_of(rest[0]);
-    let start = head(form.width, form.routed);
-    let end = start + links(rest, form.width, form.routed);
-    if rest.len() < end {
-        return unreadable();
-    }
-    let kind = form.kind;
-    Record {
-        kind,
-        number: number(rest, form.width),
-        start,
-        end,
+    let kind = rest[0];
+    match kind {
+        1 => with_route(rest, Kind::SetUp, 2),
+        2 => with_route(rest, Kind::Quote, 0),
+        3 => within(rest, Kind::Release, 2, 3, 3),
+        _ => unreadable(rest.len()),
     }
 }
 
