@@ -3,7 +3,6 @@ use mathlib.Core.Path.{_≡_, refl, sym, ap, _∙_}
 use mathlib.Core.List.{List, [], _∷_, _++_, append-assoc}
 use Prim.Native.Nat.{ℕ, _+_, _<_, _≤_}
 use native.Mathlib.Omega.{arith}
-use borrow.Author.Tests.{lt-ltb, le-ltb}
 use lib.ListN.{length, getD, drop, set, length-append}
 use Rattle.places.specs.Put.{putAt}
 use Rattle.places.specs.Places.{firsts}
@@ -26,9 +25,12 @@ use Rattle.records.specs.declared.Field.{Field}
 use Rattle.records.specs.Writing.{recordOf}
 use Rattle.records.specs.Layout.{noField}
 use Rattle.network_file.specs.declared.Written.the-variants.{Length, Refused}
-use Rattle.network_file.specs.Writing.{linkBytes, linksBytes, imageOf, writeNetwork, Writable, Writes}
+use Rattle.network_file.specs.Lent.{Writes}
+use Rattle.network_file.specs.Writing.{linkBytes, linksBytes, imageOf, writeNetwork}
+use Rattle.network_file.specs.Inner.{Writable}
 use Rattle.network_file.specs.Fields.{linkLayout, valuesOf}
 use Rattle.network_file.proofs.Records.{layout-back, values-back}
+use Rattle.network_file.proofs.Lent.{short-written, long-written}
 
 -- ---- a link's record
 pub link-bytes : (l : Link) (fields : List Field) (values : List ℕ) → fields ≡ firsts 8 linkLayout noField → values ≡ firsts 8 (valuesOf l) 0 → recordOf (firsts 3 fields noField) (firsts 3 values 0) ≡ linkBytes l
@@ -103,30 +105,21 @@ module _ (n : Network) (passed : networkCheck (topologyOf n) ≡ given pass) whe
       image-put = three .holds ∙ ap (λ (x : List ℕ). putAt 0 x buffer) (sym image-is) ∙ put-zero image buffer
 
   module _ (buffer : List ℕ) (size : ℕ) (es : size ≡ 3 + length records) where
-    pub short : length buffer < size → (r : Refusal) → refusalNumber r ≡ 20 → Writes (topologyOf n) buffer buffer (Refused r)
+    pub short : length buffer < size → (r : Refusal) → refusalNumber r ≡ 20 → Writes (writeNetwork (topologyOf n) (length buffer)) buffer buffer (Refused r)
     unfolding writeNetwork
-    short h r c =
-        let g : length buffer < length image = omega (arith, image-long) in
-        let e : writeNetwork (topologyOf n) (length buffer) ≡ refused 20 = rw (passed, lt-ltb (length buffer) (length image) g) in
-        record { answer = rw c (sym e); buffer = rw e }
+    short h r c = rw passed (short-written (length image) image buffer (omega (arith, image-long)) r c)
 
     pub enough : size ≤ length buffer → Writable n (length buffer)
     enough h = record { passed = passed; enough = omega (arith, image-long) }
 
-    pub image-written : size ≤ length buffer → (after : List ℕ) → after ≡ image ++ drop (length image) buffer → Writes (topologyOf n) buffer after (Length size)
+    pub image-written : size ≤ length buffer → (after : List ℕ) → after ≡ image ++ drop (length image) buffer → Writes (writeNetwork (topologyOf n) (length buffer)) buffer after (Length size)
     unfolding writeNetwork
-    image-written h after ea =
-        let g : length image ≤ length buffer = omega (arith, image-long) in
-        let q : size ≡ length image = es ∙ sym image-long in
-        let e : writeNetwork (topologyOf n) (length buffer) ≡ given (length image) = rw (passed, le-ltb (length buffer) (length image) g) in
-        record { answer = rw q (sym e); buffer = rw e ea }
+    image-written h after ea = rw passed (long-written (length image) image buffer (omega (arith, image-long)) after size (es ∙ sym image-long) ea)
 
 -- ---- one that did not
-pub check-refused : (n : Network) (v : Verdict) → ruling v ≡ networkCheck (topologyOf n) → (r : Refusal) → v ≡ verdicts.Refused r → (buffer : List ℕ) → Writes (topologyOf n) buffer buffer (Refused r)
+pub check-refused : (n : Network) (v : Verdict) → ruling v ≡ networkCheck (topologyOf n) → (r : Refusal) → v ≡ verdicts.Refused r → (buffer : List ℕ) → Writes (writeNetwork (topologyOf n) (length buffer)) buffer buffer (Refused r)
 unfolding writeNetwork
-check-refused n v ev r e buffer =
-    let z : writeNetwork (topologyOf n) (length buffer) ≡ refused (refusalNumber r) = rw (← ev, e) in
-    record { answer = sym z; buffer = rw z }
+check-refused n v ev r e buffer = rw (← ev, e) record { answer = refl; buffer = refl }
 
 pub check-passed : (n : Network) (v : Verdict) → ruling v ≡ networkCheck (topologyOf n) → v ≡ verdicts.Passed → networkCheck (topologyOf n) ≡ given pass
 check-passed n v ev e = sym ev ∙ ap ruling e

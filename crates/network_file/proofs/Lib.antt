@@ -1,5 +1,6 @@
 pub mod Records
 pub mod Files
+pub mod Lent
 pub mod Images
 pub mod Inverse
 pub mod RoundTrip

@@ -1,6 +1,6 @@
 -- Each network has exactly one file, and the calls that read and write it agree. Assumes nothing.
 use mathlib.Core.Path.{_≡_, refl, sym, ap, subst, _∙_}
-use mathlib.Core.Bool.{false}
+use mathlib.Core.Bool.{Bool, true, false}
 use mathlib.Core.List.{List, [], _∷_, _++_}
 use Prim.Native.Nat.{ℕ, _≤_}
 use native.Mathlib.Omega.{arith}
@@ -13,7 +13,7 @@ use Rattle.refusals.specs.declared.Refusal.{Refusal}
 use Rattle.refusals.specs.declared.Verdict.the-variants.{Passed}
 use Rattle.refusals.specs.declared.Verdict.the-variants as verdicts
 use Rattle.refusals.specs.Refusals.{Outcome, given, refused, pass, Ruling, refuseIf, orElse, refusalNumber, ruling, rulingOf, givenOr}
-use Rattle.refusals.proofs.Refusals.{past, not-given, refused-is, given-is}
+use Rattle.refusals.proofs.Refusals.{not-given, refused-is, given-is}
 use Rattle.numbers.specs.Numbers.{bytesOf, IsBytes}
 use Rattle.numbers.proofs.Trip.{bytes-cons, bytes-none, bytes-append, bytes-of}
 use Rattle.network.specs.declared.Link.{Link}
@@ -25,7 +25,8 @@ use Rattle.records.proofs.OneRecord.{record-bytes}
 use Rattle.network_file.specs.declared.Written.the-variants.{Length, Refused}
 use Rattle.network_file.specs.declared.Loaded.{Loaded}
 use Rattle.network_file.specs.OneFile.{EachNetworkHasOneFile, ReadPasses, ReadStands, WrittenReads, ReadWrites}
-use Rattle.network_file.specs.Writing.{linkBytes, linksBytes, imageOf, writeNetwork, lengthRead, bufferAfter, Writes}
+use Rattle.network_file.specs.Lent.{inRoom, lengthOf, lengthRead, bufferAfter, Writes}
+use Rattle.network_file.specs.Writing.{linkBytes, linksBytes, imageOf, writeNetwork}
 use Rattle.network_file.specs.Fields.{linkLayout, valuesOf}
 use Rattle.network_file.specs.Reading.{readNetwork, stored, storedIn, Reads}
 use Rattle.network_file.specs.declared.Written.{Written}
@@ -77,33 +78,33 @@ record Done (t : Topology) (room size : ℕ) : Type 0 where
   pub enough : length (imageOf t) ≤ room
   pub is : size ≡ length (imageOf t)
 
-done : (t : Topology) (room size : ℕ) → given size ≡ writeNetwork t room → Done t room size
+done : (t : Topology) (room size : ℕ) → given size ≡ lengthOf (writeNetwork t room) → Done t room size
 unfolding writeNetwork
-done t room size e = go (networkCheck t) refl (sym e)
+done t room size e = go (networkCheck t) refl (ltb room (length (imageOf t))) refl (sym e)
   where
-    go : (r : Ruling) → networkCheck t ≡ r → orElse r (orElse (refuseIf (ltb room (length (imageOf t))) 20) (given (length (imageOf t)))) ≡ given size → Done t room size
-    go (refused n) q f = absurd (not-given n size f)
-    go (given pass) q f =
-        let p : (ltb room (length (imageOf t)) ≡ false) × (given (length (imageOf t)) ≡ given size) = past (ltb room (length (imageOf t))) 20 (given (length (imageOf t))) size f in
-        record { passed = q; enough = ltb-false room (length (imageOf t)) (p .0); is = sym (ap (givenOr 0) (p .1)) }
+    go : (r : Ruling) → networkCheck t ≡ r → (b : Bool) → ltb room (length (imageOf t)) ≡ b → lengthOf (orElse r (orElse (refuseIf b 20) (given (imageOf t)))) ≡ given size → Done t room size
+    go (refused n) q b p f = absurd (not-given n size f)
+    go (given pass) q true p f = absurd (not-given 20 size f)
+    go (given pass) q false p f = record { passed = q; enough = ltb-false room (length (imageOf t)) p; is = sym (ap (givenOr 0) f) }
+
+passes : (t : Topology) (room : ℕ) → networkCheck t ≡ given pass → length (imageOf t) ≤ room → writeNetwork t room ≡ given (imageOf t)
+unfolding writeNetwork
+passes t room e h = rw (e, le-ltb room (length (imageOf t)) h)
 
 -- WRITTEN, THEN READ: whatever `write_network` wrote, `read_network` reads as that network
 pub written-reads : WrittenReads
 written-reads n before after size r w d =
     let t : Topology = topologyOf n in
     let k : Done t (length before) size = done t (length before) size (w .answer) in
-    let a : after ≡ imageOf t ++ drop size before = w .buffer ∙ ap (λ (o : Outcome ℕ). bufferAfter t o before) (sym (w .answer)) in
-    let i : take size after ≡ imageOf t = ap (take size) a ∙ take-at (imageOf t) (drop size before) size (sym (k .is)) in
+    let rest : List ℕ = drop (length (imageOf t)) before in
+    let a : after ≡ imageOf t ++ rest = w .buffer ∙ ap (λ (o : Outcome (List ℕ)). bufferAfter o before) (passes t (length before) (k .passed) (k .enough)) in
+    let i : take size after ≡ imageOf t = ap (take size) a ∙ take-at (imageOf t) rest size (sym (k .is)) in
     let e : readNetwork (take size after) ≡ given t = ap readNetwork i ∙ image-reads t (k .passed) in
     (d .verdict ∙ ap rulingOf e, ap topologyOf (d .network ∙ ap storedIn e) ∙ stored-back t (k .passed))
 
 length-is : (w : Written) (n : ℕ) → lengthRead w ≡ given n → w ≡ Length n
 length-is (Length m) n e = ap Length (ap (givenOr 0) e)
 length-is (Refused r) n e = absurd (not-given (refusalNumber r) n e)
-
-passes : (t : Topology) (room : ℕ) → networkCheck t ≡ given pass → length (imageOf t) ≤ room → writeNetwork t room ≡ given (length (imageOf t))
-unfolding writeNetwork
-passes t room e h = rw (e, le-ltb room (length (imageOf t)) h)
 
 -- READ, THEN WRITTEN: whatever `read_network` reads as a network, `write_network` writes as that file
 pub read-writes : ReadWrites
@@ -112,8 +113,8 @@ read-writes file r before after w b d p room x =
     let e : readNetwork file ≡ given t = passed-says file r d p .1 in
     let q : Is file t = file-only file t b e in
     let same : topologyOf (r .network) ≡ t = read-stands file t r b e d in
-    let y : Writes t before after w = subst (λ (z : Topology). Writes z before after w) same x in
+    let y : Writes (writeNetwork t (length before)) before after w = subst (λ (z : Topology). Writes (writeNetwork z (length before)) before after w) same x in
     let fits : length (imageOf t) ≤ length before = omega (arith, ap length (q .image)) in
-    let g : writeNetwork t (length before) ≡ given (length (imageOf t)) = passes t (length before) (q .passed) fits in
-    let a : after ≡ imageOf t ++ drop (length (imageOf t)) before = y .buffer ∙ ap (λ (z : Outcome ℕ). bufferAfter t z before) g in
-    (length-is w (length file) (y .answer ∙ g ∙ ap given (ap length (q .image))), a ∙ ap (λ (z : List ℕ). z ++ drop (length z) before) (q .image))
+    let g : writeNetwork t (length before) ≡ given (imageOf t) = passes t (length before) (q .passed) fits in
+    let a : after ≡ imageOf t ++ drop (length (imageOf t)) before = y .buffer ∙ ap (λ (z : Outcome (List ℕ)). bufferAfter z before) g in
+    (length-is w (length file) (y .answer ∙ ap lengthOf g ∙ ap given (ap length (q .image))), a ∙ ap (λ (z : List ℕ). z ++ drop (length z) before) (q .image))

@@ -1,5 +1,7 @@
 pub mod Fields
 pub mod Reading
+pub mod Lent
 pub mod Writing
 pub mod OneFile
 pub mod Example
+pub mod Inner

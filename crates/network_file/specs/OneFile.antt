@@ -13,7 +13,8 @@ use Rattle.network_file.specs.declared.Loaded.{Loaded}
 use Rattle.network_file.specs.declared.Written.the-variants.{Length}
 use Rattle.network_file.specs.declared.Written.{Written}
 use Rattle.network_file.specs.Reading.{readNetwork, Reads}
-use Rattle.network_file.specs.Writing.{imageOf, Writes}
+use Rattle.network_file.specs.Lent.{Writes}
+use Rattle.network_file.specs.Writing.{imageOf, writeNetwork}
 
 -- a network's image is a file that reads as that network, and every file that reads as it is that image
 pub record OneFile (t : Topology) : Type 0 where
@@ -36,8 +37,8 @@ ReadStands = (s : List ℕ) (t : Topology) (r : Loaded) → IsBytes s → readNe
 
 -- WRITTEN, THEN READ: whatever `write_network` wrote, `read_network` reads as that network
 abbrev pub WrittenReads : Type 0
-WrittenReads = (n : Network) (before after : List ℕ) (size : ℕ) (r : Loaded) → Writes (topologyOf n) before after (Length size) → Reads (readNetwork (take size after)) r → (ruling (r .verdict) ≡ given pass) × (topologyOf (r .network) ≡ topologyOf n)
+WrittenReads = (n : Network) (before after : List ℕ) (size : ℕ) (r : Loaded) → Writes (writeNetwork (topologyOf n) (length before)) before after (Length size) → Reads (readNetwork (take size after)) r → (ruling (r .verdict) ≡ given pass) × (topologyOf (r .network) ≡ topologyOf n)
 
 -- READ, THEN WRITTEN: whatever `read_network` reads as a network, `write_network` writes as that file
 abbrev pub ReadWrites : Type 0
-ReadWrites = (file : List ℕ) (r : Loaded) (before after : List ℕ) (w : Written) → IsBytes file → Reads (readNetwork file) r → r .verdict ≡ Passed → length file ≤ length before → Writes (topologyOf (r .network)) before after w → (w ≡ Length (length file)) × (after ≡ file ++ drop (length file) before)
+ReadWrites = (file : List ℕ) (r : Loaded) (before after : List ℕ) (w : Written) → IsBytes file → Reads (readNetwork file) r → r .verdict ≡ Passed → length file ≤ length before → Writes (writeNetwork (topologyOf (r .network)) (length before)) before after w → (w ≡ Length (length file)) × (after ≡ file ++ drop (length file) before)

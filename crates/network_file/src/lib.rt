@@ -16,7 +16,9 @@ ghost use Rattle.network.specs.Checks.{networkCheck};
 ghost use Rattle.records.specs.Layout.{noField};
 ghost use Rattle.network_file.specs.Fields.{linkLayout, valuesOf, linkOf};
 ghost use Rattle.network_file.specs.Reading.{readLink, readLinks, readNetwork, linkRead, noNetwork, Reads, within};
-ghost use Rattle.network_file.specs.Writing.{linkBytes, linksBytes, imageOf, Writable, Writes};
+ghost use Rattle.network_file.specs.Lent.{Writes};
+ghost use Rattle.network_file.specs.Writing.{linkBytes, linksBytes, imageOf, writeNetwork};
+ghost use Rattle.network_file.specs.Inner.{Writable};
 
 // What a link record says: the link and the length used, or the refusal.
 pub enum LinkRecord {
@@ -249,7 +251,7 @@ fn write_image(network: Network, buffer: &mut [u8])
 // Check 20, then the image, of a network that passed its checks.
 fn write_passed(network: Network, buffer: &mut [u8]) -> Written
     requires { ⌜ networkCheck (topologyOf network) ≡ given pass ⌝ }
-    ensures { λ r. ⌜ Writes (topologyOf network) (now (buffer .entry)) (now (buffer .exit)) r ⌝ }
+    ensures { λ r. ⌜ Writes (writeNetwork (topologyOf network) (length (now (buffer .entry)))) (now (buffer .entry)) (now (buffer .exit)) r ⌝ }
 {
     let links = network.links;
     let length = 3 + links_length(links, network.count);
@@ -263,7 +265,7 @@ fn write_passed(network: Network, buffer: &mut [u8]) -> Written
 // A network's file at the start of a buffer, and its length. A refused call leaves the buffer as it is. A buffer of 355 bytes serves for every
 // network (`image-bound`).
 pub fn write_network(network: Network, buffer: &mut [u8]) -> Written
-    ensures { λ r. ⌜ Writes (topologyOf network) (now (buffer .entry)) (now (buffer .exit)) r ⌝ }
+    ensures { λ r. ⌜ Writes (writeNetwork (topologyOf network) (length (now (buffer .entry)))) (now (buffer .entry)) (now (buffer .exit)) r ⌝ }
 {
     match network::check_network(network) {
         Verdict::Refused(refusal) => Written::Refused(refusal),
