@@ -9,15 +9,16 @@ use Rattle.places.proofs.Firsts.{firsts-take}
 use Rattle.forwarding.specs.declared.Held.{Held}
 use Rattle.ledger.specs.Held.{Holding, holdingOf}
 use Rattle.ledger.specs.Calls.{schedule, freed, refusal}
+use Rattle.text.specs.Characters.{space, newline, okWord, noWord, liveWord, netNoWords}
 use Rattle.text.specs.Digits.{dec, spaced, spacedAll}
 use Rattle.text.specs.Lines.{countText, scheduleText, lineHead, line, liveLine, networkLine}
 use Rattle.text.proofs.Chains.{joined}
 
-pub spaced-is : (n : ℕ) → spaced n ≡ joined ((32 ∷ []) ∷ dec n ∷ [])
+pub spaced-is : (n : ℕ) → spaced n ≡ joined ((space ∷ []) ∷ dec n ∷ [])
 unfolding spaced joined
 spaced-is n = rw (append-nil (dec n))
 
-pub head-is : (place letter : ℕ) → lineHead place letter ≡ joined (dec place ∷ (32 ∷ []) ∷ (letter ∷ []) ∷ [])
+pub head-is : (place letter : ℕ) → lineHead place letter ≡ joined (dec place ∷ (space ∷ []) ∷ (letter ∷ []) ∷ [])
 unfolding lineHead joined
 head-is place letter = refl
 
@@ -44,22 +45,22 @@ unfolding countText
 count-some number count h = rw (eq-eqb number 18 h)
 
 -- ---- the lines
-pub scheduled-is : (place letter : ℕ) (held : Holding) (count : ℕ) → line place letter (schedule held count) ≡ joined (lineHead place letter ∷ (32 ∷ 111 ∷ 107 ∷ []) ∷ scheduleText held count ∷ (10 ∷ []) ∷ [])
+pub scheduled-is : (place letter : ℕ) (held : Holding) (count : ℕ) → line place letter (schedule held count) ≡ joined (lineHead place letter ∷ (space ∷ okWord) ∷ scheduleText held count ∷ (newline ∷ []) ∷ [])
 unfolding line joined
 scheduled-is place letter held count = refl
 
-pub freed-is : (place letter : ℕ) → line place letter freed ≡ joined (lineHead place letter ∷ (32 ∷ 111 ∷ 107 ∷ 10 ∷ []) ∷ [])
+pub freed-is : (place letter : ℕ) → line place letter freed ≡ joined (lineHead place letter ∷ ((space ∷ okWord) ++ (newline ∷ [])) ∷ [])
 unfolding line joined
 freed-is place letter = refl
 
-pub refused-is : (place letter number count : ℕ) → line place letter (refusal number count) ≡ joined (lineHead place letter ∷ (32 ∷ 110 ∷ 111 ∷ []) ∷ (spaced number ++ countText number count) ∷ (10 ∷ []) ∷ [])
+pub refused-is : (place letter number count : ℕ) → line place letter (refusal number count) ≡ joined (lineHead place letter ∷ (space ∷ noWord) ∷ (spaced number ++ countText number count) ∷ (newline ∷ []) ∷ [])
 unfolding line joined
 refused-is place letter number count = refl
 
-pub live-is : (n : ℕ) → liveLine n ≡ joined ((108 ∷ 105 ∷ 118 ∷ 101 ∷ []) ∷ spaced n ∷ (10 ∷ []) ∷ [])
+pub live-is : (n : ℕ) → liveLine n ≡ joined (liveWord ∷ spaced n ∷ (newline ∷ []) ∷ [])
 unfolding liveLine joined
 live-is n = refl
 
-pub network-is : (n : ℕ) → networkLine n ≡ joined ((110 ∷ 101 ∷ 116 ∷ 32 ∷ 110 ∷ 111 ∷ []) ∷ spaced n ∷ (10 ∷ []) ∷ [])
+pub network-is : (n : ℕ) → networkLine n ≡ joined (netNoWords ∷ spaced n ∷ (newline ∷ []) ∷ [])
 unfolding networkLine joined
 network-is n = refl

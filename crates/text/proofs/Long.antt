@@ -11,6 +11,7 @@ use lib.ListN.{length, getD, length-append}
 use lib.Dec.{ltb}
 use Rattle.ledger.specs.Held.{Holding}
 use Rattle.ledger.specs.Calls.{schedule, freed, refusal}
+use Rattle.text.specs.Characters.{space, newline, okWord, noWord, liveWord, netNoWords}
 use Rattle.text.specs.Digits.{dec, spaced, spacedAll}
 use Rattle.text.specs.Lines.{countText, scheduleText, lineHead, line, liveLine, networkLine, ScheduledLong, FreedLong, RefusedLong, BlockedLong, LiveLong, NetworkLong}
 use Rattle.text.proofs.Digits.{dec-small, long-more}
@@ -61,7 +62,7 @@ long-of whole xs e = ap length e ∙ joined-long xs
 head-long : (place letter : ℕ) → place < 100000 → length (lineHead place letter) ≤ 7
 head-long place letter h =
     let l : length (dec place) ≤ 5 = dec-long 4 place h in
-    omega (arith, long-of (lineHead place letter) (dec place ∷ (32 ∷ []) ∷ (letter ∷ []) ∷ []) (head-is place letter))
+    omega (arith, long-of (lineHead place letter) (dec place ∷ (space ∷ []) ∷ (letter ∷ []) ∷ []) (head-is place letter))
 
 schedule-long : (held : Holding) (count : ℕ) → held .delay < 10000 → count < 100000 → ((i : ℕ) → getD (held .frames) i 0 < 100) → length (scheduleText held count) ≤ 11 + 3 * length (held .frames)
 schedule-long held count d c f =
@@ -73,20 +74,20 @@ schedule-long held count d c f =
 pub scheduled-long : ScheduledLong
 scheduled-long place letter held count p d c f = omega (
   arith,
-  long-of (line place letter (schedule held count)) (lineHead place letter ∷ (32 ∷ 111 ∷ 107 ∷ []) ∷ scheduleText held count ∷ (10 ∷ []) ∷ []) (scheduled-is place letter held count),
+  long-of (line place letter (schedule held count)) (lineHead place letter ∷ (space ∷ okWord) ∷ scheduleText held count ∷ (newline ∷ []) ∷ []) (scheduled-is place letter held count),
   head-long place letter p,
   schedule-long held count d c f,
 )
 
 pub freed-long : FreedLong
-freed-long place letter p = omega (arith, long-of (line place letter freed) (lineHead place letter ∷ (32 ∷ 111 ∷ 107 ∷ 10 ∷ []) ∷ []) (freed-is place letter), head-long place letter p)
+freed-long place letter p = omega (arith, long-of (line place letter freed) (lineHead place letter ∷ ((space ∷ okWord) ++ (newline ∷ [])) ∷ []) (freed-is place letter), head-long place letter p)
 
 refusal-long : (place letter number count : ℕ) → place < 100000 → number < 100 → length (line place letter (refusal number count)) ≤ 14 + length (countText number count)
 refusal-long place letter number count p n =
     let l : length (spaced number) ≤ 3 = spaced-long 1 number n in
     omega (
       arith,
-      long-of (line place letter (refusal number count)) (lineHead place letter ∷ (32 ∷ 110 ∷ 111 ∷ []) ∷ (spaced number ++ countText number count) ∷ (10 ∷ []) ∷ []) (refused-is place letter number count),
+      long-of (line place letter (refusal number count)) (lineHead place letter ∷ (space ∷ noWord) ∷ (spaced number ++ countText number count) ∷ (newline ∷ []) ∷ []) (refused-is place letter number count),
       length-append (spaced number) (countText number count),
       head-long place letter p,
     )
@@ -102,9 +103,9 @@ blocked-long place letter count p c =
 pub live-long : LiveLong
 live-long n h =
     let l : length (spaced n) ≤ 3 = spaced-long 1 n h in
-    omega (arith, long-of (liveLine n) ((108 ∷ 105 ∷ 118 ∷ 101 ∷ []) ∷ spaced n ∷ (10 ∷ []) ∷ []) (live-is n))
+    omega (arith, long-of (liveLine n) (liveWord ∷ spaced n ∷ (newline ∷ []) ∷ []) (live-is n))
 
 pub network-long : NetworkLong
 network-long n h =
     let l : length (spaced n) ≤ 3 = spaced-long 1 n h in
-    omega (arith, long-of (networkLine n) ((110 ∷ 101 ∷ 116 ∷ 32 ∷ 110 ∷ 111 ∷ []) ∷ spaced n ∷ (10 ∷ []) ∷ []) (network-is n))
+    omega (arith, long-of (networkLine n) (netNoWords ∷ spaced n ∷ (newline ∷ []) ∷ []) (network-is n))

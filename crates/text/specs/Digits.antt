@@ -6,18 +6,19 @@ use Prim.Native.Nat.{ℕ, zero, suc, _+_, _/_, _%_}
 use lib.ListN.{length}
 use lib.Dec.{ltb}
 use Rattle.places.specs.Put.{putAt}
+use Rattle.text.specs.Characters.{space, digit0}
 
 -- the decimal digits of n ("Numbers are written in decimal"); f is at least n, and only says that the definition ends
 unfoldable pub digitsBy : ℕ → ℕ → List ℕ
-digitsBy zero n = (48 + n) ∷ []
-digitsBy (suc f) n = cond (ltb n 10) ((48 + n) ∷ []) (digitsBy f (n / 10) ++ ((48 + n % 10) ∷ []))
+digitsBy zero n = (digit0 + n) ∷ []
+digitsBy (suc f) n = cond (ltb n 10) ((digit0 + n) ∷ []) (digitsBy f (n / 10) ++ ((digit0 + n % 10) ∷ []))
 
 unfoldable pub dec : ℕ → List ℕ
 dec n = digitsBy n n
 
--- "One space parts the fields": a number after a space
+-- a number after the space that parts it from the field before
 unfoldable pub spaced : ℕ → List ℕ
-spaced n = 32 ∷ dec n
+spaced n = space ∷ dec n
 
 unfoldable pub spacedAll : List ℕ → List ℕ
 spacedAll [] = []

@@ -7,13 +7,14 @@ use lib.ListN.{length, getD}
 use lib.Dec.{eqb}
 use Rattle.ledger.specs.Held.{Holding}
 use Rattle.ledger.specs.Calls.{Call, SetUp, Quote, Release, Reply, schedule, freed, refusal}
+use Rattle.text.specs.Characters.{space, newline, letterS, letterQ, letterR, okWord, noWord, liveWord, netNoWords}
 use Rattle.text.specs.Digits.{dec, spaced, spacedAll}
 
 -- "S, Q or R"
 abbrev pub letterOf : Call → ℕ
-letterOf (SetUp number route) = 83
-letterOf (Quote route) = 81
-letterOf (Release number) = 82
+letterOf (SetUp number route) = letterS
+letterOf (Quote route) = letterQ
+letterOf (Release number) = letterR
 
 -- "for 18 also the count"
 unfoldable pub countText : ℕ → ℕ → List ℕ
@@ -25,25 +26,25 @@ scheduleText held count = spaced (held .delay) ++ (spaced count ++ spacedAll (he
 
 -- "then ok with delay, count and frames (ok alone for R), or no with the refusal, for 18 also the count"
 abbrev pub replyText : Reply → List ℕ
-replyText (schedule held count) = (32 ∷ 111 ∷ 107 ∷ []) ++ scheduleText held count
-replyText freed = 32 ∷ 111 ∷ 107 ∷ []
-replyText (refusal number count) = (32 ∷ 110 ∷ 111 ∷ []) ++ (spaced number ++ countText number count)
+replyText (schedule held count) = (space ∷ okWord) ++ scheduleText held count
+replyText freed = space ∷ okWord
+replyText (refusal number count) = (space ∷ noWord) ++ (spaced number ++ countText number count)
 
 -- "A line has the call's place from 1; S, Q or R"
 unfoldable pub lineHead : ℕ → ℕ → List ℕ
-lineHead place letter = dec place ++ (32 ∷ letter ∷ [])
+lineHead place letter = dec place ++ (space ∷ letter ∷ [])
 
 -- A LINE: its place, its letter and what it answers
 unfoldable pub line : ℕ → ℕ → Reply → List ℕ
-line place letter r = lineHead place letter ++ (replyText r ++ (10 ∷ []))
+line place letter r = lineHead place letter ++ (replyText r ++ (newline ∷ []))
 
 -- "The last line is the word live and the number of live sessions"
 unfoldable pub liveLine : ℕ → List ℕ
-liveLine n = (108 ∷ 105 ∷ 118 ∷ 101 ∷ []) ++ (spaced n ++ (10 ∷ []))
+liveLine n = liveWord ++ (spaced n ++ (newline ∷ []))
 
 -- "A refused net.bin gives the single line "net no" and the number"
 unfoldable pub networkLine : ℕ → List ℕ
-networkLine n = (110 ∷ 101 ∷ 116 ∷ 32 ∷ 110 ∷ 111 ∷ []) ++ (spaced n ++ (10 ∷ []))
+networkLine n = netNoWords ++ (spaced n ++ (newline ∷ []))
 
 -- ---- how long a line is at most, for a place of at most five digits
 -- a schedule: a delay of four digits, a count of five and frames of two
