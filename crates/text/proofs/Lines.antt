@@ -1,6 +1,6 @@
 -- Each text as the pieces that are put for it. Assumes nothing.
 use mathlib.Core.Path.{_≡_, refl}
-use mathlib.Core.List.{[], _∷_, _++_, append-nil}
+use mathlib.Core.List.{List, [], _∷_, _++_, map, append-nil}
 use Prim.Native.Nat.{ℕ, _≤_}
 use native.Mathlib.Omega.{arith}
 use lib.ListN.{length, take}
@@ -11,7 +11,7 @@ use Rattle.ledger.specs.Held.{Holding, holdingOf}
 use Rattle.ledger.specs.Calls.{schedule, freed, refusal}
 use Rattle.text.specs.Characters.{space, newline, okWord, noWord, liveWord, netNoWords}
 use Rattle.text.specs.Digits.{dec, spaced, spacedAll}
-use Rattle.text.specs.Lines.{countText, scheduleText, lineHead, line, liveLine, networkLine}
+use Rattle.text.specs.Lines.{countText, groupsOf, groupsText, scheduleText, lineHead, line, liveLine, networkLine}
 use Rattle.text.proofs.Chains.{joined}
 
 pub spaced-is : (n : ℕ) → spaced n ≡ joined ((space ∷ []) ∷ dec n ∷ [])
@@ -22,9 +22,15 @@ pub head-is : (place letter : ℕ) → lineHead place letter ≡ joined (dec pla
 unfolding lineHead joined
 head-is place letter = refl
 
-pub schedule-is : (held : Holding) (count : ℕ) → scheduleText held count ≡ joined (spaced (held .delay) ∷ spaced count ∷ spacedAll (held .frames) ∷ [])
+-- each group is a piece
+groups-is : (gs : List (List ℕ)) → groupsText gs ≡ joined (map spacedAll gs)
+unfolding groupsText joined
+groups-is [] = refl
+groups-is (g ∷ gs) = rw (groups-is gs)
+
+pub schedule-is : (held : Holding) (count : ℕ) → scheduleText held count ≡ joined (spaced (held .delay) ∷ spaced count ∷ map spacedAll (groupsOf held))
 unfolding scheduleText joined
-schedule-is held count = rw (append-nil (spacedAll (held .frames)))
+schedule-is held count = rw (groups-is (groupsOf held))
 
 -- from eight places, of which the first `hops` are put
 pub stored-is : (hops : ℕ) (held : Held) (count : ℕ) → hops ≤ 8 → length (held .frames) ≡ 8

@@ -2,7 +2,7 @@
 use mathlib.Core.Path.{_≡_, refl, ap, _∙_}
 use mathlib.Core.Bool.{Bool, true, false}
 use mathlib.Core.Logic.{_⊎_, inl, inr, ⊎-elim}
-use mathlib.Core.List.{List, [], _∷_, _++_}
+use mathlib.Core.List.{List, [], _∷_, _++_, map}
 use Prim.Native.Nat.{ℕ, zero, suc, _+_, _*_, _/_, _^_, _≤_, _<_}
 use native.Mathlib.Nat.{pow-suc}
 use native.Mathlib.Omega.{arith}
@@ -13,7 +13,7 @@ use Rattle.ledger.specs.Held.{Holding}
 use Rattle.ledger.specs.Calls.{schedule, freed, refusal}
 use Rattle.text.specs.Characters.{space, newline, okWord, noWord, liveWord, netNoWords}
 use Rattle.text.specs.Digits.{dec, spaced, spacedAll}
-use Rattle.text.specs.Lines.{countText, scheduleText, lineHead, line, liveLine, networkLine, ScheduledLong, FreedLong, RefusedLong, BlockedLong, LiveLong, NetworkLong}
+use Rattle.text.specs.Lines.{countText, groupsOf, scheduleText, lineHead, line, liveLine, networkLine, ScheduledLong, FreedLong, RefusedLong, BlockedLong, LiveLong, NetworkLong}
 use Rattle.text.proofs.Digits.{dec-small, long-more}
 use Rattle.text.proofs.Chains.{joined}
 use Rattle.text.proofs.Lines.{head-is, schedule-is, count-none, count-some, scheduled-is, freed-is, refused-is, live-is, network-is}
@@ -37,13 +37,14 @@ pub spaced-long : (k n : ℕ) → n < 10 ^ suc k → length (spaced n) ≤ suc (
 unfolding spaced
 spaced-long k n h = omega (arith, dec-long k n h)
 
-pub frames-long : (ns : List ℕ) → ((i : ℕ) → getD ns i 0 < 100) → length (spacedAll ns) ≤ 3 * length ns
+-- a group whose numbers have at most two digits
+pub group-long : (ns : List ℕ) → ((i : ℕ) → getD ns i 0 < 100) → length (spacedAll ns) ≤ 3 * length ns
 unfolding spacedAll
-frames-long [] h = omega arith
-frames-long (n ∷ ns) h =
+group-long [] h = omega arith
+group-long (n ∷ ns) h =
     let a : n < 100 = h 0 in
     let l : length (spaced n) ≤ 3 = spaced-long 1 n a in
-    let m : length (spacedAll ns) ≤ 3 * length ns = frames-long ns (λ (i : ℕ). h (suc i)) in
+    let m : length (spacedAll ns) ≤ 3 * length ns = group-long ns (λ (i : ℕ). h (suc i)) in
     omega (arith, length-append (spaced n) (spacedAll ns))
 
 -- ---- a text is as long as its pieces together
@@ -68,7 +69,7 @@ schedule-long : (held : Holding) (count : ℕ) → held .delay < 10000 → count
 schedule-long held count d c f =
     let m : length (spaced (held .delay)) ≤ 5 = spaced-long 3 (held .delay) d in
     let n : length (spaced count) ≤ 6 = spaced-long 4 count c in
-    omega (arith, long-of (scheduleText held count) (spaced (held .delay) ∷ spaced count ∷ spacedAll (held .frames) ∷ []) (schedule-is held count), frames-long (held .frames) f)
+    omega (arith, long-of (scheduleText held count) (spaced (held .delay) ∷ spaced count ∷ map spacedAll (groupsOf held)) (schedule-is held count), group-long (held .frames) f)
 
 -- ---- the lines
 pub scheduled-long : ScheduledLong

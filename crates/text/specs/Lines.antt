@@ -20,9 +20,18 @@ letterOf (Release number) = letterR
 unfoldable pub countText : ℕ → ℕ → List ℕ
 countText number count = cond (eqb number 18) (spaced count) []
 
+-- the groups of numbers of a schedule after its delay and count: its frames; a group that is added later stands here
+abbrev pub groupsOf : Holding → List (List ℕ)
+groupsOf held = held .frames ∷ []
+
+-- the groups one after the other
+unfoldable pub groupsText : List (List ℕ) → List ℕ
+groupsText [] = []
+groupsText (g ∷ gs) = spacedAll g ++ groupsText gs
+
 -- "ok with delay, count and frames"
 unfoldable pub scheduleText : Holding → ℕ → List ℕ
-scheduleText held count = spaced (held .delay) ++ (spaced count ++ spacedAll (held .frames))
+scheduleText held count = spaced (held .delay) ++ (spaced count ++ groupsText (groupsOf held))
 
 -- "then ok with delay, count and frames (ok alone for R), or no with the refusal, for 18 also the count"
 abbrev pub replyText : Reply → List ℕ
