@@ -63,10 +63,15 @@ pub refused-is : (place letter number count : ℕ) → line place letter (refusa
 unfolding line joined
 refused-is place letter number count = refl
 
+-- words and a number
+pub words-is : (words : List ℕ) (n : ℕ) → words ++ (spaced n ++ (newline ∷ [])) ≡ joined (words ∷ spaced n ∷ (newline ∷ []) ∷ [])
+unfolding joined
+words-is words n = refl
+
 pub live-is : (n : ℕ) → liveLine n ≡ joined (liveWord ∷ spaced n ∷ (newline ∷ []) ∷ [])
-unfolding liveLine joined
-live-is n = refl
+unfolding liveLine
+live-is n = words-is liveWord n
 
 pub network-is : (n : ℕ) → networkLine n ≡ joined (netNoWords ∷ spaced n ∷ (newline ∷ []) ∷ [])
-unfolding networkLine joined
-network-is n = refl
+unfolding networkLine
+network-is n = words-is netNoWords n

@@ -16,7 +16,7 @@ use Rattle.text.specs.Digits.{dec, spaced, spacedAll}
 use Rattle.text.specs.Lines.{countText, groupsOf, scheduleText, lineHead, line, liveLine, networkLine, ScheduledLong, FreedLong, RefusedLong, BlockedLong, LiveLong, NetworkLong}
 use Rattle.text.proofs.Digits.{dec-small, long-more}
 use Rattle.text.proofs.Chains.{joined}
-use Rattle.text.proofs.Lines.{head-is, schedule-is, count-none, count-some, scheduled-is, freed-is, refused-is, live-is, network-is}
+use Rattle.text.proofs.Lines.{head-is, schedule-is, count-none, count-some, scheduled-is, freed-is, refused-is, words-is}
 
 by-ten : (n : ℕ) → (n < 10) ⊎ (10 ≤ n)
 by-ten n = cases (ltb n 10) refl
@@ -101,12 +101,16 @@ blocked-long place letter count p c =
     let l : length (spaced count) ≤ 6 = spaced-long 4 count c in
     omega (arith, refusal-long place letter 18 count p (omega arith), ap length (count-some 18 count refl))
 
-pub live-long : LiveLong
-live-long n h =
+-- words and a number
+words-long : (words : List ℕ) (n : ℕ) → n < 100 → length (words ++ (spaced n ++ (newline ∷ []))) ≤ length words + 4
+words-long words n h =
     let l : length (spaced n) ≤ 3 = spaced-long 1 n h in
-    omega (arith, long-of (liveLine n) (liveWord ∷ spaced n ∷ (newline ∷ []) ∷ []) (live-is n))
+    omega (arith, long-of (words ++ (spaced n ++ (newline ∷ []))) (words ∷ spaced n ∷ (newline ∷ []) ∷ []) (words-is words n))
+
+pub live-long : LiveLong
+unfolding liveLine
+live-long n h = words-long liveWord n h
 
 pub network-long : NetworkLong
-network-long n h =
-    let l : length (spaced n) ≤ 3 = spaced-long 1 n h in
-    omega (arith, long-of (networkLine n) (netNoWords ∷ spaced n ∷ (newline ∷ []) ∷ []) (network-is n))
+unfolding networkLine
+network-long n h = words-long netNoWords n h
