@@ -6,7 +6,7 @@ use native.Mathlib.Nat.{add-zero}
 use native.Mathlib.Omega.{arith}
 use lib.ListN.{length, length-append, set}
 use Rattle.places.proofs.Puts.{put-length, put-nil, put-put, put-set}
-use Rattle.text.specs.Digits.{Puts}
+use Rattle.text.specs.Inner.{Puts}
 
 pub puts-none : (at : ℕ) (o : List ℕ) → Puts at [] o o at
 puts-none at o = (sym (add-zero at), sym (put-nil at o))

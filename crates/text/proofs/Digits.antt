@@ -7,7 +7,8 @@ use borrow.Author.Tests.{lt-ltb, le-ltb}
 use lib.ListN.{length, length-append, set, length-set}
 use Rattle.places.proofs.Puts.{put-set, put-put, put-length}
 use Rattle.text.specs.Characters.{digit0}
-use Rattle.text.specs.Digits.{digitsBy, dec, Puts}
+use Rattle.text.specs.Digits.{digitsBy, dec}
+use Rattle.text.specs.Inner.{Puts}
 
 -- any bound from n on gives the same digits
 digits-any : (f g n : ℕ) → n ≤ f → n ≤ g → digitsBy f n ≡ digitsBy g n

@@ -1,11 +1,8 @@
--- Numbers and words as text, in ASCII, and bytes put into a lent buffer. Assumes nothing.
-use mathlib.Core.Path.{_≡_}
+-- Numbers as text. Assumes nothing.
 use mathlib.Core.Bool.{cond}
 use mathlib.Core.List.{List, [], _∷_, _++_}
 use Prim.Native.Nat.{ℕ, zero, suc, _+_, _/_, _%_}
-use lib.ListN.{length}
 use lib.Dec.{ltb}
-use Rattle.places.specs.Put.{putAt}
 use Rattle.text.specs.Characters.{space, digit0}
 
 -- the decimal digits of n ("Numbers are written in decimal"); f is at least n, and only says that the definition ends
@@ -23,7 +20,3 @@ spaced n = space ∷ dec n
 unfoldable pub spacedAll : List ℕ → List ℕ
 spacedAll [] = []
 spacedAll (n ∷ ns) = spaced n ++ spacedAll ns
-
--- x is put into a buffer from place `at` on; `next` is the place after it
-abbrev pub Puts : ℕ → List ℕ → List ℕ → List ℕ → ℕ → Type 0
-Puts at x before after next = (next ≡ at + length x) × (after ≡ putAt at x before)

@@ -6,8 +6,9 @@ ghost use Prim.Native.Nat.{_+_, _≤_};
 ghost use lib.ListN.{length};
 ghost use Rattle.ledger.specs.Held.{holdingOf};
 ghost use Rattle.ledger.specs.Calls.{schedule, freed, refusal};
-ghost use Rattle.text.specs.Digits.{dec, spaced, spacedAll, Puts};
+ghost use Rattle.text.specs.Digits.{dec, spaced, spacedAll};
 ghost use Rattle.text.specs.Lines.{countText, scheduleText, lineHead, line, liveLine, networkLine};
+ghost use Rattle.text.specs.Inner.{Puts};
 
 // One byte.
 fn put_byte(out: &mut [u8], at: usize, byte: u8) -> usize
