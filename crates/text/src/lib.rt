@@ -20,7 +20,7 @@ fn put_byte(out: &mut [u8], at: usize, byte: u8) -> usize
 }
 
 // Some bytes.
-pub fn put_bytes(out: &mut [u8], at: usize, bytes: &[u8]) -> usize
+fn put_bytes(out: &mut [u8], at: usize, bytes: &[u8]) -> usize
     requires { ⌜ at + length (now bytes) ≤ length (now out) ⌝ }
     ensures { λ r. ⌜ Puts at (now (bytes .entry)) (now (out .entry)) (now (out .exit)) r ⌝ }
 {
