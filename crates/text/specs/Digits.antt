@@ -17,6 +17,7 @@ dec n = digitsBy n n
 unfoldable pub spaced : ℕ → List ℕ
 spaced n = space ∷ dec n
 
+-- each number after a space
 unfoldable pub spacedAll : List ℕ → List ℕ
 spacedAll [] = []
 spacedAll (n ∷ ns) = spaced n ++ spacedAll ns
