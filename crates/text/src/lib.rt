@@ -39,11 +39,11 @@ fn put_decimal(out: &mut [u8], at: usize, n: u32) -> usize
     ensures { λ r. ⌜ Puts at (dec n) (now (out .entry)) (now (out .exit)) r ⌝ }
 {
     if n < 10 {
-        out[at] = 48 + (n % 10) as u8;
+        out[at] = b'0' + (n % 10) as u8;
         return at + 1;
     }
     let p = put_decimal(out, at, n / 10);
-    out[p] = 48 + (n % 10) as u8;
+    out[p] = b'0' + (n % 10) as u8;
     p + 1
 }
 
@@ -52,7 +52,7 @@ fn put_spaced(out: &mut [u8], at: usize, n: u32) -> usize
     requires { ⌜ at + length (spaced n) ≤ length (now out) ⌝ }
     ensures { λ r. ⌜ Puts at (spaced n) (now (out .entry)) (now (out .exit)) r ⌝ }
 {
-    let p = put_byte(out, at, 32);
+    let p = put_byte(out, at, b' ');
     put_decimal(out, p, n)
 }
 
@@ -76,7 +76,7 @@ fn put_head(out: &mut [u8], at: usize, place: u32, letter: u8) -> usize
     ensures { λ r. ⌜ Puts at (lineHead place letter) (now (out .entry)) (now (out .exit)) r ⌝ }
 {
     let p = put_decimal(out, at, place);
-    let q = put_byte(out, p, 32);
+    let q = put_byte(out, p, b' ');
     put_byte(out, q, letter)
 }
 
@@ -119,7 +119,7 @@ pub fn put_scheduled(
     let p = put_head(out, at, place, letter);
     let q = put_bytes(out, p, b" ok");
     let r = put_schedule(out, q, count, held, hops);
-    put_byte(out, r, 10)
+    put_byte(out, r, b'\n')
 }
 
 // The line of a release that wasn't refused.
@@ -155,7 +155,7 @@ pub fn put_refused(
     let p = put_head(out, at, place, letter);
     let q = put_bytes(out, p, b" no");
     let r = put_refusal(out, q, number, count);
-    put_byte(out, r, 10)
+    put_byte(out, r, b'\n')
 }
 
 // The last line.
@@ -165,7 +165,7 @@ pub fn put_live(out: &mut [u8], at: usize, live: u32) -> usize
 {
     let p = put_bytes(out, at, b"live");
     let q = put_spaced(out, p, live);
-    put_byte(out, q, 10)
+    put_byte(out, q, b'\n')
 }
 
 // The single line of a network file that is refused.
@@ -175,5 +175,5 @@ pub fn put_network(out: &mut [u8], at: usize, number: u8) -> usize
 {
     let p = put_bytes(out, at, b"net no");
     let q = put_spaced(out, p, number as u32);
-    put_byte(out, q, 10)
+    put_byte(out, q, b'\n')
 }
