@@ -5,11 +5,12 @@ use mathlib.Core.List.{List, [], _∷_}
 use Prim.Native.Nat.{ℕ, zero, suc, _+_, _-_, _*_, _≤_, _<_, min}
 use native.Mathlib.Omega.{arith}
 use lib.ListN.{length, getD, take, drop, length-take, length-drop, drop-of-length-le}
-use lib.Seq.{drop-drop, take-all, length-take-le}
+use lib.Seq.{drop-cons, drop-drop, take-all, length-take-le}
 use lib.Dec.{eqb, ltb}
 use borrow.Author.Tests.{lt-ltb, le-ltb, ltb-true, ltb-false}
 use Rattle.refusals.specs.Refusals.{Outcome, given, refused}
 use Rattle.numbers.specs.Numbers.{numberIn}
+use Rattle.places.proofs.Parts.{part-rest}
 use Rattle.ledger.specs.Calls.{Call}
 use Rattle.ledger.specs.Calls as calls
 use Rattle.ledger.proofs.Scheduled.{linksOf}
@@ -17,7 +18,8 @@ use Rattle.call_records.specs.declared.Kind.{Kind}
 use Rattle.call_records.specs.declared.Kind.the-variants.{SetUp, Quote, Release}
 use Rattle.call_records.specs.declared.Record.{Record}
 use Rattle.call_records.specs.Records.{Said, unreadable, withRoute, setUpSaid, quoteSaid, releaseSaid, firstCall, callsBy, callsIn, NoCalls, FirstThenRest, counted, CountedPart}
-use Rattle.call_records.specs.Inner.{noRecord, recordWithin, routedRecord, readRecord, routeIn, callAs, callIn, RecordSays}
+use Rattle.call_records.specs.Inner.{noRecord, recordWithin, routedRecord, readRecord, routeIn, callAs, callIn, RecordSays, InBytes}
+use Rattle.call_records.proofs.Cases.{in-bytes, some-byte}
 
 -- ---- the reader's words say what the bytes say
 abbrev saidBy : Record → List ℕ → Said
@@ -167,6 +169,35 @@ unfolding callsIn callsBy
 first-then-rest b s =
     let rest : List ℕ = firstCall (b ∷ s) .rest in
     ap (λ (os : List (Outcome Call)). firstCall (b ∷ s) .call ∷ os) (calls-any (length s) (length rest) rest (rest-less b s) (omega arith))
+
+-- ---- the record that starts at `from`, as the reader finds it
+module _ (bytes : List ℕ) (from : ℕ) where
+  pub none-from : length bytes ≤ from → callsIn (drop from bytes) ≡ []
+  none-from h = ap callsIn (drop-of-length-le bytes {i = from} h) ∙ no-calls
+
+  module _ (h : from < length bytes) (r : Record) (is : r ≡ readRecord (take (length bytes - from) (drop from bytes))) where
+    reads : r ≡ readRecord (drop from bytes)
+    reads = is ∙ ap readRecord (part-rest from bytes)
+
+    pub record-within : InBytes r (length (take (length bytes - from) (drop from bytes)))
+    record-within = rw (part-rest from bytes, reads) (in-bytes (drop from bytes))
+
+    -- the record after it starts where it ends
+    pub next-within : (from < from + r .end) × (from + r .end ≤ length bytes)
+    next-within =
+        let n : length (drop from bytes) ≡ length bytes - from = length-drop from bytes in
+        let some : 1 ≤ r .end = rw reads (some-byte (drop from bytes) (omega arith)) in
+        let within : r .end ≤ length (drop from bytes) = rw reads (in-bytes (drop from bytes) .within) in
+        (omega arith, omega arith)
+
+    pub call-from : callsIn (drop from bytes) ≡ callIn r (drop from bytes) ∷ callsIn (drop (from + r .end) bytes)
+    call-from =
+        let s : List ℕ = drop from bytes in
+        let c : s ≡ getD bytes from 0 ∷ drop (suc from) bytes = drop-cons bytes from 0 h in
+        let said : Said = firstCall s in
+        let says : record { call = callIn r s; rest = drop (r .end) s } ≡ said = rw reads (record-says s) in
+        let first : callsIn s ≡ said .call ∷ callsIn (said .rest) = rw c (first-then-rest (getD bytes from 0) (drop (suc from) bytes)) in
+        first ∙ ap (λ (x : Said). x .call ∷ callsIn (x .rest)) (sym says) ∙ ap (λ (x : List ℕ). callIn r s ∷ callsIn x) (drop-drop (r .end) from bytes)
 
 -- ---- the bytes that count
 take-least : (s : List ℕ) (m : ℕ) → take (min (length s) m) s ≡ take m s

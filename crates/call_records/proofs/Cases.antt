@@ -8,14 +8,16 @@ use native.Mathlib.Omega.{arith}
 use lib.ListN.{length, getD, take, drop, List·getD-eq-default}
 use lib.Seq.{getD-drop}
 use lib.Dec.{eqb, ltb}
-use borrow.Author.Tests.{lt-ltb, le-ltb, ltb-false, eqb-true, ne-eqb}
+use borrow.Author.Tests.{lt-ltb, le-ltb, ltb-false, ne-eqb}
+use Rattle.refusals.specs.Refusals.{given, refused}
 use Rattle.numbers.specs.Numbers.{numberIn, IsBytes}
 use Rattle.numbers.proofs.Laws.{number-bound}
 use Rattle.places.proofs.Parts.{part-rest}
+use Rattle.ledger.specs.Calls as calls
 use Rattle.call_records.specs.declared.Kind.{Kind}
-use Rattle.call_records.specs.declared.Kind.the-variants.{SetUp, Quote, Release}
+use Rattle.call_records.specs.declared.Kind.the-variants.{SetUp, Quote, Release, Unreadable}
 use Rattle.call_records.specs.declared.Record.{Record}
-use Rattle.call_records.specs.Inner.{noRecord, recordWithin, routedRecord, readRecord, routeIn, InBytes}
+use Rattle.call_records.specs.Inner.{noRecord, recordWithin, routedRecord, readRecord, routeIn, callAs, callIn, InBytes}
 
 -- a byte past the end counts as 0
 pub links-past : (s : List ℕ) (at : ℕ) → length s ≤ at → (0 ≡ getD s at 0) × (0 < 256)
@@ -109,3 +111,17 @@ in-bytes s = lies-there s .lies
 
 pub some-byte : (s : List ℕ) → 0 < length s → 1 ≤ readRecord s .end
 some-byte s = lies-there s .some
+
+-- ---- the call that a record says, by its kind
+module _ (r : Record) (s : List ℕ) where
+  pub says-set-up : r .kind ≡ SetUp → (route : List ℕ) → route ≡ routeIn r s → callIn r s ≡ given (calls.SetUp (r .number) route)
+  says-set-up k route e = ap (λ (x : Kind). callAs x (r .number) (routeIn r s)) k ∙ ap (λ (x : List ℕ). given (calls.SetUp (r .number) x)) (sym e)
+
+  pub says-quote : r .kind ≡ Quote → (route : List ℕ) → route ≡ routeIn r s → callIn r s ≡ given (calls.Quote route)
+  says-quote k route e = ap (λ (x : Kind). callAs x (r .number) (routeIn r s)) k ∙ ap (λ (x : List ℕ). given (calls.Quote x)) (sym e)
+
+  pub says-release : r .kind ≡ Release → callIn r s ≡ given (calls.Release (r .number))
+  says-release k = rw k
+
+  pub says-nothing : r .kind ≡ Unreadable → callIn r s ≡ refused 11
+  says-nothing k = rw k
