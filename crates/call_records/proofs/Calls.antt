@@ -3,6 +3,7 @@ use mathlib.Core.Path.{_≡_, refl, sym, ap, _∙_}
 use mathlib.Core.Bool.{Bool, true, false, cond}
 use mathlib.Core.List.{List, [], _∷_}
 use Prim.Native.Nat.{ℕ, zero, suc, _+_, _-_, _*_, _≤_, _<_, min}
+use native.Mathlib.Nat.{not-suc-le-zero}
 use native.Mathlib.Omega.{arith}
 use lib.ListN.{length, getD, take, drop, length-take, length-drop, drop-of-length-le}
 use lib.Seq.{drop-cons, drop-drop, take-all, length-take-le}
@@ -93,7 +94,7 @@ record-says (kind ∷ s) = by-kind (eqb kind 1) (eqb kind 2) (eqb kind 3) kind s
 
 -- ---- how long a record is
 -- a call's record has its route and two bytes more at least; one that can't be read is refused with 11 and leaves no bytes
-abbrev TookBy : Outcome Call → List ℕ → ℕ → Type 0
+abbrev pub TookBy : Outcome Call → List ℕ → ℕ → Type 0
 TookBy (given call) rest m = 2 + length (linksOf call) + length rest ≤ m
 TookBy (refused k) rest m = (k ≡ 11) × (rest ≡ [])
 
@@ -110,41 +111,52 @@ route-took call n m s is h = go (ltb (length s) n) refl
         let l : n ≤ length s = ltb-false (length s) n e in
         omega (arith, ap length (is (take n s)), length-take-le n s l, length-drop n s, h)
 
-set-up-took : (s : List ℕ) → Took (setUpSaid s) (1 + length s)
+set-up-took : (s : List ℕ) → Took (setUpSaid s) (suc (length s))
 unfolding setUpSaid
 set-up-took [] = (refl, refl)
 set-up-took (low ∷ []) = (refl, refl)
 set-up-took (low ∷ high ∷ []) = (refl, refl)
-set-up-took (low ∷ high ∷ n ∷ s) = route-took (calls.SetUp (low + 256 * high)) n (1 + length (low ∷ high ∷ n ∷ s)) s (λ (route : List ℕ). refl) (omega arith)
+set-up-took (low ∷ high ∷ n ∷ s) = route-took (calls.SetUp (low + 256 * high)) n (suc (length (low ∷ high ∷ n ∷ s))) s (λ (route : List ℕ). refl) (omega arith)
 
-quote-took : (s : List ℕ) → Took (quoteSaid s) (1 + length s)
+quote-took : (s : List ℕ) → Took (quoteSaid s) (suc (length s))
 unfolding quoteSaid
 quote-took [] = (refl, refl)
-quote-took (n ∷ s) = route-took calls.Quote n (1 + length (n ∷ s)) s (λ (route : List ℕ). refl) (omega arith)
+quote-took (n ∷ s) = route-took calls.Quote n (suc (length (n ∷ s))) s (λ (route : List ℕ). refl) (omega arith)
 
-release-took : (s : List ℕ) → Took (releaseSaid s) (1 + length s)
+release-took : (s : List ℕ) → Took (releaseSaid s) (suc (length s))
 unfolding releaseSaid
 release-took [] = (refl, refl)
 release-took (low ∷ []) = (refl, refl)
 release-took (low ∷ high ∷ s) = omega arith
 
-kind-took : (p q r : Bool) (s : List ℕ) → Took (cond p (setUpSaid s) (cond q (quoteSaid s) (cond r (releaseSaid s) unreadable))) (1 + length s)
+kind-took : (p q r : Bool) (s : List ℕ) → Took (cond p (setUpSaid s) (cond q (quoteSaid s) (cond r (releaseSaid s) unreadable))) (suc (length s))
 kind-took true q r s = set-up-took s
 kind-took false true r s = quote-took s
 kind-took false false true s = release-took s
 kind-took false false false s = (refl, refl)
 
-pub first-took : (b : ℕ) (s : List ℕ) → Took (firstCall (b ∷ s)) (1 + length s)
+pub first-took : (b : ℕ) (s : List ℕ) → Took (firstCall (b ∷ s)) (suc (length s))
 unfolding firstCall
 first-took b s = kind-took (eqb b 1) (eqb b 2) (eqb b 3) s
 
 -- the bytes after a record are fewer
-took-less : (o : Outcome Call) (rest : List ℕ) (m : ℕ) → TookBy o rest (1 + m) → length rest ≤ m
+took-less : (o : Outcome Call) (rest : List ℕ) (m : ℕ) → TookBy o rest (suc m) → length rest ≤ m
 took-less (given call) rest m h = omega (arith, h)
 took-less (refused k) rest m h = omega (arith, ap length (h .1))
 
 rest-less : (b : ℕ) (s : List ℕ) → length (firstCall (b ∷ s) .rest) ≤ length s
 rest-less b s = took-less (firstCall (b ∷ s) .call) (firstCall (b ∷ s) .rest) (length s) (first-took b s)
+
+-- what holds of no bytes, and of some where it holds of the bytes after their first record, holds of all
+module _ (P : List ℕ → Type 0) (none : P []) (some : (b : ℕ) (s : List ℕ) → P (firstCall (b ∷ s) .rest) → P (b ∷ s)) where
+  by-length : (f : ℕ) (s : List ℕ) → length s ≤ f → P s
+  by-length zero [] h = none
+  by-length zero (b ∷ s) h = absurd (not-suc-le-zero h)
+  by-length (suc f) [] h = none
+  by-length (suc f) (b ∷ s) h = some b s (by-length f (firstCall (b ∷ s) .rest) (omega (arith, rest-less b s)))
+
+  pub by-records : (s : List ℕ) → P s
+  by-records s = by-length (length s) s (omega arith)
 
 -- ---- the calls of some bytes
 -- any bound from the number of bytes on gives the same calls

@@ -22,14 +22,11 @@ use Rattle.state.specs.declared.Served.{Served}
 use Rattle.state.specs.declared.Released.{Released}
 use Rattle.state.specs.State.{viewOf, Quotes, quotedIn, releasedIn, Serves, Releases}
 use Rattle.state.proofs.Replies.{left-intact, quotes-back}
-use Rattle.call_records.specs.declared.Record.{Record}
-use Rattle.call_records.specs.declared.Kind.{Kind}
-use Rattle.call_records.specs.declared.Kind.the-variants as kinds
-use Rattle.call_records.specs.Records.{routeIn, callAs, callIn}
-use Rattle.text.specs.Digits.{Puts}
+use Rattle.text.specs.Characters.{letterS, letterQ, letterR}
 use Rattle.text.specs.Lines.{line}
+use Rattle.text.specs.Inner.{Puts}
 use Rattle.report.specs.Transcript.{lineOf}
-use Rattle.report.specs.Reports.{InPlaces, Turns}
+use Rattle.report.specs.Inner.{InPlaces, Turns}
 
 -- an answer that is a schedule has a route that passed, and so at most eight links
 pub in-places : (v : View) (call : Call) (q : Quoted) → Quotes (reply v call) q → InPlaces (q .verdict) (length (linksOf call))
@@ -46,10 +43,10 @@ in-places v call q w = go (q .verdict) refl (reply v call) refl w
 -- ---- the line of a set-up
 module _ (st : State) (ok : intact (viewOf st) ≡ true) (number : ℕ) (route : List ℕ) (r : Served) (s : Serves st (SetUp number route) r) where
   pub set-up-room : (place at n : ℕ) → at + length (lineOf place (viewOf st) (given (SetUp number route))) ≤ n
-      → InPlaces (r .answer .verdict) (length route) × (at + length (line place 83 (quotedIn (length route) (r .answer))) ≤ n)
+      → InPlaces (r .answer .verdict) (length route) × (at + length (line place letterS (quotedIn (length route) (r .answer))) ≤ n)
   set-up-room place at n h = (in-places (viewOf st) (SetUp number route) (r .answer) (s .answer), rw (quotes-back (viewOf st) (SetUp number route) (r .answer) (s .answer)) h)
 
-  pub set-up-turn : (place at : ℕ) (before after : List ℕ) (k : ℕ) → Puts at (line place 83 (quotedIn (length route) (r .answer))) before after k
+  pub set-up-turn : (place at : ℕ) (before after : List ℕ) (k : ℕ) → Puts at (line place letterS (quotedIn (length route) (r .answer))) before after k
       → Turns st (given (SetUp number route)) place at before after (record { state = r .state; at = k })
   set-up-turn place at before after k p =
       record { put = rw (quotes-back (viewOf st) (SetUp number route) (r .answer) (s .answer)) at p; view = s .after .view; unbroken = left-intact st (SetUp number route) (r .state) (s .after) ok }
@@ -61,36 +58,22 @@ quote-leaves v route = refl
 
 module _ (st : State) (ok : intact (viewOf st) ≡ true) (route : List ℕ) (a : Quoted) (s : Quotes (reply (viewOf st) (Quote route)) a) where
   pub quote-room : (place at n : ℕ) → at + length (lineOf place (viewOf st) (given (Quote route))) ≤ n
-      → InPlaces (a .verdict) (length route) × (at + length (line place 81 (quotedIn (length route) a)) ≤ n)
+      → InPlaces (a .verdict) (length route) × (at + length (line place letterQ (quotedIn (length route) a)) ≤ n)
   quote-room place at n h = (in-places (viewOf st) (Quote route) a s, rw (quotes-back (viewOf st) (Quote route) a s) h)
 
-  pub quote-turn : (place at : ℕ) (before after : List ℕ) (k : ℕ) → Puts at (line place 81 (quotedIn (length route) a)) before after k
+  pub quote-turn : (place at : ℕ) (before after : List ℕ) (k : ℕ) → Puts at (line place letterQ (quotedIn (length route) a)) before after k
       → Turns st (given (Quote route)) place at before after (record { state = st; at = k })
   quote-turn place at before after k p = record { put = rw (quotes-back (viewOf st) (Quote route) a s) at p; view = quote-leaves (viewOf st) route; unbroken = ok }
 
 -- ---- the line of a release
 module _ (st : State) (ok : intact (viewOf st) ≡ true) (number : ℕ) (r : Released) (s : Releases st number r) where
-  pub release-room : (place at n : ℕ) → at + length (lineOf place (viewOf st) (given (Release number))) ≤ n → at + length (line place 82 (releasedIn (r .verdict))) ≤ n
+  pub release-room : (place at n : ℕ) → at + length (lineOf place (viewOf st) (given (Release number))) ≤ n → at + length (line place letterR (releasedIn (r .verdict))) ≤ n
   release-room place at n h = rw (s .answer) h
 
-  pub release-turn : (place at : ℕ) (before after : List ℕ) (k : ℕ) → Puts at (line place 82 (releasedIn (r .verdict))) before after k
+  pub release-turn : (place at : ℕ) (before after : List ℕ) (k : ℕ) → Puts at (line place letterR (releasedIn (r .verdict))) before after k
       → Turns st (given (Release number)) place at before after (record { state = r .state; at = k })
   release-turn place at before after k p =
       record { put = rw (s .answer) at p; view = s .after .view; unbroken = left-intact st (Release number) (r .state) (s .after) ok }
-
--- ---- the call that a record says, by its kind
-module _ (call : Record) (s : List ℕ) where
-  pub says-set-up : call .kind ≡ kinds.SetUp → (route : List ℕ) → route ≡ routeIn call s → callIn call s ≡ given (SetUp (call .number) route)
-  says-set-up k route e = ap (λ (x : Kind). callAs x (call .number) (routeIn call s)) k ∙ ap (λ (x : List ℕ). given (SetUp (call .number) x)) (sym e)
-
-  pub says-quote : call .kind ≡ kinds.Quote → (route : List ℕ) → route ≡ routeIn call s → callIn call s ≡ given (Quote route)
-  says-quote k route e = ap (λ (x : Kind). callAs x (call .number) (routeIn call s)) k ∙ ap (λ (x : List ℕ). given (Quote x)) (sym e)
-
-  pub says-release : call .kind ≡ kinds.Release → callIn call s ≡ given (Release (call .number))
-  says-release k = rw k
-
-  pub says-nothing : call .kind ≡ kinds.Unreadable → callIn call s ≡ refused 11
-  says-nothing k = rw k
 
 -- ---- the line of an answer, by what it is
 module _ (hops place letter at : ℕ) (q : Quoted) where

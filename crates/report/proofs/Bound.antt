@@ -1,5 +1,5 @@
 -- How long a text is at most. Assumes nothing.
-use mathlib.Core.Path.{_≡_, refl, ap, subst}
+use mathlib.Core.Path.{_≡_, refl, ap, subst, _∙_}
 use mathlib.Core.Bool.{true}
 use mathlib.Core.List.{List, [], _∷_}
 use Prim.Native.Nat.{ℕ, zero, suc, _+_, _-_, _*_, _<_, _≤_, min}
@@ -7,7 +7,6 @@ use native.Mathlib.Nat.{mul-le-mul}
 use native.Mathlib.Omega.{arith}
 use lib.ListN.{length, getD, take, length-append, length-map, length-take}
 use lib.Seq.{take-all}
-use borrow.Author.Tests.{le-ltb}
 use Rattle.places.specs.Places.{firsts}
 use Rattle.places.proofs.Firsts.{getD-firsts}
 use Rattle.refusals.specs.Refusals.{Ruling, Outcome, given, refused, pass}
@@ -35,15 +34,13 @@ use Rattle.ledger.proofs.Scheduled.{linksOf}
 use Rattle.ledger.proofs.Refused.{not-eighteen}
 use Rattle.ledger.proofs.Kept.{next-intact}
 use Rattle.routes.proofs.Hops.{route-ready}
-use Rattle.call_records.specs.declared.Kind.{Kind}
-use Rattle.call_records.specs.declared.Kind.the-variants as kinds
-use Rattle.call_records.specs.Records.{readRecord, routeIn, callAs, callIn}
-use Rattle.call_records.proofs.Cases.{in-bytes}
-use Rattle.call_records.proofs.Lengths.{record-long}
+use Rattle.call_records.specs.Records.{firstCall, callsIn, counted}
+use Rattle.call_records.proofs.Calls.{TookBy, first-took, by-records, no-calls, first-then-rest}
+use Rattle.text.specs.Characters.{questionMark}
 use Rattle.text.specs.Lines.{letterOf, line, liveLine}
 use Rattle.text.proofs.Long.{scheduled-long, freed-long, refused-long, blocked-long, live-long, network-long}
-use Rattle.report.specs.Transcript.{thenOthers, callsAfter, counted, linesOf, textOn, transcript}
-use Rattle.report.specs.Reports.{textBound, TextWithin, tooShort, lengthOr20, RoomServes}
+use Rattle.report.specs.Transcript.{linesOf, textOn, transcript}
+use Rattle.report.specs.Reports.{textBound, TextWithin}
 use Rattle.report.proofs.Numbers.{file-number, call-number}
 use Rattle.report.proofs.Running.{lines-more, lines-none}
 
@@ -116,50 +113,38 @@ reply-line place letter h v call e = rw (reply-intact v call e) (call-line (v .n
 live-most : (v : View) → intact v ≡ true → length (liveLine (length (v .live))) ≤ 8
 live-most v e = live-long (length (v .live)) (omega (arith, intact-is v e .few))
 
--- a record is refused with 11 only
-only-eleven : (kind : Kind) (n : ℕ) (route : List ℕ) (k : ℕ) → callAs kind n route ≡ refused k → k ≡ 11
-only-eleven kinds.SetUp n route k e = cc
-only-eleven kinds.Quote n route k e = cc
-only-eleven kinds.Release n route k e = cc
-only-eleven kinds.Unreadable n route k e = cc
+abbrev Most : List ℕ → Type 0
+Most s = (place : ℕ) (v : View) → intact v ≡ true → place + length s < 100000 → length (linesOf place v (callsIn s)) ≤ 22 + 11 * length s
 
-none-after : (n : ℕ) → callsAfter n [] ≡ []
-unfolding callsAfter
-none-after zero = refl
-none-after (suc n) = refl
+-- the line of a record, and the lines of those after it
+module _ (rest : List ℕ) (m place : ℕ) (v : View) (e : intact v ≡ true) (h : place + m < 100000) where
+  one-more : (o : Outcome Call) → TookBy o rest m → Most rest → length (linesOf place v (o ∷ callsIn rest)) ≤ 22 + 11 * m
+  one-more (given call) took most =
+      omega (
+        arith,
+        ap length (lines-more place v (given call) (callsIn rest)),
+        length-append (line place (letterOf call) (reply v call)) (linesOf (place + 1) (next v call) (callsIn rest)),
+        reply-line place (letterOf call) (omega arith) v call e,
+        took,
+        most (place + 1) (next v call) (next-intact v call e) (omega (arith, took)),
+      )
+  one-more (refused k) took most =
+      let none : linesOf (place + 1) v (callsIn rest) ≡ liveLine (length (v .live)) =
+        ap (λ (x : List ℕ). linesOf (place + 1) v (callsIn x)) (took .1) ∙ ap (linesOf (place + 1) v) no-calls ∙ lines-none (place + 1) v in
+      omega (
+        arith,
+        ap length (lines-more place v (refused k) (callsIn rest)),
+        length-append (line place questionMark (refusal k 0)) (linesOf (place + 1) v (callsIn rest)),
+        ap length none,
+        live-most v e,
+        refused-long place questionMark k 0 (omega arith) (omega (arith, took .0)) (λ z. omega (arith, took .0, z)),
+      )
 
-lines-most : (s : List ℕ) (n place : ℕ) (v : View) → intact v ≡ true → place + length s < 100000 → length (linesOf place v (callsAfter n s)) ≤ 22 + 11 * (length s - n)
-unfolding callsAfter
-lines-most [] n place v e h = rw (none-after n, lines-none place v) (omega (arith, live-most v e))
-lines-most (b ∷ s) (suc n) place v e h = omega (arith, lines-most s n place v e (omega arith))
-lines-most (b ∷ s) zero place v e h =
-    let m = go (callIn (readRecord (b ∷ s)) (b ∷ s)) refl (λ call q. lines-most s (readRecord (b ∷ s) .end - 1) (place + 1) (next v call) (next-intact v call e) (omega arith)) in
-    omega (arith, m)
-  where
-    go : (o : Outcome Call) → callIn (readRecord (b ∷ s)) (b ∷ s) ≡ o
-        → ((call : Call) → o ≡ given call → length (linesOf (place + 1) (next v call) (callsAfter (readRecord (b ∷ s) .end - 1) s)) ≤ 22 + 11 * (length s - (readRecord (b ∷ s) .end - 1)))
-        → length (linesOf place v (thenOthers o (callsAfter (readRecord (b ∷ s) .end - 1) s))) ≤ 22 + 11 * suc (length s)
-    go (given call) q rest =
-        let m = lines-more place v (given call) (callsAfter (readRecord (b ∷ s) .end - 1) s) in
-        omega (
-          arith,
-          ap length m,
-          length-append (line place (letterOf call) (reply v call)) (linesOf (place + 1) (next v call) (callsAfter (readRecord (b ∷ s) .end - 1) s)),
-          reply-line place (letterOf call) (omega arith) v call e,
-          record-long (b ∷ s) call q,
-          in-bytes (b ∷ s) .within,
-          rest call refl,
-        )
-    go (refused k) q rest =
-        let is : k ≡ 11 = only-eleven (readRecord (b ∷ s) .kind) (readRecord (b ∷ s) .number) (routeIn (readRecord (b ∷ s)) (b ∷ s)) k q in
-        omega (
-          arith,
-          ap length (lines-more place v (refused k) []),
-          length-append (line place 63 (refusal k 0)) (linesOf (place + 1) v []),
-          ap length (lines-none (place + 1) v),
-          live-most v e,
-          refused-long place 63 k 0 (omega arith) (omega (arith, is)) (λ z. omega (arith, is, z)),
-        )
+lines-most : (s : List ℕ) → Most s
+lines-most = by-records Most
+    (λ (place : ℕ) (v : View) (e : intact v ≡ true) (h : place + 0 < 100000). rw (no-calls, lines-none place v) (omega (arith, live-most v e)))
+    (λ (b : ℕ) (s : List ℕ) (most : Most (firstCall (b ∷ s) .rest)) (place : ℕ) (v : View) (e : intact v ≡ true) (h : place + length (b ∷ s) < 100000).
+      rw (first-then-rest b s) (one-more (firstCall (b ∷ s) .rest) (suc (length s)) place v e (omega arith) (firstCall (b ∷ s) .call) (first-took b s) most))
 
 -- AS MANY BYTES SERVE FOR EVERY TEXT
 pub text-bound : TextWithin
@@ -169,11 +154,5 @@ text-bound file calls bytes = go (readNetwork file) refl
     go : (o : Outcome Topology) → readNetwork file ≡ o → length (textOn o calls) ≤ 22 + 11 * min (length calls) 65536
     go (given net) e =
         let n : length (take 65536 calls) ≡ min 65536 (length calls) = length-take 65536 calls in
-        omega (arith, lines-most (take 65536 calls) 0 1 (fresh net) (fresh-intact net (read-passes file net bytes e)) (omega (arith, n)), n)
+        omega (arith, lines-most (take 65536 calls) 1 (fresh net) (fresh-intact net (read-passes file net bytes e)) (omega (arith, n)), n)
     go (refused n) e = omega (arith, network-long n (omega (arith, file-number file n e)))
-
--- A BUFFER OF THE BOUND IS NEVER TOO SHORT
-pub room-serves : RoomServes
-unfolding lengthOr20 tooShort
-room-serves file calls buffer bytes h =
-    rw (le-ltb (length buffer) (length (transcript file calls)) (omega (arith, text-bound file calls bytes, h)))

@@ -1,7 +1,7 @@
 -- The lines of a run are the answers of a list of calls, to which demand 3 applies. Assumes nothing.
 use mathlib.Core.Path.{_≡_, refl, sym, ap, _∙_}
 use mathlib.Core.List.{List, [], _∷_, _++_, map, append-assoc}
-use Prim.Native.Nat.{ℕ, zero, suc, _-_}
+use Prim.Native.Nat.{ℕ, suc}
 use lib.ListN.{length}
 use Rattle.refusals.specs.Refusals.{Outcome, given, refused}
 use Rattle.network_file.proofs.RoundTrip.{read-passes}
@@ -10,9 +10,11 @@ use Rattle.ledger.specs.Calls.{Call, refusal, reply, next}
 use Rattle.ledger.specs.Ledger.{Step, did, callOf}
 use Rattle.ledger.specs.Demand.{fresh, Runs, over, then}
 use Rattle.ledger.proofs.Whole.{demand3}
-use Rattle.call_records.specs.Records.{readRecord, callIn}
+use Rattle.call_records.specs.Records.{firstCall, callsIn, counted}
+use Rattle.call_records.proofs.Calls.{TookBy, first-took, by-records, no-calls, first-then-rest}
+use Rattle.text.specs.Characters.{questionMark}
 use Rattle.text.specs.Lines.{letterOf, line, liveLine}
-use Rattle.report.specs.Transcript.{thenOthers, callsAfter, callsIn, counted, linesOf, transcript}
+use Rattle.report.specs.Transcript.{linesOf, transcript}
 use Rattle.report.specs.Transcribed.{stepLines, madeIn, unreadLine, TranscriptDemand3}
 
 -- a record that can't be read is the last
@@ -21,16 +23,13 @@ Ends [] = Unit {0}
 Ends (given call ∷ os) = Ends os
 Ends (refused n ∷ os) = os ≡ []
 
-then-ends : (o : Outcome Call) (os : List (Outcome Call)) → Ends os → Ends (thenOthers o os)
-then-ends (given call) os h = h
-then-ends (refused n) os h = refl
+one-ends : (o : Outcome Call) (rest : List ℕ) (m : ℕ) → TookBy o rest m → Ends (callsIn rest) → Ends (o ∷ callsIn rest)
+one-ends (given call) rest m took ends = ends
+one-ends (refused k) rest m took ends = ap callsIn (took .1) ∙ no-calls
 
-calls-end : (s : List ℕ) (n : ℕ) → Ends (callsAfter n s)
-unfolding callsAfter
-calls-end [] zero = tt
-calls-end [] (suc n) = tt
-calls-end (b ∷ s) (suc n) = calls-end s n
-calls-end (b ∷ s) zero = then-ends (callIn (readRecord (b ∷ s)) (b ∷ s)) (callsAfter (readRecord (b ∷ s) .end - 1) s) (calls-end s (readRecord (b ∷ s) .end - 1))
+calls-end : (s : List ℕ) → Ends (callsIn s)
+calls-end = by-records (λ (s : List ℕ). Ends (callsIn s)) (rw no-calls tt)
+    (λ (b : ℕ) (s : List ℕ) (ends : Ends (callsIn (firstCall (b ∷ s) .rest))). rw (first-then-rest b s) (one-ends (firstCall (b ∷ s) .call) (firstCall (b ∷ s) .rest) (suc (length s)) (first-took b s) ends))
 
 -- the lines from a place on, as steps
 record Told (place : ℕ) (v : View) (os : List (Outcome Call)) : Type 0 where
@@ -59,14 +58,14 @@ told (refused n ∷ os) place v h =
       last = v;
       runs = over;
       made = ap madeIn (sym h);
-      text = ap (λ (r : List (Outcome Call)). line place 63 (refusal n 0) ++ linesOf (suc place) v r) h;
+      text = ap (λ (r : List (Outcome Call)). line place questionMark (refusal n 0) ++ linesOf (suc place) v r) h;
     }
 
 -- THE TEXT OF A RUN SHOWS THE ANSWERS OF A LIST OF CALLS THAT KEEPS DEMAND 3
 pub transcript-demand3 : TranscriptDemand3
 unfolding transcript
 transcript-demand3 file calls net bytes e =
-    let t : Told 1 (fresh net) (callsIn (counted calls)) = told (callsIn (counted calls)) 1 (fresh net) (calls-end (counted calls) 0) in
+    let t : Told 1 (fresh net) (callsIn (counted calls)) = told (callsIn (counted calls)) 1 (fresh net) (calls-end (counted calls)) in
     record {
       steps = t .steps;
       last = t .last;

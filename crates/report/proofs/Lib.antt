@@ -1,4 +1,3 @@
-pub mod Records
 pub mod Running
 pub mod Answering
 pub mod Whole

@@ -1,27 +1,22 @@
 -- The whole text, and the buffer that it is put into. Assumes nothing.
 use mathlib.Core.Path.{_≡_, refl, sym, ap, subst, _∙_}
-use mathlib.Core.Bool.{Bool, true, false, cond}
+use mathlib.Core.Bool.{true}
 use mathlib.Core.List.{List}
 use Prim.Native.Nat.{ℕ, _+_, _*_, _<_, _≤_, min}
 use native.Mathlib.Nat.{zero-add}
 use native.Mathlib.Omega.{arith}
-use lib.ListN.{length, take, drop}
-use lib.Seq.{take-at, take-all, length-take-le}
-use lib.Dec.{ltb}
-use borrow.Author.Tests.{lt-ltb, le-ltb, ltb-true, ltb-false}
-use Rattle.places.specs.Put.{putAt}
-use Rattle.places.proofs.Puts.{put-zero, put-length}
-use Rattle.refusals.specs.Refusals.{pass, given, refused, refuseIf, orElse, refusalNumber}
+use lib.ListN.{length, take}
+use Rattle.places.proofs.Puts.{put-zero}
+use Rattle.refusals.specs.Refusals.{pass, given, refusalNumber}
 use Rattle.refusals.specs.declared.Refusal.{Refusal}
 use Rattle.refusals.specs.declared.Verdict.the-variants.{Passed, Refused}
 use Rattle.numbers.specs.Numbers.{IsBytes}
 use Rattle.network.specs.Network.{Topology, topologyOf}
 use Rattle.network.specs.Checks.{networkCheck}
 use Rattle.network_file.specs.declared.Loaded.{Loaded}
-use Rattle.network_file.specs.declared.Written.{Written}
 use Rattle.network_file.specs.declared.Written.the-variants as written
 use Rattle.network_file.specs.Reading.{readNetwork, Reads}
-use Rattle.network_file.specs.Writing.{lengthRead}
+use Rattle.network_file.proofs.Lent.{short-written, long-written}
 use Rattle.network_file.proofs.RoundTrip.{refused-says, passed-says, read-passes, read-stands}
 use Rattle.ledger.specs.Sessions.{View}
 use Rattle.ledger.specs.Sound.{intact}
@@ -30,31 +25,12 @@ use Rattle.ledger.proofs.Intact.{fresh-intact}
 use Rattle.state.specs.declared.State.{State}
 use Rattle.state.specs.State.{viewOf, freshState}
 use Rattle.state.proofs.Replies.{fresh-shown}
-use Rattle.text.specs.Digits.{Puts}
+use Rattle.call_records.specs.Records.{callsIn}
+use Rattle.call_records.proofs.Calls.{counted-part}
 use Rattle.text.specs.Lines.{networkLine}
-use Rattle.report.specs.Transcript.{callsIn, counted, CountedPart, linesOf, transcript}
-use Rattle.report.specs.Reports.{textBound, BoundMost, tooShort, lengthOr20, bufferWith, Reports}
-
--- ---- what the first bytes are
-take-least : (s : List ℕ) (m : ℕ) → take (min (length s) m) s ≡ take m s
-take-least s m = go (ltb (length s) m) refl
-  where
-    go : (b : Bool) → ltb (length s) m ≡ b → take (min (length s) m) s ≡ take m s
-    go true e =
-        let h : length s < m = ltb-true (length s) m e in
-        let q : min (length s) m ≡ length s = omega arith in
-        rw (q, take-all (length s) s (omega arith), take-all m s (omega arith))
-    go false e =
-        let h : m ≤ length s = ltb-false (length s) m e in
-        let q : min (length s) m ≡ m = omega arith in
-        rw q
-
-pub counted-long : (s : List ℕ) (n : ℕ) → n ≡ min (length s) 65536 → n ≡ length (take n s)
-counted-long s n e = sym (length-take-le n s (omega (arith, e)))
-
-pub counted-part : CountedPart
-unfolding counted
-counted-part s n e = (ap (λ (k : ℕ). take k s) e ∙ take-least s 65536, omega (arith, e, length-take-le n s (omega (arith, e))))
+use Rattle.text.specs.Inner.{Puts}
+use Rattle.report.specs.Transcript.{linesOf, transcript}
+use Rattle.report.specs.Reports.{textBound, BoundMost, reported, Reports}
 
 pub bound-is : (n k : ℕ) → k ≡ min n 65536 → 22 + 11 * k ≡ textBound n
 unfolding textBound
@@ -109,45 +85,15 @@ module _ (file calls : List ℕ) (bytes : IsBytes file) (l : Loaded) (reads : Re
           → Puts 0 (transcript file calls) before after k
       read-put n q before after k p = rw (read-text n q) p
 
--- ---- a text in the buffer
-module _ (text before : List ℕ) where
-  pub short-report : length before < length text → (r : Written) → lengthRead r ≡ refused 20 → Reports text before before r
-  unfolding lengthOr20 bufferWith tooShort
-  short-report h r e = record { answer = e ∙ rw (lt-ltb (length before) (length text) h); buffer = rw (lt-ltb (length before) (length text) h) }
+-- ---- the text in the buffer
+module _ (file calls before : List ℕ) (within : length (transcript file calls) ≤ textBound (length calls)) where
+  pub short-report : (bound : ℕ) → bound ≡ textBound (length calls) → length before < bound → (r : Refusal) → refusalNumber r ≡ 20 → Reports file calls before before (written.Refused r)
+  unfolding reported
+  short-report bound is h r e = record { written = short-written (textBound (length calls)) (transcript file calls) before (omega (arith, is)) r e; within = within }
 
-  pub long-report : length text ≤ length before → (after : List ℕ) (n : ℕ) → n ≡ length text → after ≡ putAt 0 text before → Reports text before after (written.Length n)
-  unfolding lengthOr20 bufferWith tooShort
-  long-report h after n e q =
-      record {
-        answer = rw (le-ltb (length before) (length text) h) (ap given e);
-        buffer = q ∙ rw (le-ltb (length before) (length text) h);
-      }
-
--- a length that was answered lies within the buffer
-pub length-within : (text before after : List ℕ) (r : Written) → Reports text before after r → (n : ℕ) → r ≡ written.Length n → n ≤ length after
-unfolding lengthOr20 bufferWith
-length-within text before after r w n e = go (tooShort text before) refl (ap lengthRead (sym e) ∙ w .answer) (w .buffer)
-  where
-    go : (b : Bool) → tooShort text before ≡ b → given n ≡ orElse (refuseIf b 20) (given (length text)) → after ≡ cond b before (putAt 0 text before) → n ≤ length after
-    go true q x y = let z : _≡_ {A = ℕ} 0 1 = cc in omega arith
-    go false q x y =
-        let k : n ≡ length text = cc in
-        let h : length text ≤ length before = unfold tooShort in ltb-false (length before) (length text) q in
-        omega (arith, k, h, ap length y, put-length 0 text before (omega (arith, h)))
-
--- the text back from the start of the buffer that it was put into
-module _ (text before after : List ℕ) (n : ℕ) (p : Puts 0 text before after n) where
-  pub back-long : n ≡ length text
-  back-long = p .0 ∙ zero-add (length text)
-
-  back-is : take n after ≡ text
-  back-is = rw (p .1, put-zero text before) (take-at text (drop (length text) before) n (sym back-long))
-
-  pub back-within : length text ≤ length before → n ≤ length after
-  back-within h = omega (arith, back-long, ap length (p .1), put-length 0 text before (omega (arith, h)))
-
-  pub back-fits : (m : ℕ) → n ≤ m → 0 + length (take n after) ≤ m
-  back-fits m h = omega (arith, ap length back-is, back-long, h)
-
-  pub back-put : (out out′ : List ℕ) → out′ ≡ putAt 0 (take n after) out → out′ ≡ putAt 0 text out
-  back-put out out′ e = e ∙ ap (λ (x : List ℕ). putAt 0 x out) back-is
+  pub long-report : (bound : ℕ) → bound ≡ textBound (length calls) → bound ≤ length before → (after : List ℕ) (n : ℕ) → Puts 0 (transcript file calls) before after n
+      → Reports file calls before after (written.Length n)
+  unfolding reported
+  long-report bound is h after n p =
+      let text : List ℕ = transcript file calls in
+      record { written = long-written (textBound (length calls)) text before (omega (arith, is)) after n (p .0 ∙ zero-add (length text)) (p .1 ∙ put-zero text before); within = within }

@@ -1,3 +1,4 @@
 pub mod Transcript
 pub mod Reports
 pub mod Transcribed
+pub mod Inner

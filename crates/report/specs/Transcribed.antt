@@ -11,8 +11,10 @@ use Rattle.ledger.specs.Sessions.{View}
 use Rattle.ledger.specs.Calls.{Call, refusal}
 use Rattle.ledger.specs.Ledger.{Step, did, callOf}
 use Rattle.ledger.specs.Demand.{Demand3}
+use Rattle.call_records.specs.Records.{callsIn, counted}
+use Rattle.text.specs.Characters.{questionMark}
 use Rattle.text.specs.Lines.{letterOf, line, liveLine}
-use Rattle.report.specs.Transcript.{callsIn, counted, transcript}
+use Rattle.report.specs.Transcript.{transcript}
 
 -- the lines of calls with their answers
 abbrev pub stepLines : ℕ → List Step → List ℕ
@@ -29,7 +31,7 @@ madeIn (refused n ∷ os) = madeIn os
 abbrev pub unreadLine : ℕ → List (Outcome Call) → List ℕ
 unreadLine place [] = []
 unreadLine place (given call ∷ os) = unreadLine (suc place) os
-unreadLine place (refused n ∷ os) = line place 63 (refusal n 0)
+unreadLine place (refused n ∷ os) = line place questionMark (refusal n 0)
 
 -- THE TEXT ON A FILE THAT SAYS `net` IS DEMAND 3'S LIST, LINE BY LINE: the calls that the records say, each with its answer, then 11 where a record
 -- can't be read, and the number of sessions that are live after the list

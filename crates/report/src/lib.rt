@@ -9,18 +9,21 @@ use state::Quoted;
 use state::State;
 ghost use mathlib.Core.Path.{_≡_};
 ghost use mathlib.Core.Bool.{true};
-ghost use Prim.Native.Nat.{_+_, _≤_, min};
-ghost use lib.ListN.{length, replicate};
+ghost use Prim.Native.Nat.{_+_, _≤_};
+ghost use lib.ListN.{length};
 ghost use Rattle.refusals.specs.Refusals.{refusalNumber, refusalCount, given, refused};
 ghost use Rattle.ledger.specs.Sound.{intact};
 ghost use Rattle.ledger.specs.Calls.{SetUp, Quote, Release};
 ghost use Rattle.ledger.specs.Calls as rules;
-ghost use Rattle.call_records.specs.Records.{callIn, InBytes};
+ghost use Rattle.call_records.specs.Records.{callsIn};
+ghost use Rattle.call_records.specs.Inner.{callIn, InBytes};
 ghost use Rattle.state.specs.State.{viewOf, quotedIn, releasedIn};
-ghost use Rattle.text.specs.Digits.{Puts};
+ghost use Rattle.text.specs.Characters.{letterR};
 ghost use Rattle.text.specs.Lines.{line};
-ghost use Rattle.report.specs.Transcript.{callsIn, lineOf, linesOf, transcript};
-ghost use Rattle.report.specs.Reports.{textBound, Reports, InPlaces, placeAfter, Turns};
+ghost use Rattle.text.specs.Inner.{Puts};
+ghost use Rattle.report.specs.Transcript.{lineOf, linesOf, transcript};
+ghost use Rattle.report.specs.Reports.{textBound, Reports};
+ghost use Rattle.report.specs.Inner.{InPlaces, Turns};
 
 // After a call: the state, and the place after its line.
 pub struct Turn {
@@ -60,8 +63,8 @@ fn put_answer(
 
 // The line of a release.
 fn put_verdict(out: &mut [u8], at: usize, place: u32, verdict: Verdict) -> usize
-    requires { ⌜ at + length (line place 82 (releasedIn verdict)) ≤ length (now out) ⌝ }
-    ensures { λ r. ⌜ Puts at (line place 82 (releasedIn verdict)) (now (out .entry)) (now (out .exit)) r ⌝ }
+    requires { ⌜ at + length (line place letterR (releasedIn verdict)) ≤ length (now out) ⌝ }
+    ensures { λ r. ⌜ Puts at (line place letterR (releasedIn verdict)) (now (out .entry)) (now (out .exit)) r ⌝ }
 {
     match verdict {
         Verdict::Passed => text::put_freed(out, at, place, b'R'),
@@ -139,19 +142,6 @@ fn serve(st: State, call: Record, rest: &[u8], place: u32, out: &mut [u8], at: u
     }
 }
 
-// The place after a record that starts at `from`. A record that can't be read ends the calls.
-fn place_after(kind: Kind, from: usize, used: usize, last: usize) -> usize
-    requires { ⌜ (from ≤ 65536) × (used ≤ 65536) ⌝ }
-    ensures { λ r. ⌜ r ≡ placeAfter kind from used last ⌝ }
-{
-    match kind {
-        Kind::SetUp => from + used,
-        Kind::Quote => from + used,
-        Kind::Release => from + used,
-        Kind::Unreadable => last,
-    }
-}
-
 // The calls on a state, a line for each, and the last line.
 fn run(first: State, calls: &[u8], out: &mut [u8]) -> usize
     requires { ⌜ (intact (viewOf first) ≡ true) × (length (now calls) ≤ 65536) × (length (linesOf 1 (viewOf first) (callsIn (now calls))) ≤ length (now out)) ⌝ }
@@ -166,29 +156,18 @@ fn run(first: State, calls: &[u8], out: &mut [u8]) -> usize
         let turn = serve(st, call, &calls[from..], place, out, at);
         st = turn.state;
         at = turn.at;
-        let kind = call.kind;
-        from = place_after(kind, from, call.end, calls.len());
+        from += call.end;
         place += 1;
     }
     let live = st.table.live;
     text::put_live(out, at, live as u32)
 }
 
-// How many of so many call bytes count: the first 65,536.
-fn counted(n: usize) -> usize
-    ensures { λ r. ⌜ r ≡ min n 65536 ⌝ }
-{
-    if n < 65536 {
-        return n;
-    }
-    65536
-}
-
 // As many bytes serve for every text on so many call bytes.
 fn text_bound(n: usize) -> usize
     ensures { λ r. ⌜ r ≡ textBound n ⌝ }
 {
-    22 + 11 * counted(n)
+    22 + 11 * call_records::counted(n)
 }
 
 // The text, at the start of a buffer that has room for it.
@@ -203,38 +182,18 @@ fn write_text(file: &[u8], calls: &[u8], out: &mut [u8]) -> usize
         Verdict::Passed => {
             let network = loaded.network;
             let first = state::fresh_state(network);
-            run(first, &calls[..counted(calls.len())], out)
+            run(first, &calls[..call_records::counted(calls.len())], out)
         }
     }
 }
 
-// Room for every text (`text-bound`), all of it 0.
-pub fn room() -> [u8; 720918]
-    ensures { λ r. ⌜ (r ≡ replicate 720918 0) × (length r ≡ 720918) ⌝ }
-{
-    [0; 720918]
-}
-
-// The text by way of a buffer that serves for every text, for a caller whose own may be too short.
-fn report_by_way(file: &[u8], calls: &[u8], out: &mut [u8]) -> Written
-    ensures { λ r. ⌜ Reports (transcript (now (file .entry)) (now (calls .entry))) (now (out .entry)) (now (out .exit)) r ⌝ }
-{
-    let mut text = room();
-    let n = write_text(file, calls, &mut text);
-    if out.len() < n {
-        return Written::Refused(Refusal::ShortBuffer);
-    }
-    text::put_bytes(out, 0, &text[..n]);
-    Written::Length(n)
-}
-
-// The run of the program frames: the text at the start of a buffer, and its length, or 20, which leaves the buffer as it is. A buffer of 22 bytes and
-// 11 for each call byte serves for every text (`text-bound`), and the text is then written to it at once.
+// The run of the program frames: the text at the start of a buffer, and its length. A buffer below 22 bytes and 11 for each call byte that counts, which serve
+// for every text (`text-bound`), is refused with 20 before any call is made, and left as it is.
 pub fn report(file: &[u8], calls: &[u8], out: &mut [u8]) -> Written
-    ensures { λ r. ⌜ Reports (transcript (now (file .entry)) (now (calls .entry))) (now (out .entry)) (now (out .exit)) r ⌝ }
+    ensures { λ r. ⌜ Reports (now (file .entry)) (now (calls .entry)) (now (out .entry)) (now (out .exit)) r ⌝ }
 {
     if out.len() < text_bound(calls.len()) {
-        return report_by_way(file, calls, out);
+        return Written::Refused(Refusal::ShortBuffer);
     }
     Written::Length(write_text(file, calls, out))
 }

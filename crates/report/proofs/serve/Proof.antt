@@ -2,7 +2,7 @@
 use borrow.Author.Needs.{needs}
 use Rattle.report.proofs.serve.Statement.{statement}
 use Rattle.report.proofs.serve.Tie as tie
-use Rattle.report.proofs.Answering.{says-set-up, says-quote, says-release, says-nothing}
+use Rattle.call_records.proofs.Cases.{says-set-up, says-quote, says-release, says-nothing}
 
 route-requires : tie.Need-route-requires
 route-requires c κs = search needs

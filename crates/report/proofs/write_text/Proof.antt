@@ -2,7 +2,8 @@
 use borrow.Author.Needs.{needs}
 use Rattle.report.proofs.write_text.Statement.{statement}
 use Rattle.report.proofs.write_text.Tie as tie
-use Rattle.report.proofs.Whole.{counted-long, refused-room, refused-put, read-passed, read-room, read-put}
+use Rattle.call_records.proofs.Calls.{counted-long}
+use Rattle.report.proofs.Whole.{refused-room, refused-put, read-passed, read-room, read-put}
 
 read-network-requires : tie.Need-read-network-requires
 read-network-requires c κs = search needs
