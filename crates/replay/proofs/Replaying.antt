@@ -33,25 +33,25 @@ use Rattle.replay.specs.Replayed.{Becomes}
 -- ---- the state after one call
 module _ (st : State) (ok : intact (viewOf st) ≡ true) where
   -- a call that was made
-  call-made : (call : Call) (after : State) → Leaves st call after → (o : Outcome Call) → o ≡ given call → Becomes (viewAfter (viewOf st) o) after
-  call-made call after l o e = record { view = l .view ∙ ap (viewAfter (viewOf st)) (sym e); unbroken = left-intact st call after l ok }
+  call-made : (call : Call) (after : State) → Leaves st call after → (o : Outcome Call) → o ≡ given call → Becomes (st .network) (viewAfter (viewOf st) o) after
+  call-made call after l o e = record { network = l .network; view = l .view ∙ ap (viewAfter (viewOf st)) (sym e); unbroken = left-intact st call after l ok }
 
   -- the very same state, where no call was made or a quote
-  same-made : (o : Outcome Call) → viewAfter (viewOf st) o ≡ viewOf st → Becomes (viewAfter (viewOf st) o) st
-  same-made o e = record { view = sym e; unbroken = ok }
+  same-made : (o : Outcome Call) → viewAfter (viewOf st) o ≡ viewOf st → Becomes (st .network) (viewAfter (viewOf st) o) st
+  same-made o e = record { network = refl; view = sym e; unbroken = ok }
 
   module _ (r : Record) (s : List ℕ) where
-    pub set-up-made : r .kind ≡ SetUp → (route : List ℕ) → route ≡ routeIn r s → (a : Served) → Serves st (calls.SetUp (r .number) route) a → Becomes (viewAfter (viewOf st) (callIn r s)) (a .state)
+    pub set-up-made : r .kind ≡ SetUp → (route : List ℕ) → route ≡ routeIn r s → (a : Served) → Serves st (calls.SetUp (r .number) route) a → Becomes (st .network) (viewAfter (viewOf st) (callIn r s)) (a .state)
     set-up-made k route e a w = call-made (calls.SetUp (r .number) route) (a .state) (w .after) (callIn r s) (says-set-up r s k route e)
 
-    pub quote-made : r .kind ≡ Quote → Becomes (viewAfter (viewOf st) (callIn r s)) st
+    pub quote-made : r .kind ≡ Quote → Becomes (st .network) (viewAfter (viewOf st) (callIn r s)) st
     unfolding left next
     quote-made k = same-made (callIn r s) (ap (viewAfter (viewOf st)) (says-quote r s k (routeIn r s) refl))
 
-    pub release-made : r .kind ≡ Release → (a : Released) → Releases st (r .number) a → Becomes (viewAfter (viewOf st) (callIn r s)) (a .state)
+    pub release-made : r .kind ≡ Release → (a : Released) → Releases st (r .number) a → Becomes (st .network) (viewAfter (viewOf st) (callIn r s)) (a .state)
     release-made k a w = call-made (calls.Release (r .number)) (a .state) (w .after) (callIn r s) (says-release r s k)
 
-    pub nothing-made : r .kind ≡ Unreadable → Becomes (viewAfter (viewOf st) (callIn r s)) st
+    pub nothing-made : r .kind ≡ Unreadable → Becomes (st .network) (viewAfter (viewOf st) (callIn r s)) st
     nothing-made k = same-made (callIn r s) (ap (viewAfter (viewOf st)) (says-nothing r s k))
 
 -- ---- the calls one after the other
@@ -64,29 +64,31 @@ unfolding viewAfterAll
 after-none v = refl
 
 -- the calls before `from` are made: those from there on leave what all of them leave
-pub record Running (v : View) (bytes : List ℕ) (st : State) (from : ℕ) : Type 0 where
+pub record Running (net : Network) (v : View) (bytes : List ℕ) (st : State) (from : ℕ) : Type 0 where
+  pub network : st .network ≡ net
   pub within : from ≤ length bytes
   pub unbroken : intact (viewOf st) ≡ true
   pub whole : v ≡ viewAfterAll (viewOf st) (callsIn (drop from bytes))
 
-pub none-run : (bytes : List ℕ) (st : State) → intact (viewOf st) ≡ true → Running (viewAfterAll (viewOf st) (callsIn bytes)) bytes st 0
-none-run bytes st e = record { within = omega arith; unbroken = e; whole = refl }
+pub none-run : (bytes : List ℕ) (st : State) → intact (viewOf st) ≡ true → Running (st .network) (viewAfterAll (viewOf st) (callsIn bytes)) bytes st 0
+none-run bytes st e = record { network = refl; within = omega arith; unbroken = e; whole = refl }
 
-module _ (v : View) (bytes : List ℕ) (st : State) (from : ℕ) (run : Running v bytes st from) where
+module _ (net : Network) (v : View) (bytes : List ℕ) (st : State) (from : ℕ) (run : Running net v bytes st from) where
   pub one-run : (h : from < length bytes) (r : Record) (is : r ≡ readRecord (take (length bytes - from) (drop from bytes))) (after : State)
-      → Becomes (viewAfter (viewOf st) (callIn r (take (length bytes - from) (drop from bytes)))) after → Running v bytes after (from + r .end)
+      → Becomes (st .network) (viewAfter (viewOf st) (callIn r (take (length bytes - from) (drop from bytes)))) after → Running net v bytes after (from + r .end)
   one-run h r is after b =
       let o : Outcome Call = callIn r (drop from bytes) in
       let os : List (Outcome Call) = callsIn (drop (from + r .end) bytes) in
-      let w : Becomes (viewAfter (viewOf st) o) after = rw (part-rest from bytes) at b in
+      let w : Becomes (st .network) (viewAfter (viewOf st) o) after = rw (part-rest from bytes) at b in
       record {
+        network = w .network ∙ run .network;
         within = next-within bytes from h r is .1;
         unbroken = w .unbroken;
         whole = run .whole ∙ ap (viewAfterAll (viewOf st)) (call-from bytes from h r is) ∙ after-more (viewOf st) o os ∙ ap (λ (x : View). viewAfterAll x os) (sym (w .view));
       }
 
-  pub all-run : length bytes ≤ from → Becomes v st
-  all-run h = record { view = sym (run .whole ∙ ap (viewAfterAll (viewOf st)) (none-from bytes from h) ∙ after-none (viewOf st)); unbroken = run .unbroken }
+  pub all-run : length bytes ≤ from → Becomes net v st
+  all-run h = record { network = run .network; view = sym (run .whole ∙ ap (viewAfterAll (viewOf st)) (none-from bytes from h) ∙ after-none (viewOf st)); unbroken = run .unbroken }
 
 -- ---- from a network without sessions
 module _ (net : Network) (passed : networkCheck (topologyOf net) ≡ given pass) (st : State) (begun : st ≡ freshState net) where
@@ -96,6 +98,8 @@ module _ (net : Network) (passed : networkCheck (topologyOf net) ≡ given pass)
   pub first-intact : intact (viewOf st) ≡ true
   first-intact = subst (λ (v : View). intact v ≡ true) (sym first-view) (fresh-intact (topologyOf net) passed)
 
-  pub counted-run : (s : List ℕ) (n : ℕ) → n ≡ min (length s) 65536 → (r : State) → Becomes (viewAfterAll (viewOf st) (callsIn (take n s))) r
-      → Becomes (viewAfterAll (fresh (topologyOf net)) (callsIn (counted s))) r
-  counted-run s n e r b = rw (first-view, counted-part s n e .0) at b
+  pub counted-run : (s : List ℕ) (n : ℕ) → n ≡ min (length s) 65536 → (r : State) → Becomes (st .network) (viewAfterAll (viewOf st) (callsIn (take n s))) r
+      → Becomes net (viewAfterAll (fresh (topologyOf net)) (callsIn (counted s))) r
+  counted-run s n e r b =
+      let w = rw (first-view, counted-part s n e .0) at b in
+      record { network = w .network ∙ ap (λ (x : State). x .network) begun; view = w .view; unbroken = w .unbroken }

@@ -21,7 +21,7 @@ ghost use Rattle.replay.specs.Replayed.{Becomes};
 // The state after the call of a record at the start of `rest`. A quote changes nothing, and a record that can't be read makes no call.
 fn made(st: State, call: Record, rest: &[u8]) -> State
     requires { ⌜ (intact (viewOf st) ≡ true) × InBytes call (length (now rest)) ⌝ }
-    ensures { λ r. ⌜ Becomes (viewAfter (viewOf st) (callIn call (now (rest .entry)))) r ⌝ }
+    ensures { λ r. ⌜ Becomes (st .network) (viewAfter (viewOf st) (callIn call (now (rest .entry)))) r ⌝ }
 {
     let kind = call.kind;
     match kind {
@@ -42,7 +42,7 @@ fn made(st: State, call: Record, rest: &[u8]) -> State
 // The state after all calls: each record starts where the one before it ends.
 fn run(first: State, calls: &[u8]) -> State
     requires { ⌜ intact (viewOf first) ≡ true ⌝ }
-    ensures { λ r. ⌜ Becomes (viewAfterAll (viewOf first) (callsIn (now (calls .entry)))) r ⌝ }
+    ensures { λ r. ⌜ Becomes (first .network) (viewAfterAll (viewOf first) (callsIn (now (calls .entry)))) r ⌝ }
 {
     let mut st = first;
     let mut from = 0;
@@ -55,11 +55,11 @@ fn run(first: State, calls: &[u8]) -> State
 }
 
 // The state after the calls of the call bytes that count, from a network that passed its checks, without sessions.
-// The places of the table that no session stands in, and those of a stored session past its hops, are left free (the inner arrangement of stored sessions,
-// named at `Leaves` in crates/state/specs/State.antt), and so are the places of the network that no link stands in: what is shown has none of them.
+// The places of the table that no session stands in, and those of a stored session past its hops, are left free: the inner arrangement of stored sessions,
+// named at `Leaves` in crates/state/specs/State.antt.
 pub fn state_after(network: Network, calls: &[u8]) -> State
     requires { ⌜ networkCheck (topologyOf network) ≡ given pass ⌝ }
-    ensures { λ r. ⌜ Becomes (viewAfterAll (fresh (topologyOf network)) (callsIn (counted (now (calls .entry))))) r ⌝ }
+    ensures { λ r. ⌜ Becomes network (viewAfterAll (fresh (topologyOf network)) (callsIn (counted (now (calls .entry))))) r ⌝ }
 {
     let first = state::fresh_state(network);
     let n = call_records::counted(calls.len());

@@ -12,7 +12,7 @@ use Rattle.replay.proofs.run.Tie as tie
 use Rattle.replay.proofs.Replaying.{Running, none-run, one-run, all-run}
 
 abbrev Inv-loop : tie.InvT-loop
-Inv-loop calls st₀ from₀ st from = Running (viewAfterAll (viewOf st₀) (callsIn calls)) calls st from
+Inv-loop calls st₀ from₀ st from = Running (st₀ .network) (viewAfterAll (viewOf st₀) (callsIn calls)) calls st from
 
 abbrev μ-loop : tie.MeasureT-loop
 μ-loop calls st₀ from₀ st from = length calls - from
@@ -65,14 +65,14 @@ loop-again : tie.Need-loop-again Inv-loop μ-loop
 loop-again c =
     let start = c .before .before .before .before .before .before .before .before in
     let loop = c .before .before .before .before .before .before .loop in
-    one-run (viewAfterAll (viewOf (start .args .first)) (callsIn (start .args .calls .now))) (start .args .calls .now) (loop .st) (loop .from) (loop .inv)
+    one-run _ (viewAfterAll (viewOf (start .args .first)) (callsIn (start .args .calls .now))) (start .args .calls .now) (loop .st) (loop .from) (loop .inv)
     (c .before .before .before .before .before .loop-test .taken) _ (c .before .before .before .read-record .ensures) _ (c .before .made .ensures)
 
 returns : tie.Need-returns Inv-loop μ-loop
 returns c =
     let start = c .before .before .before in
     let loop = c .before .loop in
-    all-run (viewAfterAll (viewOf (start .args .first)) (callsIn (start .args .calls .now))) (start .args .calls .now) (loop .st) (loop .from) (loop .inv) (c .loop-test .left)
+    all-run _ (viewAfterAll (viewOf (start .args .first)) (callsIn (start .args .calls .now))) (start .args .calls .now) (loop .st) (loop .from) (loop .inv) (c .loop-test .left)
 
 pub run-spec : {M : Type 1} → statement M
 run-spec =
