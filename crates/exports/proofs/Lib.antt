@@ -1,1 +1,4 @@
 pub mod Answers
+pub mod Shows
+pub mod Numbers
+pub mod Values

@@ -1,21 +1,64 @@
--- What the functions for other languages answer. Assumes nothing.
-use mathlib.Core.List.{List}
+-- What the functions for other languages answer and leave in the buffers that they are lent. Assumes nothing.
+use mathlib.Core.Path.{_≡_}
+use mathlib.Core.Bool.{true}
+use mathlib.Core.List.{List, [], _∷_, _++_}
 use Prim.Native.Nat.{ℕ, _+_}
 use lib.ListN.{length}
 use Rattle.refusals.specs.Refusals.{Outcome, given, refused, onGiven}
-use Rattle.network.specs.Network.{Topology}
-use Rattle.network_file.specs.Writing.{writeNetwork, bufferAfter}
+use Rattle.numbers.specs.Numbers.{IsBytes}
+use Rattle.network.specs.declared.Link.{Link}
+use Rattle.network_file.specs.Reading.{readNetwork}
+use Rattle.network_file.specs.Lent.{inRoom, lengthOf, bufferAfter}
+use Rattle.network_file.specs.Writing.{writeNetwork}
+use Rattle.ledger.specs.Sessions.{Session, View}
+use Rattle.ledger.specs.Sound.{intact}
+use Rattle.ledger.specs.Calls.{lookup, freeCount}
+use Rattle.ledger.specs.Demand.{fresh}
+use Rattle.call_records.specs.Records.{callsIn, counted}
+use Rattle.call_records.specs.Served.{viewAfterAll}
 
--- an answer as one number: a length, or 1,000,000 and the refusal; every text is shorter (`text-bound`), and so is every image (`image-bound`)
+-- an answer as one number: a length or a count, or 1,000,000 and the refusal; no length or count is as large
 abbrev pub asNumber : Outcome ℕ → ℕ
 asNumber (given n) = n
 asNumber (refused n) = 1000000 + n
 
--- what a file says, written again into a buffer of so many bytes: the refusal of the file, or what the writer answers
-abbrev pub writtenAgain : Outcome Topology → ℕ → Outcome ℕ
-writtenAgain said room = onGiven said (λ t. writeNetwork t room)
+-- what is to be written into a lent buffer, or its refusal: the answer and the buffer after it
+pub record Exports (o : Outcome (List ℕ)) (before after : List ℕ) (r : ℕ) : Type 0 where
+  pub answer : r ≡ asNumber (lengthOf o)
+  pub buffer : after ≡ bufferAfter o before
 
--- the buffer after it: "lent bytes are then the same as before the call" where the file is refused, or what the writer leaves
-abbrev pub bufferAgain : Outcome Topology → List ℕ → List ℕ
-bufferAgain (given t) buffer = bufferAfter t (writeNetwork t (length buffer)) buffer
-bufferAgain (refused n) buffer = buffer
+-- THE STATE AFTER A LIST OF CALL RECORDS, as it shows, on the fresh network that a file says; or the refusal of the file
+unfoldable pub stateAfter : List ℕ → List ℕ → Outcome View
+stateAfter file calls = onGiven (readNetwork file) (λ net. given (viewAfterAll (fresh net) (callsIn (counted calls))))
+
+-- IT IS NEVER BROKEN, so that no call on it is refused with 0: "0 can only meet a caller that builds a state by hand"
+abbrev pub AfterIntact : Type 0
+AfterIntact = (file calls : List ℕ) → IsBytes file → (v : View) → stateAfter file calls ≡ given v → intact v ≡ true
+
+-- a session as numbers: how many hops it has, its delay, the link of each hop and the frame of each hop
+abbrev pub sessionNumbers : Session → List ℕ
+sessionNumbers s = length (s .route) ∷ s .held .delay ∷ (s .route ++ s .held .frames)
+
+-- LOOKUP on the state after call records, into a buffer of so many numbers
+unfoldable pub lookupAfter : List ℕ → List ℕ → ℕ → ℕ → Outcome (List ℕ)
+lookupAfter file calls number room =
+    onGiven (stateAfter file calls) (λ v. onGiven (lookup v number) (λ s. inRoom (length (sessionNumbers s)) room (sessionNumbers s)))
+
+-- FREE FRAMES of a link on the state after call records
+unfoldable pub freeAfter : List ℕ → List ℕ → ℕ → Outcome ℕ
+freeAfter file calls link = onGiven (stateAfter file calls) (λ v. freeCount v link)
+
+-- WHAT A FILE SAYS, WRITTEN AGAIN into a buffer of so many bytes: the refusal of the file, or what the writer writes
+unfoldable pub writtenAgain : List ℕ → ℕ → Outcome (List ℕ)
+writtenAgain file room = onGiven (readNetwork file) (λ t. writeNetwork t room)
+
+-- the links with these K, Z and closed frames; there are as many as the shortest list has
+unfoldable pub linksFrom : List ℕ → List ℕ → List ℕ → List Link
+linksFrom [] zs cs = []
+linksFrom (k ∷ ks) [] cs = []
+linksFrom (k ∷ ks) (z ∷ zs) [] = []
+linksFrom (k ∷ ks) (z ∷ zs) (c ∷ cs) = record { frames = k; range = z; closed = c } ∷ linksFrom ks zs cs
+
+-- A NETWORK GIVEN AS VALUES, WRITTEN into a buffer of so many bytes
+unfoldable pub writtenOf : ℕ → List ℕ → List ℕ → List ℕ → ℕ → Outcome (List ℕ)
+writtenOf T ks zs cs room = writeNetwork (record { ticks = T; links = linksFrom ks zs cs }) room

@@ -72,6 +72,12 @@ stored-back t e =
 pub read-stands : ReadStands
 read-stands s t r b e d = ap topologyOf (d .network ∙ ap storedIn e) ∙ stored-back t (read-passes s t b e)
 
+-- and it passed its checks, so that a state may be begun on it
+pub loaded-passes : (s : List ℕ) (r : Loaded) → IsBytes s → Reads (readNetwork s) r → r .verdict ≡ Passed → networkCheck (topologyOf (r .network)) ≡ given pass
+loaded-passes s r b d e =
+    let t = passed-says s r d e in
+    ap networkCheck (read-stands s (t .0) r b (t .1) d) ∙ read-passes s (t .0) b (t .1)
+
 -- a write that was not refused
 record Done (t : Topology) (room size : ℕ) : Type 0 where
   pub passed : networkCheck t ≡ given pass

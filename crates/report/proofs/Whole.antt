@@ -11,8 +11,7 @@ use Rattle.refusals.specs.Refusals.{pass, given, refusalNumber}
 use Rattle.refusals.specs.declared.Refusal.{Refusal}
 use Rattle.refusals.specs.declared.Verdict.the-variants.{Passed, Refused}
 use Rattle.numbers.specs.Numbers.{IsBytes}
-use Rattle.network.specs.Network.{Topology, topologyOf}
-use Rattle.network.specs.Checks.{networkCheck}
+use Rattle.network.specs.Network.{Topology}
 use Rattle.network_file.specs.declared.Loaded.{Loaded}
 use Rattle.network_file.specs.declared.Written.the-variants as written
 use Rattle.network_file.specs.Reading.{readNetwork, Reads}
@@ -61,10 +60,6 @@ module _ (file calls : List ℕ) (bytes : IsBytes file) (l : Loaded) (reads : Re
     says : readNetwork file ≡ given said
     unfolding said
     says = passed-says file l reads e .1
-
-    -- what was read passed its checks, and so a state may be begun on it
-    pub read-passed : networkCheck (topologyOf (l .network)) ≡ given pass
-    read-passed = ap networkCheck (read-stands file said l bytes says reads) ∙ read-passes file said bytes says
 
     module _ (st : State) (begun : st ≡ freshState (l .network)) where
       first-view : viewOf st ≡ fresh said

@@ -9,29 +9,15 @@ enum-known-written c = search needs
 enum-known-written-2 : tie.Need-enum-known-written-2
 enum-known-written-2 c = search needs
 
-number-requires : tie.Need-number-requires
-number-requires c κs = search needs
-
-cast-result : tie.Need-cast-result
-cast-result c = search needs
-
-add-result : tie.Need-add-result
-add-result c = search needs
+refused-requires : tie.Need-refused-requires
+refused-requires c κs = search needs
 
 returns : tie.Need-returns
 returns c = search needs
 
 returns-2 : tie.Need-returns-2
-returns-2 c = rw (c .before .before .written2 .given .1, c .number .ensures)
+returns-2 c = rw (c .before .before .written2 .given .1) (c .refused .ensures)
 
 pub as-number-spec : {M : Type 1} → statement M
 as-number-spec =
-    tie.close
-    (tie.spec
-    enum-known-written
-    enum-known-written-2
-    number-requires
-    cast-result
-    add-result
-    returns
-    returns-2)
+    tie.close (tie.spec enum-known-written enum-known-written-2 refused-requires returns returns-2)

@@ -1,6 +1,6 @@
 -- `exports::frames_image` meets its contract. Assumes nothing.
 use borrow.Author.Needs.{needs}
-use Rattle.exports.proofs.Answers.{refused-number, image-number}
+use Rattle.exports.proofs.Answers.{image-refused, image-written}
 use Rattle.exports.proofs.frames_image.Statement.{statement}
 use Rattle.exports.proofs.frames_image.Tie as tie
 
@@ -10,8 +10,8 @@ read-network-requires c κs = search needs
 enum-known-verdict : tie.Need-enum-known-verdict
 enum-known-verdict c = search needs
 
-as-number-requires : tie.Need-as-number-requires
-as-number-requires c κs = search needs
+refused-requires : tie.Need-refused-requires
+refused-requires c κs = search needs
 
 enum-told : tie.Need-enum-told
 enum-told c = search needs
@@ -19,13 +19,13 @@ enum-told c = search needs
 write-network-requires : tie.Need-write-network-requires
 write-network-requires c κs = search needs
 
-as-number-requires-2 : tie.Need-as-number-requires-2
-as-number-requires-2 c κs = search needs
+as-number-requires : tie.Need-as-number-requires
+as-number-requires c κs = search needs
 
 returns : tie.Need-returns
 returns c =
     let read = c .before .before .before .before in
-    refused-number _ (λ i. read .before .before .shared-slice-known .given i .fits) _ (read .read-network .ensures) _ _ (c .before .before .verdict .given .1) _ (c .as-number .ensures)
+    image-refused _ _ (read .read-network .ensures) _ (c .before .before .verdict .given .1) _ _ (c .refused .ensures)
 
 same-length : tie.Need-same-length
 same-length c = search needs
@@ -33,7 +33,7 @@ same-length c = search needs
 returns-2 : tie.Need-returns-2
 returns-2 c =
     let read = c .before .before .before .before .before .before .before .before in
-    image-number _ (λ i. read .before .before .shared-slice-known .given i .fits) _ (read .read-network .ensures) _ (c .before .before .before .before .before .before .enum-told .given .1) _ _ (c .before .before .before .write-network .ensures) _ (c .as-number2 .ensures)
+    image-written _ _ (read .read-network .ensures) (λ i. read .before .before .shared-slice-known .given i .fits) (c .before .before .before .before .before .before .enum-told .given .1) _ _ _ (c .before .before .before .write-network .ensures) _ (c .as-number .ensures)
 
 pub frames-image-spec : {M : Type 1} → statement M
 frames-image-spec =
@@ -41,10 +41,10 @@ frames-image-spec =
     (tie.spec
     read-network-requires
     enum-known-verdict
-    as-number-requires
+    refused-requires
     enum-told
     write-network-requires
-    as-number-requires-2
+    as-number-requires
     returns
     same-length
     returns-2)

@@ -3,7 +3,8 @@ use borrow.Author.Needs.{needs}
 use Rattle.report.proofs.write_text.Statement.{statement}
 use Rattle.report.proofs.write_text.Tie as tie
 use Rattle.call_records.proofs.Calls.{counted-long}
-use Rattle.report.proofs.Whole.{refused-room, refused-put, read-passed, read-room, read-put}
+use Rattle.network_file.proofs.RoundTrip.{loaded-passes}
+use Rattle.report.proofs.Whole.{refused-room, refused-put, read-room, read-put}
 
 read-network-requires : tie.Need-read-network-requires
 read-network-requires c κs = search needs
@@ -22,7 +23,7 @@ enum-told c = search needs
 
 fresh-state-requires : tie.Need-fresh-state-requires
 fresh-state-requires c κs = let start = c .before .before .before .before .before .before .before in
-    read-passed (start .args .file .now) (start .args .calls .now) (λ i. c .before .before .before .before .before .before .shared-slice-known .given i .fits) _ (c .before .before .before .read-network .ensures) (c .before .enum-told .given .1)
+    loaded-passes (start .args .file .now) _ (λ i. c .before .before .before .before .before .before .shared-slice-known .given i .fits) (c .before .before .before .read-network .ensures) (c .before .enum-told .given .1)
 
 counted-requires : tie.Need-counted-requires
 counted-requires c κs = search needs

@@ -1,0 +1,118 @@
+-- What lookup and free frames answer on the state after call records. Assumes nothing.
+use mathlib.Core.Path.{_≡_, refl, sym, ap, subst, _∙_}
+use mathlib.Core.Bool.{true}
+use mathlib.Core.List.{List, [], _∷_, _++_}
+use Prim.Native.Nat.{ℕ, _+_, _*_, _<_, _≤_}
+use native.Mathlib.Omega.{arith}
+use lib.ListN.{length, take, drop, set, length-append, length-map}
+use Rattle.places.specs.Places.{firsts}
+use Rattle.places.specs.Put.{putAt}
+use Rattle.places.proofs.Firsts.{length-firsts, firsts-back, firsts-take}
+use Rattle.places.proofs.Puts.{Grown, grown-none, grow, put-set, put-zero}
+use Rattle.refusals.specs.declared.Refusal.{Refusal}
+use Rattle.refusals.specs.declared.Verdict.{Verdict}
+use Rattle.refusals.specs.declared.Verdict.the-variants.{Passed, Refused}
+use Rattle.refusals.specs.Refusals.{Outcome, given, refused, onGiven, refusalNumber}
+use Rattle.numbers.specs.Numbers.{IsBytes}
+use Rattle.network.specs.declared.Network.{Network}
+use Rattle.network.specs.Network.{Topology, topologyOf}
+use Rattle.network_file.specs.declared.Loaded.{Loaded}
+use Rattle.network_file.specs.Reading.{readNetwork, Reads}
+use Rattle.network_file.specs.Lent.{inRoom}
+use Rattle.forwarding.specs.declared.Held.{Held}
+use Rattle.ledger.specs.Held.{heldPlaces, heldOver}
+use Rattle.ledger.specs.Sessions.{Session, View, hopsOf, hopOf}
+use Rattle.ledger.specs.Calls.{lookup, freeCount}
+use Rattle.ledger.specs.Demand.{fresh}
+use Rattle.ledger.proofs.Held.{schedule-length, frames-in}
+use Rattle.ledger.proofs.Intact.{intact-is, session-good}
+use Rattle.ledger.proofs.Lists.{all-member}
+use Rattle.ledger.proofs.Shown.{lookup-given, looked-up}
+use Rattle.ledger.specs.Sound.{goodSession}
+use Rattle.routes.proofs.Routes.{route-long}
+use Rattle.call_records.specs.Records.{callsIn, counted}
+use Rattle.call_records.specs.Served.{viewAfterAll}
+use Rattle.state.specs.declared.State.{State}
+use Rattle.state.specs.State.{viewOf}
+use Rattle.sessions.specs.declared.Shown.{Shown}
+use Rattle.sessions.specs.declared.Looked.{Looked}
+use Rattle.sessions.specs.declared.Counted.{Counted}
+use Rattle.sessions.specs.declared.Tallied.{Tallied}
+use Rattle.sessions.specs.Calls.{Tells, shownOf, notShown, Looks, countedOf, notCounted, Tallies}
+use Rattle.replay.specs.Replayed.{Becomes}
+use Rattle.exports.specs.Exported.{asNumber, Exports, stateAfter, sessionNumbers, lookupAfter, freeAfter}
+use Rattle.exports.specs.Inner.{placeNumbers, shownNumbers, Fits, countBy, countRead}
+use Rattle.exports.proofs.Answers.{file-refused, file-passed}
+
+-- ---- a session that a lookup gives has a route that passed, and a frame for each of its links
+module _ (v : View) (n : ℕ) (s : Session) (e : lookup v n ≡ given s) where
+  few-hops : length (s .route) ≤ 8
+  few-hops =
+      let g = lookup-given v n s e in
+      let good = session-good (v .network) s (all-member (goodSession (v .network)) (v .live) (intact-is v (g .0) .sessions) (looked-up n (v .live) s (g .1) .0)) in
+      route-long (v .network) (s .route) (good .route) .1
+
+  frame-each : length (s .held .frames) ≡ length (s .route)
+  frame-each =
+      let g = lookup-given v n s e in
+      let good = session-good (v .network) s (all-member (goodSession (v .network)) (v .live) (intact-is v (g .0) .sessions) (looked-up n (v .live) s (g .1) .0)) in
+      let hops = hopsOf (v .network) [] (s .route) in
+      ap (λ (fs : List ℕ). length fs) (sym (frames-in hops (s .held))) ∙ schedule-length hops _ (good .schedule) ∙ length-map (s .route) (hopOf (v .network) [])
+
+  numbers-shown : placeNumbers (length (s .route)) (firsts 8 (s .route) 0) (heldPlaces (s .held)) ≡ sessionNumbers s
+  numbers-shown =
+      let f : firsts (length (s .route)) (firsts 8 (s .held .frames) 0) 0 ≡ s .held .frames = rw (← frame-each) (firsts-back 8 (s .held .frames) 0 (omega (arith, few-hops, frame-each))) in
+      rw (firsts-back 8 (s .route) 0 few-hops, f)
+
+module _ (v : View) (n : ℕ) (q : Shown) (tells : Tells shownOf notShown (lookup v n) q) where
+  pub shown-fits : Fits (q .verdict) (q .hops)
+  shown-fits = go (lookup v n) refl tells
+    where
+      go : (o : Outcome Session) → lookup v n ≡ o → Tells shownOf notShown o q → Fits (q .verdict) (q .hops)
+      go (given s) e t = rw t (few-hops v n s e)
+      go (refused k) e t = rw (t .2) tt
+
+  pub shown-numbers : (room : ℕ) → shownNumbers (q .verdict) (q .hops) (q .route) (q .held) room ≡ onGiven (lookup v n) (λ s. inRoom (length (sessionNumbers s)) room (sessionNumbers s))
+  shown-numbers room = go (lookup v n) refl tells
+    where
+      go : (o : Outcome Session) → lookup v n ≡ o → Tells shownOf notShown o q
+          → shownNumbers (q .verdict) (q .hops) (q .route) (q .held) room ≡ onGiven o (λ s. inRoom (length (sessionNumbers s)) room (sessionNumbers s))
+      go (given s) e t = rw t (ap (λ (x : List ℕ). inRoom (length x) room x) (numbers-shown v n s e))
+      go (refused k) e t = rw (t .2) (ap refused (t .1))
+
+counts-read : (o : Outcome ℕ) (q : Counted) → Tells countedOf notCounted o q → countRead q ≡ o
+counts-read (given n) q t = rw t
+counts-read (refused k) q t = rw (t .2) (ap refused (t .1))
+
+-- ---- on the state after call records
+module _ (file calls : List ℕ) (l : Loaded) (reads : Reads (readNetwork file) l) where
+  pub after-refused : (r : Refusal) → l .verdict ≡ Refused r → stateAfter file calls ≡ refused (refusalNumber r)
+  unfolding stateAfter
+  after-refused r e = file-refused file l reads r e (λ net. given (viewAfterAll (fresh net) (callsIn (counted calls))))
+
+  module _ (bytes : IsBytes file) (e : l .verdict ≡ Passed) (st : State) (b : Becomes (l .network) (viewAfterAll (fresh (topologyOf (l .network))) (callsIn (counted calls))) st) where
+    after-is : stateAfter file calls ≡ given (viewOf st)
+    unfolding stateAfter
+    after-is = file-passed file l reads bytes e (λ net. given (viewAfterAll (fresh net) (callsIn (counted calls)))) ∙ ap given (sym (b .view))
+
+    module _ (number : ℕ) (r : Looked) (looks : Looks st number r) where
+      pub looked-fits : Fits (r .shown .verdict) (r .shown .hops)
+      looked-fits = shown-fits (viewOf st) number (r .shown) (looks .shown)
+
+      pub looked-numbers : (before after : List ℕ) (k : ℕ) → Exports (shownNumbers (r .shown .verdict) (r .shown .hops) (r .shown .route) (r .shown .held) (length before)) before after k
+          → Exports (lookupAfter file calls number (length before)) before after k
+      unfolding lookupAfter
+      looked-numbers before after k w = rw (after-is, ← shown-numbers (viewOf st) number (r .shown) (looks .shown) (length before)) w
+
+    pub tallied-number : (link : ℕ) (r : Tallied) → Tallies st link r → (k : ℕ) → k ≡ asNumber (countRead (r .counted)) → k ≡ asNumber (freeAfter file calls link)
+    unfolding freeAfter
+    tallied-number link r t k w = w ∙ rw after-is (ap asNumber (counts-read (freeCount (viewOf st) link) (r .counted) (t .counted)))
+
+  pub lookup-refused : (r : Refusal) → l .verdict ≡ Refused r → (number room : ℕ) → lookupAfter file calls number room ≡ refused (refusalNumber r)
+  unfolding lookupAfter
+  lookup-refused r e number room = rw (after-refused r e)
+
+  pub free-refused : (r : Refusal) → l .verdict ≡ Refused r → (link k : ℕ) → k ≡ 1000000 + refusalNumber r → k ≡ asNumber (freeAfter file calls link)
+  unfolding freeAfter
+  free-refused r e link k w = w ∙ rw (after-refused r e)
+

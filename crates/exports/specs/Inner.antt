@@ -1,0 +1,33 @@
+-- Words of the contracts of inner functions. They are no part of what is promised: the exported functions promise in the words of `specs/Exported`. Assumes nothing.
+use mathlib.Core.List.{List, _∷_, _++_}
+use Prim.Native.Nat.{ℕ, _≤_}
+use lib.ListN.{length}
+use Rattle.places.specs.Places.{firsts}
+use Rattle.refusals.specs.Refusals.{Outcome, given, refused, refusalNumber}
+use Rattle.refusals.specs.declared.Verdict.{Verdict}
+use Rattle.refusals.specs.declared.Verdict.the-variants.{Passed, Refused}
+use Rattle.forwarding.specs.declared.Held.{Held}
+use Rattle.network_file.specs.Lent.{inRoom}
+use Rattle.sessions.specs.declared.Counted.{Counted}
+
+-- the numbers of what a lookup shows in eight places
+abbrev pub placeNumbers : ℕ → List ℕ → Held → List ℕ
+placeNumbers hops route held = hops ∷ held .delay .0 ∷ (firsts hops route 0 ++ firsts hops (held .frames) 0)
+
+-- what it writes of them, by its verdict
+abbrev pub shownNumbers : Verdict → ℕ → List ℕ → Held → ℕ → Outcome (List ℕ)
+shownNumbers Passed hops route held room = inRoom (length (placeNumbers hops route held)) room (placeNumbers hops route held)
+shownNumbers (Refused r) hops route held room = refused (refusalNumber r)
+
+-- what is shown stands in eight places
+abbrev pub Fits : Verdict → ℕ → Type 0
+Fits Passed hops = hops ≤ 8
+Fits (Refused r) hops = Unit {0}
+
+-- a number of free frames, by its verdict
+abbrev pub countBy : Verdict → ℕ → Outcome ℕ
+countBy Passed n = given n
+countBy (Refused r) n = refused (refusalNumber r)
+
+abbrev pub countRead : Counted → Outcome ℕ
+countRead q = countBy (q .verdict) (q .count)
