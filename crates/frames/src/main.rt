@@ -3,6 +3,8 @@
 use libc::STDIN_FILENO;
 use libc::STDOUT_FILENO;
 use network_file::Written;
+ghost use mathlib.Core.Path.{_≡_};
+ghost use lib.ListN.{length, replicate};
 ghost use Rattle.io.specs.Counts.{Counts};
 
 // The bytes of net.bin, at the start of `file`, and how many: none where it can't be opened or read. The longest network file has 355 bytes, so that
@@ -24,9 +26,16 @@ fn read_file(file: &mut [u8]) -> usize
     n
 }
 
+// Room for every text (`bound-most`), all of it 0.
+fn room() -> [u8; 720918]
+    ensures { λ r. ⌜ (r ≡ replicate 720918 0) × (length r ≡ 720918) ⌝ }
+{
+    [0; 720918]
+}
+
 // Writes the text of a run. The buffer serves for every text, so that no run is refused.
 fn run(file: &[u8], calls: &[u8]) {
-    let mut out = report::room();
+    let mut out = room();
     let written = report::report(file, calls, &mut out);
     match written {
         Written::Length(n) => {

@@ -4,7 +4,7 @@ use Rattle.frames.proofs.run.Statement.{statement}
 use Rattle.frames.proofs.run.Tie as tie
 use mathlib.Core.Path.{sym}
 use lib.Seq.{length-take-le}
-use Rattle.report.proofs.Whole.{length-within}
+use Rattle.network_file.proofs.Lent.{length-within}
 
 room-requires : tie.Need-room-requires
 room-requires c κs = search needs
@@ -19,10 +19,10 @@ enum-known-written : tie.Need-enum-known-written
 enum-known-written c = search needs
 
 array-share-prefix-out : tie.Need-array-share-prefix-out
-array-share-prefix-out c = length-within _ _ _ _ (c .before .before .before .before .report .ensures) _ (c .before .written .given .1)
+array-share-prefix-out c = length-within _ _ _ _ (c .before .before .before .before .report .ensures .written) _ (c .before .written .given .1)
 
 slice-aggregate-write-all : tie.Need-slice-aggregate-write-all
-slice-aggregate-write-all c = sym (length-take-le _ (c .before .before .before .before .before .report .last .1 .1 .0) (length-within _ _ _ _ (c .before .before .before .before .before .report .ensures) _ (c .before .before .written .given .1)))
+slice-aggregate-write-all c = sym (length-take-le _ (c .before .before .before .before .before .report .last .1 .1 .0) (length-within _ _ _ _ (c .before .before .before .before .before .report .ensures .written) _ (c .before .before .written .given .1)))
 
 write-all-requires : tie.Need-write-all-requires
 write-all-requires c κs = search needs
