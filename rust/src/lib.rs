@@ -5,6 +5,7 @@ pub mod dijkstra;
 pub mod library;
 pub mod listing;
 pub mod model;
+pub mod network_file;
 pub mod random;
 pub mod route;
 pub mod survivors;

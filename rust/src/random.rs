@@ -1,7 +1,7 @@
 //! Seeded random inputs: networks, damaged files, call lists and buffer lengths.
 
 use crate::listing;
-use crate::model::{Link, Network, ABSENT};
+use crate::network_file::{image, Draft, Link, Network, Record, ABSENT};
 use crate::route::{self, MAX_HOPS};
 
 /// The bytes of standard input that count.
@@ -469,69 +469,7 @@ fn part_of_all(random: &mut Random, network: &Network) -> Vec<u8> {
     route
 }
 
-// ---- The network file ----
-
-/// A link record before it is put into bytes: which fields are written, and a map byte's stray bits.
-struct Record {
-    stray: u8,
-    frames: Option<u8>,
-    range: Option<u8>,
-    closed: Option<u64>,
-}
-
-impl Record {
-    fn of(link: &Link) -> Self {
-        Record {
-            stray: 0,
-            frames: (link.frames != ABSENT.frames).then_some(link.frames as u8),
-            range: (link.range != ABSENT.range).then_some(link.range as u8),
-            closed: (link.closed != ABSENT.closed).then_some(link.closed),
-        }
-    }
-
-    fn put(&self, bytes: &mut Vec<u8>) {
-        let map = u8::from(self.frames.is_some())
-            | u8::from(self.range.is_some()) << 1
-            | u8::from(self.closed.is_some()) << 2;
-        bytes.push(map | self.stray);
-        bytes.extend(self.frames);
-        bytes.extend(self.range);
-        if let Some(closed) = self.closed {
-            bytes.extend(closed.to_le_bytes());
-        }
-    }
-}
-
-/// The file before it is put into bytes.
-struct Draft {
-    ticks: u16,
-    number: u8,
-    records: Vec<Record>,
-}
-
-impl Draft {
-    fn of(network: &Network) -> Self {
-        Draft {
-            ticks: network.ticks as u16,
-            number: network.links.len() as u8,
-            records: network.links.iter().map(Record::of).collect(),
-        }
-    }
-
-    fn bytes(&self) -> Vec<u8> {
-        let mut bytes = self.ticks.to_le_bytes().to_vec();
-        bytes.push(self.number);
-        for record in &self.records {
-            record.put(&mut bytes);
-        }
-        bytes
-    }
-}
-
-/// The file of a network.
-pub fn image(network: &Network) -> Vec<u8> {
-    Draft::of(network).bytes()
-}
+// ---- Damaged files ----
 
 /// A file of the network with one or more faults.
 pub fn damaged(random: &mut Random, network: &Network) -> Vec<u8> {
@@ -758,7 +696,7 @@ pub fn too_little_room(random: &mut Random, text: usize) -> usize {
 #[cfg(test)]
 mod tests {
     use super::*;
-    use crate::model::read_network;
+    use crate::network_file::read_network;
 
     #[test]
     fn a_network_is_read_back_from_its_file() {

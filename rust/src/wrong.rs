@@ -1,9 +1,9 @@
 //! Wrong models, each with one student's mistake, to show that the comparison can fail.
 
 use crate::dijkstra;
-use crate::model::{self, check_link, read_link, refuse};
-use crate::model::{Ledger, Link, Network, Refusal, Rules, Session, ABSENT};
-use crate::random;
+use crate::model::{self, Ledger, Rules, Session};
+use crate::network_file::{check_link, image, read_link, read_network, refuse};
+use crate::network_file::{Link, Network, Refusal, ABSENT};
 use crate::route::{self, Answer, Hop};
 
 /// A wrong model: its mistake and its text.
@@ -459,7 +459,7 @@ fn read_by(
     record: impl Fn(&[u8]) -> Result<(Link, usize), Refusal>,
     check: impl Fn(u32, &Link) -> Result<(), Refusal>,
 ) -> Result<Network, Refusal> {
-    let head = model::read_network(&file[..file.len().min(3)]);
+    let head = read_network(&file[..file.len().min(3)]);
     if let Err(refusal @ 1..=3) = head {
         return Err(refusal);
     }
@@ -521,17 +521,17 @@ mistake! { TicksBeforeLinks,
     fn read(&self, file: &[u8]) -> Result<Network, Refusal> {
         let ticks = |file: &[u8]| u32::from(file[0]) + 256 * u32::from(file[1]);
         refuse(3, file.len() >= 3 && !(1..=960).contains(&ticks(file)))?;
-        model::read_network(file)
+        read_network(file)
     }
 }
 
 mistake! { MoreBytesIgnored,
     fn read(&self, file: &[u8]) -> Result<Network, Refusal> {
         let mut end = file.len();
-        while model::read_network(&file[..end]) == Err(10) {
+        while read_network(&file[..end]) == Err(10) {
             end -= 1;
         }
-        model::read_network(&file[..end])
+        read_network(&file[..end])
     }
 }
 
@@ -660,8 +660,8 @@ pub struct WrongImage {
 
 /// The file of the network that a file says, where so many bytes are room for it; or the refusal.
 pub fn image_of(file: &[u8], room: usize) -> Result<Vec<u8>, u64> {
-    let network = model::read_network(file).map_err(u64::from)?;
-    let image = random::image(&network);
+    let network = read_network(file).map_err(u64::from)?;
+    let image = image(&network);
     if room < image.len() {
         return Err(20);
     }
@@ -700,10 +700,10 @@ pub fn all_images() -> Vec<WrongImage> {
             right_image(file, out)
         }),
         writer("closed frames of no link written", |file, out| {
-            let network = model::read_network(file).map_err(u64::from)?;
+            let network = read_network(file).map_err(u64::from)?;
             let links = network.links.iter();
             let links = links.map(|link| Link { closed: 0, ..*link }).collect();
-            let open = random::image(&Network { links, ..network });
+            let open = image(&Network { links, ..network });
             right_image(file, out)?;
             out[..open.len()].copy_from_slice(&open);
             Ok(open.len())
@@ -714,7 +714,7 @@ pub fn all_images() -> Vec<WrongImage> {
 #[cfg(test)]
 mod tests {
     use super::*;
-    use crate::random::Random;
+    use crate::random::{self, Random};
 
     /// A wrong search differs by its mistake alone: without one it is right.
     #[test]
@@ -738,7 +738,7 @@ mod tests {
             let network = random::network(&mut random, 64);
             let file = random::damaged(&mut random, &network);
             let read = read_by(&file, read_link, check_link);
-            assert_eq!(read, model::read_network(&file));
+            assert_eq!(read, read_network(&file));
         }
     }
 }
