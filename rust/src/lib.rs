@@ -1,11 +1,14 @@
 //! An independent cross-check of the reservation program `frames`.
 
+pub mod call_records;
 pub mod compared;
 pub mod dijkstra;
+pub mod inputs;
 pub mod library;
 pub mod listing;
 pub mod model;
 pub mod network_file;
+pub mod networks;
 pub mod random;
 pub mod route;
 pub mod survivors;

@@ -1,16 +1,9 @@
 //! The program `frames` as a plain model: call records, refusals, ledger and text.
 
+use crate::call_records::{read_call, Call};
 use crate::network_file::{read_network, refuse, Network, Refusal};
 use crate::route::{self, Answer, Hop, MAX_HOPS};
 use std::io::Write;
-
-/// One call; the route is that part of the call bytes.
-#[derive(Clone, Copy, Debug, PartialEq, Eq)]
-pub enum Call<'a> {
-    SetUp { number: u16, route: &'a [u8] },
-    Quote { route: &'a [u8] },
-    Release { number: u16 },
-}
 
 /// What a call answers: a schedule, a release done, or a refusal; 18 has its count.
 enum Outcome {
@@ -150,41 +143,6 @@ fn serve_all(rules: &impl Rules, network: &Network, calls: &[u8], text: &mut Vec
 }
 
 // ---- The calls ----
-
-/// Reads the call record at the start of the bytes; answers the call and the bytes used.
-fn read_call(bytes: &[u8]) -> Result<(Call<'_>, usize), Refusal> {
-    match bytes[0] {
-        1 => {
-            let number = read_number(bytes)?;
-            let route = read_route(bytes, 3)?;
-            Ok((Call::SetUp { number, route }, 4 + route.len()))
-        }
-        2 => {
-            let route = read_route(bytes, 1)?;
-            Ok((Call::Quote { route }, 2 + route.len()))
-        }
-        3 => {
-            let number = read_number(bytes)?;
-            Ok((Call::Release { number }, 3))
-        }
-        _ => Err(11),
-    }
-}
-
-/// The session number after the kind, low byte first.
-fn read_number(bytes: &[u8]) -> Result<u16, Refusal> {
-    refuse(11, bytes.len() < 3)?;
-    Ok(u16::from_le_bytes([bytes[1], bytes[2]]))
-}
-
-/// The route whose length stands at the given place.
-fn read_route(bytes: &[u8], at: usize) -> Result<&[u8], Refusal> {
-    refuse(11, bytes.len() <= at)?;
-    let start = at + 1;
-    let end = start + usize::from(bytes[at]);
-    refuse(11, bytes.len() < end)?;
-    Ok(&bytes[start..end])
-}
 
 /// Checks 12 to 15 of a route, each for the whole route before the next.
 pub fn check_route(network: &Network, route: &[u8]) -> Result<(), Refusal> {

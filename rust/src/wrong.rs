@@ -714,14 +714,15 @@ pub fn all_images() -> Vec<WrongImage> {
 #[cfg(test)]
 mod tests {
     use super::*;
-    use crate::random::{self, Random};
+    use crate::random::Random;
+    use crate::{inputs, networks};
 
     /// A wrong search differs by its mistake alone: without one it is right.
     #[test]
     fn the_search_without_a_mistake_is_right() {
         let mut random = Random::new(4);
         for _ in 0..2_000 {
-            let input = random::input(&mut random);
+            let input = inputs::input(&mut random);
             let calls = &input.calls[..input.calls.len().min(1_000)];
             assert_eq!(
                 model::transcript_by(&RIGHT, &input.file, calls),
@@ -735,8 +736,8 @@ mod tests {
     fn the_reader_without_a_mistake_is_right() {
         let mut random = Random::new(5);
         for _ in 0..20_000 {
-            let network = random::network(&mut random, 64);
-            let file = random::damaged(&mut random, &network);
+            let network = networks::network(&mut random, 64);
+            let file = networks::damaged(&mut random, &network);
             let read = read_by(&file, read_link, check_link);
             assert_eq!(read, read_network(&file));
         }

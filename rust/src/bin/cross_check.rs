@@ -1,8 +1,9 @@
 //! Compares the library with the model on random inputs, and then shows that wrong ones would be found.
 
 use frames_check::compared::Compared;
+use frames_check::inputs::{self, Input};
 use frames_check::listing::{Listed, MOST_PATHS};
-use frames_check::random::{self, Input, Random};
+use frames_check::random::{self, Random};
 use frames_check::route::{Answer, Hop};
 use frames_check::wrong::{self, Image, Report, Wrong, WrongImage, WrongLibrary};
 use frames_check::{dijkstra, library, listing, model};
@@ -197,7 +198,7 @@ impl Check {
     /// One random input: the library's text, then the wrong models and libraries.
     fn one_input(&mut self, random: &mut Random) {
         let mut times = std::mem::take(&mut self.times);
-        let input = timed(&mut times.inputs, || random::input(random));
+        let input = timed(&mut times.inputs, || inputs::input(random));
         let expected = timed(&mut times.model, || self.model_text(&input));
         let trial = Trial {
             enough: random::enough_room(random, expected.len()),

@@ -1,0 +1,357 @@
+//! Random inputs of the program: a network file and a list of calls.
+
+use crate::call_records::{push_quote, push_release, push_set_up};
+use crate::network_file::{image, Network};
+use crate::networks::{
+    closed_frames, damaged, fit, listed_network, network, roomy_network, Closing,
+};
+use crate::random::Random;
+use crate::route::MAX_HOPS;
+
+/// The bytes of standard input that count.
+const INPUT_LIMIT: usize = 65_536;
+
+/// One input of the program.
+pub struct Input {
+    pub file: Vec<u8>,
+    pub calls: Vec<u8>,
+}
+
+// ---- Whole inputs ----
+
+/// One random input. Most are short; the long lists are rare.
+pub fn input(random: &mut Random) -> Input {
+    match random.below(10_000) {
+        0..=2 => over_the_limit(random),
+        3..=14 => long_list(random),
+        15..=64 => full_ledger(random),
+        65..=2_499 => damaged_input(random),
+        2_500..=2_999 => random_bytes(random),
+        3_000..=5_499 => short_list(random, 64),
+        5_500..=6_499 => nearly_full(random),
+        6_500..=7_999 => listed_routes(random),
+        _ => short_list(random, 8),
+    }
+}
+
+/// A few calls on a network with up to so many frames per cycle.
+fn short_list(random: &mut Random, most_frames: u32) -> Input {
+    let network = network(random, most_frames);
+    let numbers = random.between(1, 6);
+    let number_of_calls = random.below(13);
+    let mut calls = mixed_calls(random, &network, number_of_calls, numbers);
+    spoil(random, &mut calls);
+    Input {
+        file: image(&network),
+        calls,
+    }
+}
+
+/// Many calls on one network.
+fn long_list(random: &mut Random) -> Input {
+    let most_frames = random.pick(&[8, 16, 64]);
+    let network = network(random, most_frames);
+    let numbers = random.pick(&[3, 20, 200]);
+    let number_of_calls = random.between(200, 600);
+    let mut calls = mixed_calls(random, &network, number_of_calls, numbers);
+    spoil(random, &mut calls);
+    Input {
+        file: image(&network),
+        calls,
+    }
+}
+
+/// Set-ups on few free frames, so that schedules run out.
+fn nearly_full(random: &mut Random) -> Input {
+    let most_frames = random.pick(&[4, 8, 16]);
+    let mut network = network(random, most_frames);
+    for link in &mut network.links {
+        link.closed = closed_frames(random, link.frames, Closing::NearlyAll);
+    }
+    let mut calls = Vec::new();
+    for _ in 0..random.between(2, 10) {
+        let number = random.below(8) as u16;
+        let route = good_route(random, &network);
+        match random.below(6) {
+            0 => push_release(&mut calls, number),
+            1 => push_quote(&mut calls, &route),
+            _ => push_set_up(&mut calls, number, &route),
+        }
+    }
+    Input {
+        file: image(&network),
+        calls,
+    }
+}
+
+/// Quotes over a route that can be listed, over its parts and the way back, with a few sessions among them.
+fn listed_routes(random: &mut Random) -> Input {
+    let network = listed_network(random);
+    let mut calls = Vec::new();
+    for _ in 0..random.between(3, 9) {
+        let number = random.below(4) as u16;
+        let route = part_of_all(random, &network);
+        match random.below(8) {
+            0 | 1 => push_set_up(&mut calls, number, &route),
+            2 => push_release(&mut calls, number),
+            _ => push_quote(&mut calls, &route),
+        }
+    }
+    Input {
+        file: image(&network),
+        calls,
+    }
+}
+
+/// Calls of random bytes, most of them small so that whole records come up.
+fn random_bytes(random: &mut Random) -> Input {
+    let network = network(random, 16);
+    let length = random.below(40);
+    let bound = random.pick(&[4, 6, 256]);
+    Input {
+        file: image(&network),
+        calls: (0..length).map(|_| random.below(bound) as u8).collect(),
+    }
+}
+
+/// Set-ups that fill all 96 places, and then some calls on the full ledger.
+fn full_ledger(random: &mut Random) -> Input {
+    let network = roomy_network(random);
+    let open_links = network.links.len() as u8 - 1;
+    let first = random.word() as u16;
+    let mut calls = Vec::new();
+    for step in 0..random.pick(&[94, 95, 96, 96, 97, 98]) {
+        let link = (step % u16::from(open_links)) as u8;
+        push_set_up(&mut calls, first.wrapping_add(step), &[link]);
+    }
+    for _ in 0..random.between(4, 40) {
+        let number = first.wrapping_add(random.below(130) as u16);
+        let route = some_route(random, &network);
+        match random.below(4) {
+            0 => push_release(&mut calls, number),
+            1 => push_quote(&mut calls, &route),
+            _ => push_set_up(&mut calls, number, &route),
+        }
+    }
+    Input {
+        file: image(&network),
+        calls,
+    }
+}
+
+/// A list around or over the bytes that count, with a record that ends at the limit or lies across it.
+fn over_the_limit(random: &mut Random) -> Input {
+    let network = network(random, 8);
+    let numbers = random.pick(&[2, 8, 100]);
+    let mut calls = Vec::with_capacity(INPUT_LIMIT + 512);
+    while calls.len() < INPUT_LIMIT - 512 {
+        good_call(random, &network, numbers, &mut calls);
+    }
+    let last_start = INPUT_LIMIT - random.below(7);
+    pad(&mut calls, last_start);
+    match random.below(5) {
+        0 => {}
+        1 | 2 => push_release(&mut calls, session_number(random, numbers)),
+        _ => push_set_up(&mut calls, 65_535, &[0]),
+    }
+    if random.chance(60) {
+        for _ in 0..random.below(100) {
+            good_call(random, &network, numbers, &mut calls);
+        }
+        let more = random.pick(&[0, 0, 1, 100_000]);
+        calls.extend(random.bytes(more));
+    }
+    Input {
+        file: image(&network),
+        calls,
+    }
+}
+
+/// Fills up to the length with short whole records, two or three bytes each.
+fn pad(calls: &mut Vec<u8>, length: usize) {
+    while calls.len() + 3 < length {
+        push_quote(calls, &[]);
+    }
+    match length - calls.len() {
+        3 => push_release(calls, 65_535),
+        _ => push_quote(calls, &[]),
+    }
+}
+
+/// A file with a fault, most often, and a few calls that are then never served.
+fn damaged_input(random: &mut Random) -> Input {
+    let network = network(random, 64);
+    let calls = mixed_calls(random, &network, 3, 2);
+    Input {
+        file: damaged(random, &network),
+        calls,
+    }
+}
+
+// ---- Call lists ----
+
+/// Calls with session numbers from a pool of the given size; some of their routes are refused.
+fn mixed_calls(random: &mut Random, network: &Network, number: usize, numbers: usize) -> Vec<u8> {
+    let mut calls = Vec::new();
+    for _ in 0..number {
+        good_call(random, network, numbers, &mut calls);
+    }
+    calls
+}
+
+/// One whole record.
+fn good_call(random: &mut Random, network: &Network, numbers: usize, calls: &mut Vec<u8>) {
+    let number = session_number(random, numbers);
+    match random.below(10) {
+        0..=4 => push_set_up(calls, number, &some_route(random, network)),
+        5 | 6 => push_quote(calls, &some_route(random, network)),
+        _ => push_release(calls, number),
+    }
+}
+
+/// A number of the pool 0, 256, 1, 257, 2, ...: some share the low byte, some the high byte.
+fn session_number(random: &mut Random, numbers: usize) -> u16 {
+    let place = random.below(numbers) as u16;
+    (place & 1) << 8 | place >> 1
+}
+
+/// The route over all links in the order of their numbers, or a part of it, or the way back.
+fn part_of_all(random: &mut Random, network: &Network) -> Vec<u8> {
+    let mut route: Vec<u8> = (0..network.links.len() as u8).collect();
+    if random.chance(30) {
+        route.truncate(random.between(1, route.len()));
+        route.drain(..random.below(route.len()));
+    }
+    if random.chance(50) {
+        route.reverse();
+    }
+    route
+}
+
+/// A route, in about one of seven cases one that is likely refused.
+fn some_route(random: &mut Random, network: &Network) -> Vec<u8> {
+    if random.chance(85) {
+        good_route(random, network)
+    } else {
+        bad_route(random, network)
+    }
+}
+
+/// Distinct links of which each divides the next or is divided by it.
+fn good_route(random: &mut Random, network: &Network) -> Vec<u8> {
+    let links = network.links.len();
+    let mut route = vec![random.below(links) as u8];
+    let length = random.between(1, MAX_HOPS).max(random.between(1, 4));
+    for _ in 0..3 * length {
+        let next = random.below(links) as u8;
+        let last = route[route.len() - 1];
+        let (before, here) = (
+            network.links[usize::from(last)].frames,
+            network.links[usize::from(next)].frames,
+        );
+        if route.len() < length && fit(before, here) && !route.contains(&next) {
+            route.push(next);
+        }
+    }
+    route
+}
+
+/// A route with a fault: empty, too long, an unknown link, a link twice, or any links at all.
+fn bad_route(random: &mut Random, network: &Network) -> Vec<u8> {
+    let links = network.links.len();
+    let mut route = good_route(random, network);
+    match random.below(7) {
+        0 => route.clear(),
+        1 => route = vec![random.below(links) as u8; random.pick(&[9, 9, 10, 200, 255])],
+        2 => route = (0..9).collect(),
+        3 => {
+            let at = random.below(route.len());
+            route[at] = random.pick(&[links as u8, links as u8 + 1, 32, 64, 255]);
+        }
+        4 => {
+            let again = random.pick(&route);
+            route.insert(random.below(route.len() + 1), again);
+            if random.chance(30) {
+                route.push(links as u8);
+            }
+        }
+        _ => {
+            let length = random.between(2, MAX_HOPS);
+            route = (0..length).map(|_| random.below(links) as u8).collect();
+            if random.chance(70) {
+                route = without_repeats(&route);
+            }
+        }
+    }
+    route
+}
+
+/// The route with each link only where it first stands.
+fn without_repeats(route: &[u8]) -> Vec<u8> {
+    let mut distinct = Vec::new();
+    for &link in route {
+        if !distinct.contains(&link) {
+            distinct.push(link);
+        }
+    }
+    distinct
+}
+
+/// Now and then cuts the list off or puts an unknown kind into it.
+fn spoil(random: &mut Random, calls: &mut Vec<u8>) {
+    match random.below(20) {
+        0 | 1 => calls.truncate(random.below(calls.len() + 1)),
+        2 => calls.push(random.pick(&[0, 4, 5, 255])),
+        3 => {
+            let kind = random.pick(&[0, 4, 5, 255]);
+            calls.insert(random.below(calls.len() + 1), kind);
+        }
+        4 => {
+            let part: &[u8] = random.pick(&[&[1], &[2], &[3], &[1, 0], &[3, 0], &[1, 0, 0]]);
+            calls.extend(part);
+        }
+        5 => calls.extend([2, 200, 0, 1]),
+        _ => {}
+    }
+}
+
+#[cfg(test)]
+mod tests {
+    use super::*;
+    use crate::listing;
+    use crate::network_file::read_network;
+
+    #[test]
+    fn good_routes_are_good() {
+        let mut random = Random::new(2);
+        for _ in 0..10_000 {
+            let network = network(&mut random, 64);
+            let route = good_route(&mut random, &network);
+            assert_eq!(crate::model::check_route(&network, &route), Ok(()));
+        }
+    }
+
+    #[test]
+    fn padding_ends_at_its_length() {
+        for start in 0..10 {
+            for length in start + 2..start + 20 {
+                let mut calls = vec![0; start];
+                pad(&mut calls, length);
+                assert_eq!(calls.len(), length);
+            }
+        }
+    }
+
+    #[test]
+    fn routes_over_all_links_can_be_listed() {
+        let mut random = Random::new(3);
+        for _ in 0..10_000 {
+            let network = listed_network(&mut random);
+            assert_eq!(read_network(&image(&network)).as_ref(), Ok(&network));
+            let paths = listing::paths(network.links.iter().map(|link| link.frames));
+            assert!(paths <= listing::MOST_PATHS, "{network:?}");
+            let route = part_of_all(&mut random, &network);
+            assert_eq!(crate::model::check_route(&network, &route), Ok(()));
+        }
+    }
+}

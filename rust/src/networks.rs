@@ -1,0 +1,320 @@
+//! Random networks, and files with faults.
+
+use crate::listing;
+use crate::network_file::{Draft, Link, Network, Record, ABSENT};
+use crate::random::Random;
+use crate::route::{self, MAX_HOPS};
+
+/// How many frames of a link are closed.
+#[derive(Clone, Copy)]
+pub enum Closing {
+    None,
+    Some,
+    Half,
+    NearlyAll,
+}
+
+const CLOSINGS: [Closing; 4] = [
+    Closing::None,
+    Closing::Some,
+    Closing::Half,
+    Closing::NearlyAll,
+];
+
+/// A network whose links have up to `most_frames` frames.
+pub fn network(random: &mut Random, most_frames: u32) -> Network {
+    let ticks = cycle(random);
+    let rates = rates(random, ticks, most_frames);
+    let number = match random.below(10) {
+        0..=2 => random.between(1, 4),
+        3..=7 => random.between(5, 10),
+        _ => random.between(11, 32),
+    };
+    let rates: Vec<u32> = (0..number).map(|_| random.pick(&rates)).collect();
+    let closings = if random.chance(30) {
+        CLOSINGS.to_vec()
+    } else {
+        vec![random.pick(&CLOSINGS)]
+    };
+    Network {
+        ticks,
+        links: links(random, &rates, &closings),
+    }
+}
+
+/// Links with these frames per cycle in turn, and ranges of one kind.
+fn links(random: &mut Random, rates: &[u32], closings: &[Closing]) -> Vec<Link> {
+    let width = random.below(4);
+    rates
+        .iter()
+        .map(|&frames| {
+            let closing = random.pick(closings);
+            Link {
+                frames,
+                range: range(random, frames, width),
+                closed: closed_frames(random, frames, closing),
+            }
+        })
+        .collect()
+}
+
+/// A cycle: most often one with many divisors, now and then any.
+fn cycle(random: &mut Random) -> u32 {
+    match random.below(10) {
+        0 => random.between(1, 960) as u32,
+        1 => random.pick(&[1, 2, 3, 64, 780, 959]),
+        _ => random.pick(&[48, 64, 96, 192, 240, 360, 720, 840, 960]),
+    }
+}
+
+/// The frames per cycle that the links are picked from: one rate, rates that divide each other, or any.
+fn rates(random: &mut Random, ticks: u32, most_frames: u32) -> Vec<u32> {
+    let all = divisors(ticks, most_frames);
+    let top = all[all.len() - 1 - random.below(all.len().min(3))];
+    match random.below(4) {
+        0 => vec![top],
+        1 | 2 => chain(random, top),
+        _ => all,
+    }
+}
+
+/// The divisors of T up to `most`.
+fn divisors(ticks: u32, most: u32) -> Vec<u32> {
+    (1..=most.min(ticks)).filter(|k| ticks % k == 0).collect()
+}
+
+/// May links of these frames per cycle be adjacent?
+pub fn fit(before: u32, here: u32) -> bool {
+    before % here == 0 || here % before == 0
+}
+
+/// Rates from `top` downwards, each dividing the one before.
+fn chain(random: &mut Random, top: u32) -> Vec<u32> {
+    let mut chain = vec![top, top];
+    let mut rate = top;
+    while rate > 1 && chain.len() < 5 {
+        let parts: Vec<u32> = (2..=rate).filter(|p| rate % p == 0).collect();
+        rate /= parts[random.below(parts.len().min(2))];
+        chain.push(rate);
+    }
+    chain
+}
+
+/// A forwarding range: whole cycle, narrow, any, or the value of the absent field.
+fn range(random: &mut Random, frames: u32, width: usize) -> u32 {
+    match width {
+        0 => frames,
+        1 => random.between(1, 2).min(frames as usize) as u32,
+        2 => random.between(1, frames as usize) as u32,
+        _ => ABSENT.range.min(frames),
+    }
+}
+
+/// A set of closed frames.
+pub fn closed_frames(random: &mut Random, frames: u32, closing: Closing) -> u64 {
+    let all = route::ones(frames);
+    match closing {
+        Closing::None => 0,
+        Closing::Some => random.word() & random.word() & random.word() & all,
+        Closing::Half => random.word() & all,
+        Closing::NearlyAll => {
+            let mut closed = all;
+            for _ in 0..random.below(4) {
+                closed &= !(1 << random.below(frames as usize));
+            }
+            closed
+        }
+    }
+}
+
+/// A network with frames for over 96 sessions of one hop, and one more link that is closed altogether.
+pub fn roomy_network(random: &mut Random) -> Network {
+    let frames: u32 = random.pick(&[32, 48, 64]);
+    let ticks = frames * random.between(1, (960 / frames) as usize) as u32;
+    let mut links = Vec::new();
+    for _ in 0..random.between(4, 31) {
+        links.push(Link {
+            frames,
+            range: random.between(1, frames as usize) as u32,
+            closed: 0,
+        });
+    }
+    links.push(Link {
+        frames,
+        range: 1,
+        closed: route::ones(frames),
+    });
+    Network { ticks, links }
+}
+
+// ---- Routes that can be listed ----
+
+/// Their cycles: multiples of 24, and others with a factor 5, 7 or 11.
+const CYCLES_OF_24: [u32; 12] = [24, 48, 72, 96, 120, 192, 240, 384, 480, 720, 840, 960];
+const OTHER_CYCLES: [u32; 28] = [
+    30, 35, 42, 50, 66, 70, 77, 98, 100, 105, 110, 154, 210, 245, 330, 350, 385, 420, 462, 490,
+    550, 605, 630, 660, 735, 770, 900, 935,
+];
+
+/// What the frames per cycle of a hop are drawn from: the numbers up to a bound, or the largest up to 64.
+#[derive(Clone, Copy)]
+enum Frames {
+    UpTo(u32),
+    Many,
+}
+
+/// A network whose links, in the order of their numbers, make a route that can be listed.
+pub fn listed_network(random: &mut Random) -> Network {
+    let ticks = if random.chance(40) {
+        random.pick(&CYCLES_OF_24)
+    } else {
+        random.pick(&OTHER_CYCLES)
+    };
+    let rates = listed_rates(random, ticks);
+    // On a long route few frames may be closed, or it is blocked.
+    let closings: &[Closing] = if rates.len() > 4 {
+        &[Closing::None, Closing::None, Closing::None, Closing::Some]
+    } else {
+        &CLOSINGS
+    };
+    Network {
+        ticks,
+        links: links(random, &rates, closings),
+    }
+}
+
+/// The frames per cycle of each hop in turn, drawn until the route can be listed.
+fn listed_rates(random: &mut Random, ticks: u32) -> Vec<u32> {
+    let shape = shape(random);
+    loop {
+        let rates = rates_of_shape(random, ticks, &shape);
+        if listing::paths(rates.iter().copied()) <= listing::MOST_PATHS {
+            return rates;
+        }
+    }
+}
+
+/// Many frames on one or two links, on two after one with a single frame, or on one between two with fewer;
+/// some on three links; few on five to eight links, or on up to four.
+fn shape(random: &mut Random) -> Vec<Frames> {
+    match random.below(16) {
+        0 | 1 => vec![Frames::Many; random.pick(&[1, 2, 2])],
+        2 => vec![Frames::UpTo(1), Frames::Many, Frames::Many],
+        3 => vec![Frames::UpTo(8), Frames::Many, Frames::UpTo(32)],
+        4 => vec![Frames::UpTo(16); 3],
+        5..=9 => vec![Frames::UpTo(random.pick(&[2, 3, 3, 5, 7])); random.between(5, MAX_HOPS)],
+        _ => vec![Frames::UpTo(8); random.pick(&[1, 2, 3, 3, 4, 4])],
+    }
+}
+
+/// Divisors of T by the shape, each dividing the next or divided by it.
+fn rates_of_shape(random: &mut Random, ticks: u32, shape: &[Frames]) -> Vec<u32> {
+    let mut rates: Vec<u32> = Vec::new();
+    for &frames in shape {
+        let most = match frames {
+            Frames::UpTo(most) => most,
+            Frames::Many => 64,
+        };
+        let mut choices = divisors(ticks, most);
+        if let Some(&before) = rates.last() {
+            choices.retain(|&here| fit(before, here));
+        }
+        // A single frame, which fits everywhere, comes less often.
+        if choices.len() > 1 && random.chance(75) {
+            choices.remove(0);
+        }
+        if let Frames::Many = frames {
+            choices.drain(..choices.len().saturating_sub(3));
+        }
+        rates.push(random.pick(&choices));
+    }
+    rates
+}
+
+// ---- Damaged files ----
+
+/// A file of the network with one or more faults.
+pub fn damaged(random: &mut Random, network: &Network) -> Vec<u8> {
+    let mut draft = Draft::of(network);
+    spoil_draft(random, &mut draft, network);
+    if random.chance(30) {
+        spoil_draft(random, &mut draft, network);
+    }
+    let mut bytes = draft.bytes();
+    spoil_file(random, &mut bytes);
+    bytes
+}
+
+/// One fault of a field, or none.
+fn spoil_draft(random: &mut Random, draft: &mut Draft, network: &Network) {
+    let at = random.below(network.links.len());
+    let link = &network.links[at];
+    let record = &mut draft.records[at];
+    match random.below(12) {
+        0 => draft.number = random.pick(&[0, 33, 34, 64, 255]),
+        1 => draft.number = random.byte() % 40,
+        2 => draft.ticks = random.pick(&[0, 961, 962, 1024, 1920, 65_535]),
+        3 => record.stray = 8 << random.below(5),
+        4 => spoil_absent(random, record),
+        5 => record.frames = Some(random.pick(&[0, 65, 96, 120, 240, 255])),
+        6 => record.frames = Some(random.byte() % 70),
+        7 => record.range = Some(random.pick(&[0, 65, 255, link.frames as u8 + 1])),
+        8 => record.range = Some(random.byte() % 70),
+        9 => record.closed = Some(random.word() << random.below(64)),
+        10 if link.frames < 64 => record.closed = Some(1 << link.frames | link.closed),
+        _ => {}
+    }
+}
+
+/// Writes a field that equals its absent value, or leaves out one that doesn't.
+fn spoil_absent(random: &mut Random, record: &mut Record) {
+    match random.below(6) {
+        0 => record.frames = Some(ABSENT.frames as u8),
+        1 => record.range = Some(ABSENT.range as u8),
+        2 => record.closed = Some(ABSENT.closed),
+        3 => record.frames = None,
+        4 => record.range = None,
+        _ => record.closed = None,
+    }
+}
+
+/// One fault of the bytes, or none: cut, extended, flipped.
+fn spoil_file(random: &mut Random, bytes: &mut Vec<u8>) {
+    match random.below(12) {
+        0 => bytes.truncate(random.below(3)),
+        1 | 2 => bytes.truncate(random.below(bytes.len() + 1)),
+        3 => {
+            bytes.pop();
+        }
+        4 => {
+            let more = random.between(1, 12);
+            bytes.extend(random.bytes(more));
+        }
+        5 => {
+            let more = random.pick(&[1, 1, 1, 2, 300, 3_000]);
+            bytes.resize(bytes.len() + more, 0);
+        }
+        6 => {
+            for _ in 0..random.between(1, 3) {
+                let at = random.below(bytes.len());
+                bytes[at] ^= 1 << random.below(8);
+            }
+        }
+        _ => {}
+    }
+}
+
+#[cfg(test)]
+mod tests {
+    use super::*;
+    use crate::network_file::{image, read_network};
+
+    #[test]
+    fn a_network_is_read_back_from_its_file() {
+        let mut random = Random::new(1);
+        for _ in 0..10_000 {
+            let network = network(&mut random, 64);
+            assert_eq!(read_network(&image(&network)), Ok(network));
+        }
+    }
+}
