@@ -4,7 +4,10 @@
 use std::hint::black_box;
 use std::time::{Duration, Instant};
 
-use frames_check::route::{Answer, Hop};
+use frames_check::call_records::{push_quote, push_release, push_set_up};
+use frames_check::network_file::{image, Link, Network};
+use frames_check::random::Random;
+use frames_check::route::{self, Answer, Hop};
 use frames_check::{dijkstra, library, model, survivors};
 
 /// The bytes of call records that the program reads.
@@ -17,86 +20,28 @@ const FEW: usize = 100;
 const BUFFER: usize = 1 << 20;
 
 /// The cycle of every network here, in ticks: 64 divides it.
-const TICKS: u16 = 960;
+const TICKS: u32 = 960;
 
-/// A link of a network: frames per cycle (K), forwarding range (Z) and closed frames.
-struct Link {
-    frames: u8,
-    range: u8,
-    closed: u64,
+/// The bytes of net.bin.
+fn network(links: Vec<Link>) -> Vec<u8> {
+    image(&Network {
+        ticks: TICKS,
+        links,
+    })
 }
 
-/// The bytes of net.bin. A field equal to its absent value is not written.
-fn network(links: &[Link]) -> Vec<u8> {
-    let mut file = TICKS.to_le_bytes().to_vec();
-    file.push(links.len() as u8);
-    for link in links {
-        let mut map = 0;
-        let mut fields = Vec::new();
-        if link.frames != 16 {
-            map |= 1;
-            fields.push(link.frames);
-        }
-        if link.range != 4 {
-            map |= 2;
-            fields.push(link.range);
-        }
-        if link.closed != 0 {
-            map |= 4;
-            fields.extend(link.closed.to_le_bytes());
-        }
-        file.push(map);
-        file.extend(fields);
+/// A word with 32 of its 64 bits.
+fn half_of_64(random: &mut Random) -> u64 {
+    let mut word = 0u64;
+    while word.count_ones() < 32 {
+        word |= 1 << random.below(64);
     }
-    file
+    word
 }
 
-fn set_up(calls: &mut Vec<u8>, number: u16, route: &[u8]) {
-    calls.push(1);
-    calls.extend(number.to_le_bytes());
-    calls.push(route.len() as u8);
-    calls.extend(route);
-}
-
-fn quote(calls: &mut Vec<u8>, route: &[u8]) {
-    calls.push(2);
-    calls.push(route.len() as u8);
-    calls.extend(route);
-}
-
-fn release(calls: &mut Vec<u8>, number: u16) {
-    calls.push(3);
-    calls.extend(number.to_le_bytes());
-}
-
-/// Pseudo-random numbers (xorshift), the same in every run.
-struct Random(u64);
-
-impl Random {
-    fn word(&mut self) -> u64 {
-        self.0 ^= self.0 << 13;
-        self.0 ^= self.0 >> 7;
-        self.0 ^= self.0 << 17;
-        self.0
-    }
-
-    fn below(&mut self, bound: u64) -> u64 {
-        (self.word() >> 20) % bound
-    }
-
-    /// A word with 32 of its 64 bits.
-    fn half(&mut self) -> u64 {
-        let mut word = 0u64;
-        while word.count_ones() < 32 {
-            word |= 1 << self.below(64);
-        }
-        word
-    }
-
-    /// A route of so many links out of 32; a link may appear twice.
-    fn route(&mut self, length: usize) -> Vec<u8> {
-        (0..length).map(|_| self.below(32) as u8).collect()
-    }
+/// A route of so many links out of 32; a link may appear twice.
+fn any_route(random: &mut Random, length: usize) -> Vec<u8> {
+    (0..length).map(|_| random.below(32) as u8).collect()
 }
 
 /// A search in plain Rust.
@@ -207,7 +152,7 @@ fn line(name: &str, [library, survivors]: [f64; 2], dijkstra: Option<f64>) {
 fn list_of_quotes(route: &[u8], number: usize) -> Vec<u8> {
     let mut calls = Vec::new();
     for _ in 0..number {
-        quote(&mut calls, route);
+        push_quote(&mut calls, route);
     }
     calls
 }
@@ -236,10 +181,10 @@ fn quotes(out: &mut [u8], random: &mut Random) {
                 .map(|_| Link {
                     frames: 64,
                     range,
-                    closed: if half { random.half() } else { 0 },
+                    closed: if half { half_of_64(random) } else { 0 },
                 })
                 .collect();
-            let file = network(&links);
+            let file = network(links);
             let few = Work {
                 file: file.clone(),
                 calls: list_of_quotes(&route, FEW),
@@ -277,20 +222,20 @@ fn pairs(out: &mut [u8]) {
             closed: 0,
         })
         .collect();
-    let file = network(&links);
+    let file = network(links);
     for live in [10u16, 50, 90] {
         let mut prefix = Vec::new();
         for number in 0..live {
             let link = 2 + 2 * (number % 15) as u8;
-            set_up(&mut prefix, number, &[link, link + 1]);
+            push_set_up(&mut prefix, number, &[link, link + 1]);
         }
         let mut with_pairs = prefix.clone();
         let mut with_quotes = prefix.clone();
         let mut number = 0;
         while with_pairs.len() + 9 <= CALLS {
-            set_up(&mut with_pairs, live, &route);
-            release(&mut with_pairs, live);
-            quote(&mut with_quotes, &route);
+            push_set_up(&mut with_pairs, live, &route);
+            push_release(&mut with_pairs, live);
+            push_quote(&mut with_quotes, &route);
             number += 1;
         }
         let works = [prefix, with_pairs, with_quotes].map(|calls| Work {
@@ -322,15 +267,15 @@ fn mixed(random: &mut Random) -> (Vec<u8>, usize) {
     let mut number = 0;
     while calls.len() < CALLS {
         let left = CALLS - calls.len();
-        let length = 1 + random.below(8) as usize;
+        let length = random.between(1, 8);
         let session = random.below(150) as u16;
-        let route = random.route(length);
+        let route = any_route(random, length);
         match random.below(5) {
-            _ if left <= 10 => quote(&mut calls, &random.route(left - 2)),
-            _ if left <= 20 => release(&mut calls, session),
-            0 | 1 => set_up(&mut calls, session, &route),
-            2 => quote(&mut calls, &route),
-            _ => release(&mut calls, session),
+            _ if left <= 10 => push_quote(&mut calls, &any_route(random, left - 2)),
+            _ if left <= 20 => push_release(&mut calls, session),
+            0 | 1 => push_set_up(&mut calls, session, &route),
+            2 => push_quote(&mut calls, &route),
+            _ => push_release(&mut calls, session),
         }
         number += 1;
     }
@@ -343,19 +288,16 @@ fn runs(out: &mut [u8], random: &mut Random) {
     let links: Vec<Link> = (0..32)
         .map(|_| {
             let frames = 8 << random.below(4);
-            let range = 1 + random.below(frames) as u8;
-            let closed =
-                random.word() & random.word() & random.word() & (u64::MAX >> (64 - frames));
             Link {
-                frames: frames as u8,
-                range,
-                closed,
+                frames,
+                range: random.between(1, frames as usize) as u32,
+                closed: random.word() & random.word() & random.word() & route::ones(frames),
             }
         })
         .collect();
     let (calls, number) = mixed(random);
     let work = Work {
-        file: network(&links),
+        file: network(links),
         calls,
         rival: survivors::least,
     };
@@ -375,7 +317,7 @@ fn runs(out: &mut [u8], random: &mut Random) {
 
 fn main() {
     let mut out = vec![0u8; BUFFER];
-    let mut random = Random(0x2545_f491_4f6c_dd1d);
+    let mut random = Random::new(0x2545_f491_4f6c_dd1d);
     println!("Best of several repetitions after a warm-up, the sides in turn, in one process; all are release builds.");
     println!("The lent buffer of 1 MiB is allocated once and is not cleared between runs.");
     println!("Quotes over 8 hops: the better of lists of {FEW} and of as many as {CALLS} bytes hold; Dijkstra's search on {FEW}.");
