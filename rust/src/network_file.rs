@@ -20,6 +20,15 @@ pub struct Network {
     pub links: Vec<Link>,
 }
 
+/// A network given as values, good or bad: T, and the K, Z and closed frames of the links.
+#[derive(Clone, Debug)]
+pub struct Values {
+    pub ticks: u16,
+    pub frames: Vec<u16>,
+    pub range: Vec<u16>,
+    pub closed: Vec<u64>,
+}
+
 /// The values of fields that aren't written.
 pub const ABSENT: Link = Link {
     frames: 16,
@@ -36,6 +45,29 @@ pub fn refuse(refusal: Refusal, condition: bool) -> Result<(), Refusal> {
     }
 }
 
+// ---- Checks ----
+
+/// Checks 2 and 3.
+fn check_head(ticks: u32, links: usize) -> Result<(), Refusal> {
+    refuse(2, links == 0 || links > 32)?;
+    refuse(3, ticks == 0 || ticks > 960)
+}
+
+/// Checks 7 to 9 of a link, whether its fields were written or absent.
+pub fn check_link(ticks: u32, link: &Link) -> Result<(), Refusal> {
+    refuse(7, link.frames == 0 || link.frames > 64)?;
+    refuse(7, ticks % link.frames != 0)?;
+    refuse(8, link.range == 0 || link.range > link.frames)?;
+    refuse(9, link.closed & !route::ones(link.frames) != 0)
+}
+
+/// The checks of a network given as values: 2, 3, then 7 to 9 of the links in turn.
+pub fn check_network(network: &Network) -> Result<(), Refusal> {
+    check_head(network.ticks, network.links.len())?;
+    let mut links = network.links.iter();
+    links.try_for_each(|link| check_link(network.ticks, link))
+}
+
 // ---- Reading ----
 
 /// Reads the network file: checks 1 to 3, the records in turn, check 10.
@@ -43,8 +75,7 @@ pub fn read_network(file: &[u8]) -> Result<Network, Refusal> {
     refuse(1, file.len() < 3)?;
     let ticks = u32::from(file[0]) + 256 * u32::from(file[1]);
     let number = file[2];
-    refuse(2, number == 0 || number > 32)?;
-    refuse(3, ticks == 0 || ticks > 960)?;
+    check_head(ticks, usize::from(number))?;
     let mut links = Vec::new();
     let mut rest = &file[3..];
     for _ in 0..number {
@@ -85,14 +116,6 @@ pub fn read_link(bytes: &[u8]) -> Result<(Link, usize), Refusal> {
     refuse(6, has_range && link.range == ABSENT.range)?;
     refuse(6, has_closed && link.closed == ABSENT.closed)?;
     Ok((link, used))
-}
-
-/// Checks 7 to 9 of a link, whether its fields were written or absent.
-pub fn check_link(ticks: u32, link: &Link) -> Result<(), Refusal> {
-    refuse(7, link.frames == 0 || link.frames > 64)?;
-    refuse(7, ticks % link.frames != 0)?;
-    refuse(8, link.range == 0 || link.range > link.frames)?;
-    refuse(9, link.closed & !route::ones(link.frames) != 0)
 }
 
 // ---- Writing ----
@@ -154,9 +177,49 @@ impl Draft {
     }
 }
 
-/// The file of a network.
+/// The file of a network that passes its checks.
 pub fn image(network: &Network) -> Vec<u8> {
     Draft::of(network).bytes()
+}
+
+/// The file of a network given as values, where so many bytes are room for it: the checks of the values, then 20.
+pub fn write_network(network: &Network, room: usize) -> Result<Vec<u8>, Refusal> {
+    check_network(network)?;
+    let image = image(network);
+    refuse(20, room < image.len())?;
+    Ok(image)
+}
+
+/// A file read and written again, where so many bytes are room for it: the refusal of the file, then 20.
+pub fn write_again(file: &[u8], room: usize) -> Result<Vec<u8>, Refusal> {
+    write_network(&read_network(file)?, room)
+}
+
+impl Values {
+    /// The values of a network.
+    pub fn of(network: &Network) -> Self {
+        let links = &network.links;
+        Values {
+            ticks: network.ticks as u16,
+            frames: links.iter().map(|link| link.frames as u16).collect(),
+            range: links.iter().map(|link| link.range as u16).collect(),
+            closed: links.iter().map(|link| link.closed).collect(),
+        }
+    }
+
+    /// The network that is meant: as many links as the shortest list has numbers.
+    pub fn network(&self) -> Network {
+        let fields = self.frames.iter().zip(&self.range).zip(&self.closed);
+        let links = fields.map(|((&frames, &range), &closed)| Link {
+            frames: u32::from(frames),
+            range: u32::from(range),
+            closed,
+        });
+        Network {
+            ticks: u32::from(self.ticks),
+            links: links.collect(),
+        }
+    }
 }
 
 #[cfg(test)]
@@ -204,5 +267,79 @@ mod tests {
         for (file, refusal) in cases {
             assert_eq!(read_network(file), Err(refusal), "{file:x?}");
         }
+    }
+
+    /// The values of links with these K, Z and closed frames.
+    fn values(ticks: u16, links: &[(u16, u16, u64)]) -> Values {
+        Values {
+            ticks,
+            frames: links.iter().map(|link| link.0).collect(),
+            range: links.iter().map(|link| link.1).collect(),
+            closed: links.iter().map(|link| link.2).collect(),
+        }
+    }
+
+    /// What the writer answers to values.
+    fn written(values: &Values, room: usize) -> Result<Vec<u8>, Refusal> {
+        write_network(&values.network(), room)
+    }
+
+    #[test]
+    fn written_values() {
+        // The document's example; then a link with every field, and K 16 and Z 4 absent beside closed frames.
+        let example = vec![0x30, 0, 2, 0, 3, 8, 2];
+        let two = values(48, &[(16, 4, 0), (8, 2, 0)]);
+        assert_eq!(written(&two, 7), Ok(example.clone()));
+        assert_eq!(written(&two, 6), Err(20));
+        assert_eq!(write_again(&example, 7), Ok(example.clone()));
+        assert_eq!(write_again(&example, 6), Err(20));
+        let closed = values(960, &[(64, 64, 1 << 63), (16, 4, 0x8001)]);
+        let file = [
+            0xc0, 3, 2, 7, 64, 64, 0, 0, 0, 0, 0, 0, 0, 0x80, 4, 1, 0x80, 0, 0, 0, 0, 0, 0,
+        ];
+        assert_eq!(written(&closed, 23), Ok(file.to_vec()));
+        assert_eq!(written(&closed, 22), Err(20));
+    }
+
+    #[test]
+    fn refused_values() {
+        let good = (16, 4, 0);
+        let cases: [(Values, Refusal); 17] = [
+            (values(0, &[]), 2),
+            (values(961, &[(0, 0, 1); 33]), 2),
+            (values(48, &[good; 256 + 1]), 2),
+            (values(0, &[(0, 0, 1)]), 3),
+            (values(961, &[good]), 3),
+            (values(48, &[(0, 0, 1)]), 7),
+            (values(65, &[(65, 1, 0)]), 7),
+            (values(48, &[(32, 4, 0)]), 7),
+            (values(48, &[(256 + 16, 4, 0)]), 7),
+            (values(48, &[(8, 0, 256)]), 8),
+            (values(48, &[(8, 9, 256)]), 8),
+            (values(48, &[(8, 256 + 2, 0)]), 8),
+            (values(48, &[(8, 2, 256)]), 9),
+            (values(48, &[(1, 1, 2)]), 9),
+            (values(48, &[(8, 2, 256), (0, 2, 0)]), 9),
+            (values(48, &[(8, 2, 0), (8, 0, 0), (7, 2, 0)]), 8),
+            (values(48, &[good; 32]), 20),
+        ];
+        for (values, refusal) in cases {
+            assert_eq!(written(&values, 34), Err(refusal), "{values:?}");
+        }
+        assert_eq!(written(&values(48, &[good; 32]), 35).unwrap().len(), 35);
+        let (first, last) = (values(1, &[(1, 1, 1)]), values(960, &[(64, 64, u64::MAX)]));
+        assert_eq!(written(&first, 14).unwrap().len(), 14);
+        assert_eq!(written(&last, 14).unwrap().len(), 14);
+    }
+
+    #[test]
+    fn the_shortest_list_tells_the_number_of_links() {
+        let mut longer = values(48, &[(16, 4, 0), (8, 2, 0), (0, 0, 1)]);
+        longer.closed.truncate(2);
+        assert_eq!(written(&longer, 7), Ok(vec![0x30, 0, 2, 0, 3, 8, 2]));
+        longer.range.truncate(1);
+        assert_eq!(written(&longer, 4), Ok(vec![0x30, 0, 1, 0]));
+        longer.frames.clear();
+        assert_eq!(written(&longer, 4), Err(2));
     }
 }

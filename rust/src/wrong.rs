@@ -2,7 +2,7 @@
 
 use crate::dijkstra;
 use crate::model::{self, Ledger, Rules, Session};
-use crate::network_file::{check_link, image, read_link, read_network, refuse};
+use crate::network_file::{check_link, image, read_link, read_network, refuse, write_again};
 use crate::network_file::{Link, Network, Refusal, ABSENT};
 use crate::route::{self, Answer, Hop};
 
@@ -658,19 +658,9 @@ pub struct WrongImage {
     pub image: Image,
 }
 
-/// The file of the network that a file says, where so many bytes are room for it; or the refusal.
-pub fn image_of(file: &[u8], room: usize) -> Result<Vec<u8>, u64> {
-    let network = read_network(file).map_err(u64::from)?;
-    let image = image(&network);
-    if room < image.len() {
-        return Err(20);
-    }
-    Ok(image)
-}
-
 /// The right image put into the buffer, or the refusal.
 fn right_image(file: &[u8], out: &mut [u8]) -> Result<usize, u64> {
-    let image = image_of(file, out.len())?;
+    let image = write_again(file, out.len()).map_err(u64::from)?;
     out[..image.len()].copy_from_slice(&image);
     Ok(image.len())
 }
@@ -687,7 +677,7 @@ pub fn all_images() -> Vec<WrongImage> {
             Ok(length)
         }),
         writer("short buffer filled before it is refused", |file, out| {
-            if let Ok(image) = image_of(file, usize::MAX) {
+            if let Ok(image) = write_again(file, usize::MAX) {
                 let room = image.len().min(out.len());
                 out[..room].copy_from_slice(&image[..room]);
             }

@@ -3,6 +3,7 @@
 use frames_check::compared::Compared;
 use frames_check::inputs::{self, Input};
 use frames_check::listing::{Listed, MOST_PATHS};
+use frames_check::network_file::write_again;
 use frames_check::random::{self, Random};
 use frames_check::route::{Answer, Hop};
 use frames_check::wrong::{self, Image, Report, Wrong, WrongImage, WrongLibrary};
@@ -243,7 +244,7 @@ impl Check {
                 println!("net.bin: {}", hex(file));
                 fail(&format!("input {}: {fault}", self.inputs));
             }
-            match wrong::image_of(file, room) {
+            match write_again(file, room) {
                 Ok(image) if image == file => self.images.written += 1,
                 Ok(_) => fail("the model has two files of one network"),
                 Err(20) => self.images.too_short += 1,
@@ -504,7 +505,7 @@ impl Buffer {
         self.bytes.clear();
         self.bytes.extend_from_slice(&self.pattern[..room]);
         let answer = image(file, &mut self.bytes);
-        let expected = wrong::image_of(file, room);
+        let expected = write_again(file, room).map_err(u64::from);
         if answer != expected.as_ref().map(Vec::len).map_err(|&refusal| refusal) {
             return Some(format!(
                 "an image, room {room}, gave {answer:?}, not {expected:?}"
