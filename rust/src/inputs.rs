@@ -1,15 +1,13 @@
 //! Random inputs of the program: a network file and a list of calls.
 
 use crate::call_records::{push_quote, push_release, push_set_up};
+use crate::model::INPUT_LIMIT;
 use crate::network_file::{image, Network};
 use crate::networks::{
     closed_frames, damaged, fit, listed_network, network, roomy_network, Closing,
 };
 use crate::random::Random;
 use crate::route::MAX_HOPS;
-
-/// The bytes of standard input that count.
-const INPUT_LIMIT: usize = 65_536;
 
 /// One input of the program.
 pub struct Input {

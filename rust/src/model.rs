@@ -1,9 +1,12 @@
-//! The program `frames` as a plain model: call records, refusals, ledger and text.
+//! The program `frames` as a plain model: the calls, their refusals, the ledger and the text; lookup and free frames.
 
 use crate::call_records::{read_call, Call};
-use crate::network_file::{read_network, refuse, Network, Refusal};
+use crate::network_file::{read_network, refuse, Link, Network, Refusal};
 use crate::route::{self, Answer, Hop, MAX_HOPS};
 use std::io::Write;
+
+/// The bytes of call records that count.
+pub const INPUT_LIMIT: usize = 65_536;
 
 /// What a call answers: a schedule, a release done, or a refusal; 18 has its count.
 enum Outcome {
@@ -20,17 +23,34 @@ struct Found {
     frames: Vec<u8>,
 }
 
-/// An entry of the ledger: a live session's number, route and frames.
+/// An entry of the ledger: a live session's number, route, frames and delay.
+#[derive(Clone)]
 pub struct Session {
     pub number: u16,
     pub route: Vec<u8>,
     pub frames: Vec<u8>,
+    pub delay: u32,
 }
 
 /// The live sessions, and for each link the word of the frames they hold.
 pub struct Ledger {
     pub sessions: Vec<Session>,
     pub held: Vec<u64>,
+}
+
+/// A network with the ledger of the calls that were served on it.
+pub struct State {
+    pub network: Network,
+    pub ledger: Ledger,
+}
+
+/// The state after a list of calls, or the refusal of the file.
+pub type Stored = Result<State, Refusal>;
+
+/// What a run comes to: its text, and the state after its calls.
+pub struct Run {
+    pub text: Vec<u8>,
+    pub state: Stored,
 }
 
 /// The rules that a run goes by. What stands here is the document; `wrong` replaces single rules.
@@ -40,7 +60,12 @@ pub trait Rules {
 
     /// How many bytes of the calls count.
     fn input_limit(&self) -> usize {
-        65_536
+        INPUT_LIMIT
+    }
+
+    /// Where a record can't be read: the bytes from which on calls are served all the same, here none.
+    fn after_unreadable<'a>(&self, _rest: &'a [u8]) -> &'a [u8] {
+        &[]
     }
 
     /// How many sessions can be live.
@@ -101,27 +126,41 @@ impl<F: Fn(u32, &[Hop]) -> Answer> Rules for Document<F> {
     }
 }
 
-/// The text of the program for a network file and its calls, with the search handed in.
-pub fn transcript(file: &[u8], calls: &[u8], least: impl Fn(u32, &[Hop]) -> Answer) -> Vec<u8> {
-    transcript_by(&Document(least), file, calls)
+/// The run of the program on a network file and its calls, with the search handed in.
+pub fn run(file: &[u8], calls: &[u8], least: impl Fn(u32, &[Hop]) -> Answer) -> Run {
+    run_by(&Document(least), file, calls)
 }
 
-/// The text of the program by the rules handed in.
-pub fn transcript_by(rules: &impl Rules, file: &[u8], calls: &[u8]) -> Vec<u8> {
+/// The text of that run.
+pub fn transcript(file: &[u8], calls: &[u8], least: impl Fn(u32, &[Hop]) -> Answer) -> Vec<u8> {
+    run(file, calls, least).text
+}
+
+/// The run of the program by the rules handed in.
+pub fn run_by(rules: &impl Rules, file: &[u8], calls: &[u8]) -> Run {
     let mut text = Vec::new();
-    match rules.read(file) {
+    let state = rules.read(file).map(|network| {
+        let calls = &calls[..calls.len().min(rules.input_limit())];
+        let ledger = serve_all(rules, &network, calls, &mut text);
+        State { network, ledger }
+    });
+    match &state {
         Err(refusal) => line(&mut text, format_args!("net no {refusal}")),
-        Ok(network) => {
-            let calls = &calls[..calls.len().min(rules.input_limit())];
-            let live = serve_all(rules, &network, calls, &mut text);
+        Ok(state) => {
+            let live = state.ledger.sessions.len();
             line(&mut text, format_args!("live {live}"));
         }
     }
-    text
+    Run { text, state }
 }
 
-/// Serves the calls in turn, a line for each, and answers the number of live sessions at the end.
-fn serve_all(rules: &impl Rules, network: &Network, calls: &[u8], text: &mut Vec<u8>) -> usize {
+/// A run is refused with 20 where its buffer is shorter than this, whatever the text.
+pub fn room_for_run(calls: &[u8]) -> usize {
+    22 + 11 * calls.len().min(INPUT_LIMIT)
+}
+
+/// Serves the calls in turn, a line for each, and answers the ledger at the end.
+fn serve_all(rules: &impl Rules, network: &Network, calls: &[u8], text: &mut Vec<u8>) -> Ledger {
     let mut ledger = Ledger::new(network);
     let mut rest = calls;
     let mut place = 0;
@@ -130,7 +169,7 @@ fn serve_all(rules: &impl Rules, network: &Network, calls: &[u8], text: &mut Vec
         match read_call(rest) {
             Err(refusal) => {
                 line(text, format_args!("{place} ? no {refusal}"));
-                break;
+                rest = rules.after_unreadable(rest);
             }
             Ok((call, used)) => {
                 let outcome = serve(rules, network, &mut ledger, call);
@@ -139,7 +178,7 @@ fn serve_all(rules: &impl Rules, network: &Network, calls: &[u8], text: &mut Vec
             }
         }
     }
-    ledger.sessions.len()
+    ledger
 }
 
 // ---- The calls ----
@@ -170,7 +209,7 @@ fn serve(rules: &impl Rules, network: &Network, ledger: &mut Ledger, call: Call<
             }
             let outcome = search(rules, network, ledger, route);
             if let Outcome::Schedule(found) = &outcome {
-                ledger.enter(number, route, &found.frames);
+                ledger.enter(number, route, found);
             }
             outcome
         }
@@ -247,16 +286,69 @@ impl Ledger {
     }
 
     /// Enters a session and holds its frames.
-    fn enter(&mut self, number: u16, route: &[u8], frames: &[u8]) {
-        for (&link, &frame) in route.iter().zip(frames) {
+    fn enter(&mut self, number: u16, route: &[u8], found: &Found) {
+        for (&link, &frame) in route.iter().zip(&found.frames) {
             self.held[usize::from(link)] |= 1 << frame;
         }
         self.sessions.push(Session {
             number,
             route: route.to_vec(),
-            frames: frames.to_vec(),
+            frames: found.frames.clone(),
+            delay: found.delay,
         });
     }
+
+    /// Has an entry this frame of this link?
+    fn holds(&self, link: u8, frame: u32) -> bool {
+        self.sessions.iter().any(|session| {
+            let mut hops = session.route.iter().zip(&session.frames);
+            hops.any(|(&l, &f)| l == link && u32::from(f) == frame)
+        })
+    }
+}
+
+// ---- Lookup and free frames ----
+
+impl Session {
+    /// What a lookup hands out: the number of hops, the delay, the link of each hop, the frame of each hop.
+    pub fn shown(&self) -> Vec<u16> {
+        let head = [self.route.len() as u16, self.delay as u16];
+        let hops = self.route.iter().chain(&self.frames).copied();
+        head.into_iter().chain(hops.map(u16::from)).collect()
+    }
+}
+
+impl State {
+    /// The live session of that number; check 19.
+    pub fn lookup(&self, number: u16) -> Result<&Session, Refusal> {
+        let place = self.ledger.place_of(number).ok_or(19u32)?;
+        Ok(&self.ledger.sessions[place])
+    }
+
+    /// How many frames of a link are neither closed nor held, counted one by one; check 13.
+    pub fn free_frames(&self, link: u8) -> Result<u64, Refusal> {
+        let Link { frames, closed, .. } = *self.link(link)?;
+        let free = (0..frames).filter(|&i| !route::has(closed, i) && !self.ledger.holds(link, i));
+        Ok(free.count() as u64)
+    }
+
+    /// The link of that number; check 13.
+    pub fn link(&self, link: u8) -> Result<&Link, Refusal> {
+        self.network.links.get(usize::from(link)).ok_or(13)
+    }
+}
+
+/// What a lookup after the calls hands out, where so many numbers are room for it: the refusal of the file, 19, 20.
+pub fn lookup(stored: &Stored, number: u16, room: usize) -> Result<Vec<u16>, Refusal> {
+    let state = stored.as_ref().map_err(Refusal::clone)?;
+    let shown = state.lookup(number)?.shown();
+    refuse(20, room < shown.len())?;
+    Ok(shown)
+}
+
+/// The number of free frames of a link after the calls: the refusal of the file, 13.
+pub fn free_frames(stored: &Stored, link: u8) -> Result<u64, Refusal> {
+    stored.as_ref().map_err(Refusal::clone)?.free_frames(link)
 }
 
 // ---- The text ----
@@ -296,7 +388,8 @@ fn write_outcome(text: &mut Vec<u8>, place: usize, letter: char, outcome: &Outco
 #[cfg(test)]
 mod tests {
     use super::*;
-    use crate::{dijkstra, listing};
+    use crate::random::Random;
+    use crate::{dijkstra, inputs, listing};
 
     const TWO_LINKS: [u8; 9] = [0x30, 0, 2, 3, 8, 2, 3, 8, 2];
 
@@ -396,5 +489,129 @@ mod tests {
         let tail = "96 S ok 0 0 31\n97 S no 17\n98 S no 16\n99 S no 13\n100 R ok\n\
                     101 S no 18 0\n102 S ok 0 0 31\n103 Q no 18 0\nlive 96\n";
         assert!(text.ends_with(tail), "{text}");
+    }
+
+    // ---- Lookup and free frames ----
+
+    /// Set-ups of 5 over 0 1 and of 6 over 1 0: both get frames 7 0 with delay 6, as in the document's example.
+    const TWO_SESSIONS: [u8; 12] = [1, 5, 0, 2, 0, 1, 1, 6, 0, 2, 1, 0];
+
+    /// The state after calls on a file.
+    fn after(file: &[u8], calls: &[u8]) -> Stored {
+        run(file, calls, listing::least).state
+    }
+
+    /// The free frames of links 0, 1 and 2.
+    fn free(stored: &Stored) -> [Result<u64, Refusal>; 3] {
+        [0, 1, 2].map(|link| free_frames(stored, link))
+    }
+
+    #[test]
+    fn lookup_shows_hops_delay_links_and_frames() {
+        let stored = after(&TWO_LINKS, &TWO_SESSIONS);
+        assert_eq!(lookup(&stored, 5, 6), Ok(vec![2, 6, 0, 1, 7, 0]));
+        assert_eq!(lookup(&stored, 6, 6), Ok(vec![2, 6, 1, 0, 7, 0]));
+        assert_eq!(lookup(&stored, 7, 6), Err(19));
+        assert_eq!(lookup(&stored, 5 + 256, 6), Err(19));
+        let released = after(&TWO_LINKS, &[&TWO_SESSIONS[..], &[3, 5, 0]].concat());
+        assert_eq!(lookup(&released, 5, 6), Err(19));
+        assert_eq!(lookup(&released, 6, 6), Ok(vec![2, 6, 1, 0, 7, 0]));
+    }
+
+    #[test]
+    fn lookup_from_slow_to_fast() {
+        // Question four's A{3} C{10} by W-201: T 48, link 0 has K 8 and Z 2, link 1 has K 16 and Z 4; 9 ticks.
+        let file = [
+            0x30, 0, 2, 7, 8, 2, 0xf7, 0, 0, 0, 0, 0, 0, 0, 4, 0xff, 0xfb, 0, 0, 0, 0, 0, 0,
+        ];
+        let stored = after(&file, &[1, 0, 0, 2, 0, 1]);
+        assert_eq!(lookup(&stored, 0, 6), Ok(vec![2, 9, 0, 1, 3, 10]));
+        assert_eq!(free(&stored), [Ok(0), Ok(0), Err(13)]);
+        assert_eq!(free(&after(&file, &[])), [Ok(1), Ok(1), Err(13)]);
+    }
+
+    #[test]
+    fn refused_lookups() {
+        let stored = after(&TWO_LINKS, &TWO_SESSIONS);
+        assert_eq!(lookup(&stored, 5, 5), Err(20));
+        assert_eq!(lookup(&stored, 5, 0), Err(20));
+        assert_eq!(lookup(&stored, 7, 0), Err(19));
+        let unread = after(&[0x30, 0], &TWO_SESSIONS);
+        assert_eq!(lookup(&unread, 5, 0), Err(1));
+        assert_eq!(free_frames(&unread, 9), Err(1));
+    }
+
+    #[test]
+    fn free_frames_are_neither_closed_nor_held() {
+        let calls = [&TWO_SESSIONS[..], &[3, 5, 0]].concat();
+        assert_eq!(free(&after(&TWO_LINKS, &[])), [Ok(8), Ok(8), Err(13)]);
+        let one = after(&TWO_LINKS, &calls[..6]);
+        assert_eq!(free(&one), [Ok(7), Ok(7), Err(13)]);
+        let two = after(&TWO_LINKS, &calls[..12]);
+        assert_eq!(free(&two), [Ok(6), Ok(6), Err(13)]);
+        assert_eq!(free(&after(&TWO_LINKS, &calls)), [Ok(7), Ok(7), Err(13)]);
+        // Frames 0 to 3 of link 1 are closed: 5 over 1 gets frame 4. A quote holds nothing.
+        let file = [0x30, 0, 2, 3, 8, 2, 7, 8, 2, 0x0f, 0, 0, 0, 0, 0, 0, 0];
+        let stored = after(&file, &[1, 5, 0, 1, 1, 2, 1, 0]);
+        assert_eq!(lookup(&stored, 5, 4), Ok(vec![1, 0, 1, 4]));
+        assert_eq!(free(&stored), [Ok(8), Ok(3), Err(13)]);
+    }
+
+    #[test]
+    fn calls_that_are_not_served() {
+        // After a record that can't be read.
+        let stored = after(&TWO_LINKS, &[1, 5, 0, 1, 0, 4, 1, 6, 0, 1, 0]);
+        assert_eq!(lookup(&stored, 5, 4), Ok(vec![1, 0, 0, 0]));
+        assert_eq!(lookup(&stored, 6, 4), Err(19));
+        // A set-up of five bytes that ends with the bytes that count, and one that ends after them.
+        let set_up = [1, 5, 0, 1, 0];
+        let last = [&[2, 0].repeat(32_764)[..], &[3, 9, 9], &set_up].concat();
+        assert_eq!(last.len(), 65_536);
+        assert_eq!(
+            lookup(&after(&TWO_LINKS, &last), 5, 4),
+            Ok(vec![1, 0, 0, 0])
+        );
+        let across = [&[2, 0].repeat(32_766)[..], &set_up].concat();
+        assert_eq!(across.len(), 65_537);
+        assert_eq!(lookup(&after(&TWO_LINKS, &across), 5, 4), Err(19));
+    }
+
+    #[test]
+    fn room_for_every_text() {
+        assert_eq!(room_for_run(&[]), 22);
+        assert_eq!(room_for_run(&[0; 21]), 253);
+        assert_eq!(room_for_run(&[0; 65_536]), 720_918);
+        assert_eq!(room_for_run(&[0; 65_537]), 720_918);
+    }
+
+    /// What is entered as a session's delay is the delay of its frames, and the words of held frames are the entries'.
+    #[test]
+    fn entries_and_held_words_agree() {
+        let mut random = Random::new(6);
+        for _ in 0..2_000 {
+            let input = inputs::input(&mut random);
+            let calls = &input.calls[..input.calls.len().min(1_000)];
+            if let Ok(state) = run(&input.file, calls, dijkstra::least).state {
+                for session in &state.ledger.sessions {
+                    assert_eq!(session.delay, delay_of(&state.network, session));
+                }
+                for link in 0..state.network.links.len() {
+                    let hop = hops_of(&state.network, &state.ledger, &[link as u8])[0];
+                    let free = u64::from(hop.free.count_ones());
+                    assert_eq!(state.free_frames(link as u8), Ok(free));
+                }
+            }
+        }
+    }
+
+    /// The sum over the transitions of a session of hold times T / K.
+    fn delay_of(network: &Network, session: &Session) -> u32 {
+        let hops = hops_of(network, &Ledger::new(network), &session.route);
+        let frame = |j: usize| u32::from(session.frames[j]);
+        let delay = |j: usize| {
+            let hold = route::hold_between(frame(j - 1), &hops[j - 1], frame(j), &hops[j]);
+            route::delay(hold, network.ticks, &hops[j])
+        };
+        (1..session.frames.len()).map(delay).sum()
     }
 }

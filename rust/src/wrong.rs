@@ -26,7 +26,7 @@ pub fn all() -> Vec<Wrong> {
 fn by_rules(name: &'static str, rules: impl Rules + 'static) -> Wrong {
     Wrong {
         name,
-        text: Box::new(move |file, calls| model::transcript_by(&rules, file, calls)),
+        text: Box::new(move |file, calls| model::run_by(&rules, file, calls).text),
     }
 }
 
@@ -351,6 +351,12 @@ mistake! { LimitOneHigher,
     }
 }
 
+mistake! { GoesOn,
+    fn after_unreadable<'a>(&self, rest: &'a [u8]) -> &'a [u8] {
+        &rest[1..]
+    }
+}
+
 mistake! { FreeOnEveryLink,
     fn free(&self, ledger: &mut Ledger, session: &Session) {
         for &frame in &session.frames {
@@ -440,6 +446,7 @@ fn wrong_calls() -> Vec<Wrong> {
         by_rules("bytes after the first 65,536 read", NoLimit),
         by_rules("only 65,535 bytes read", LimitOneLower),
         by_rules("65,537 bytes read", LimitOneHigher),
+        by_rules("calls after a broken record served", GoesOn),
         by_rules("release frees the frame on every link", FreeOnEveryLink),
         by_rules("release frees nothing", FreeNothing),
         by_rules("quote holds its frames", QuoteHolds),
@@ -715,7 +722,7 @@ mod tests {
             let input = inputs::input(&mut random);
             let calls = &input.calls[..input.calls.len().min(1_000)];
             assert_eq!(
-                model::transcript_by(&RIGHT, &input.file, calls),
+                model::run_by(&RIGHT, &input.file, calls).text,
                 model::transcript(&input.file, calls, dijkstra::least)
             );
         }
