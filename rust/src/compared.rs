@@ -2,52 +2,9 @@
 
 use crate::listing::Listed;
 use crate::route::{Hop, MAX_HOPS};
+use crate::sorts::{add_each, print_lines, sort, sorts_of_hops, too_few_in, Line, Sort};
 use std::collections::HashSet;
-use std::fmt;
 use std::hash::{DefaultHasher, Hash, Hasher};
-
-/// How many routes of a sort there were, and how many there have to be.
-struct Sort {
-    name: &'static str,
-    least: usize,
-    seen: usize,
-}
-
-/// A sort of which nothing has been seen.
-fn sort(name: &'static str, least: usize) -> Sort {
-    Sort {
-        name,
-        least,
-        seen: 0,
-    }
-}
-
-/// A sort for each number of hops.
-fn sorts_of_hops(least: [usize; MAX_HOPS]) -> [Sort; MAX_HOPS] {
-    const NAMES: [&str; MAX_HOPS] = [
-        "1 hop", "2 hops", "3 hops", "4 hops", "5 hops", "6 hops", "7 hops", "8 hops",
-    ];
-    std::array::from_fn(|j| sort(NAMES[j], least[j]))
-}
-
-impl Sort {
-    /// Counts a route if it is of the sort.
-    fn add(&mut self, is_of_it: bool) {
-        self.seen += usize::from(is_of_it);
-    }
-
-    /// That too few were seen, in words.
-    fn too_few(&self) -> Option<String> {
-        let least = self.least;
-        (self.seen < least).then(|| format!("{self}, and at least {least} have to be"))
-    }
-}
-
-impl fmt::Display for Sort {
-    fn fmt(&self, f: &mut fmt::Formatter<'_>) -> fmt::Result {
-        write!(f, "{} {}", self.name, self.seen)
-    }
-}
 
 /// The routes compared with the listing. A route is its T and the K, Z and free frames of its hops; one that was
 /// compared before isn't of any sort again.
@@ -126,7 +83,7 @@ impl Compared {
     }
 
     /// The sorts line by line, each line with the words before it.
-    fn lines(&self) -> [(&'static str, &[Sort]); 5] {
+    fn lines(&self) -> [Line<'_>; 5] {
         [
             ("of ", &self.hops),
             ("not blocked: of ", &self.hops_of_schedules),
@@ -140,21 +97,13 @@ impl Compared {
     pub fn print(&self) {
         let (answers, different) = (self.answers, &self.different);
         println!("listed routes: {answers} compared, 0 differed, {different}");
-        for (words, sorts) in self.lines() {
-            let sorts: Vec<String> = sorts.iter().map(Sort::to_string).collect();
-            println!("  {words}{}", sorts.join(", "));
-        }
+        print_lines(&self.lines());
     }
 
     /// The first sort of which too few were seen, in words.
     pub fn too_few(&self) -> Option<String> {
-        if let Some(different) = self.different.too_few() {
-            return Some(different);
-        }
-        self.lines().iter().find_map(|(words, sorts)| {
-            let too_few = sorts.iter().find_map(Sort::too_few)?;
-            Some(format!("{words}{too_few}"))
-        })
+        let different = self.different.too_few();
+        different.or_else(|| too_few_in(&self.lines()))
     }
 }
 
@@ -163,12 +112,6 @@ fn fingerprint(listed: &Listed) -> u64 {
     let mut hasher = DefaultHasher::new();
     (listed.ticks, &listed.hops).hash(&mut hasher);
     hasher.finish()
-}
-
-fn add_each(sorts: &mut [Sort], is_of: &[bool]) {
-    for (sort, &is_of_it) in sorts.iter_mut().zip(is_of) {
-        sort.add(is_of_it);
-    }
 }
 
 /// Do the K of some hop and the next one compare so?

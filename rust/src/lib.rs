@@ -11,6 +11,7 @@ pub mod network_file;
 pub mod networks;
 pub mod random;
 pub mod route;
+pub mod sorts;
 pub mod survivors;
 pub mod wrong;
 
