@@ -4,6 +4,7 @@ pub mod call_records;
 pub mod compared;
 pub mod dijkstra;
 pub mod inputs;
+pub mod lent;
 pub mod library;
 pub mod listing;
 pub mod model;
@@ -12,7 +13,9 @@ pub mod networks;
 pub mod random;
 pub mod route;
 pub mod sorts;
+pub mod stand_in;
 pub mod survivors;
+pub mod tried;
 pub mod wrong;
 
 #[cfg(test)]
