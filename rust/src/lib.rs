@@ -16,7 +16,9 @@ pub mod sorts;
 pub mod stand_in;
 pub mod survivors;
 pub mod tried;
+pub mod writing;
 pub mod wrong;
+pub mod wrong_writing;
 
 #[cfg(test)]
 mod question_four;

@@ -48,7 +48,7 @@ pub fn refuse(refusal: Refusal, condition: bool) -> Result<(), Refusal> {
 // ---- Checks ----
 
 /// Checks 2 and 3.
-fn check_head(ticks: u32, links: usize) -> Result<(), Refusal> {
+pub fn check_head(ticks: u32, links: usize) -> Result<(), Refusal> {
     refuse(2, links == 0 || links > 32)?;
     refuse(3, ticks == 0 || ticks > 960)
 }

@@ -1,7 +1,7 @@
-//! Random networks, and files with faults.
+//! Random networks, files with faults, and values for the writer.
 
 use crate::listing;
-use crate::network_file::{Draft, Link, Network, Record, ABSENT};
+use crate::network_file::{Draft, Link, Network, Record, Values, ABSENT};
 use crate::random::Random;
 use crate::route::{self, MAX_HOPS};
 
@@ -301,6 +301,112 @@ fn spoil_file(random: &mut Random, bytes: &mut Vec<u8>) {
             }
         }
         _ => {}
+    }
+}
+
+// ---- Values for the writer ----
+
+/// A network given as values: as it is, or with up to two of them moved to one side or the other of an edge.
+pub fn values(random: &mut Random) -> Values {
+    let mut values = Values::of(&network(random, 64));
+    for _ in 0..random.pick(&[0, 1, 1, 2]) {
+        move_value(random, &mut values);
+    }
+    values
+}
+
+/// Moves one value, or the number of links.
+fn move_value(random: &mut Random, values: &mut Values) {
+    let links = values.network().links.len();
+    match random.below(10) {
+        0 => values.ticks = edge_of_ticks(random, values.ticks),
+        1 => {
+            let number = random.pick(&[0, 1, 31, 32, 33, 34, 255, 256, 257, 288, 1_025]);
+            resize(values, number);
+        }
+        2 => make_unequal(random, values),
+        _ if links == 0 => {}
+        3..=5 => move_frames(random, values, links),
+        6 | 7 => {
+            let at = random.below(links);
+            let (k, z) = (values.frames[at], values.range[at]);
+            let choices = [0, 1, k, k.wrapping_add(1), 4, 64, 256, z.wrapping_add(256)];
+            values.range[at] = random.pick(&choices);
+        }
+        _ => {
+            let at = random.below(links);
+            values.closed[at] = edge_of_closed(random, u32::from(values.frames[at]));
+        }
+    }
+}
+
+/// A T at an edge, or one whose lowest ten bits are as before.
+fn edge_of_ticks(random: &mut Random, ticks: u16) -> u16 {
+    let more = ticks.wrapping_add(1_024);
+    random.pick(&[0, 1, 2, 959, 960, 961, 962, 1_920, more, 65_535])
+}
+
+/// A set of closed frames at an edge, or any.
+fn edge_of_closed(random: &mut Random, frames: u32) -> u64 {
+    let frame = |frame: u32| 1u64.checked_shl(frame).unwrap_or(0);
+    let any = random.word();
+    random.pick(&[
+        frame(frames.wrapping_sub(1)),
+        frame(frames),
+        frame(63),
+        route::ones(frames),
+        route::ones(frames) << 1,
+        u64::MAX,
+        any,
+    ])
+}
+
+/// Moves the K of a link; now and then T with it, so that K divides it, and all links.
+fn move_frames(random: &mut Random, values: &mut Values, links: usize) {
+    let at = random.below(links);
+    let k = values.frames[at];
+    let choices = [
+        0,
+        1,
+        16,
+        63,
+        64,
+        65,
+        66,
+        256,
+        k.wrapping_add(256),
+        k / 2,
+        960,
+    ];
+    let moved = random.pick(&choices);
+    values.frames[at] = moved;
+    if (1..=960).contains(&moved) && random.chance(50) {
+        values.ticks = moved * random.between(1, 960 / usize::from(moved)) as u16;
+        values.frames.fill(moved);
+    }
+}
+
+/// Gives every list that length; what is added is the last link again, or one of absent values.
+fn resize(values: &mut Values, number: usize) {
+    fn to<T: Copy>(list: &mut Vec<T>, number: usize, absent: T) {
+        let last = list.last().copied().unwrap_or(absent);
+        list.resize(number, last);
+    }
+    to(&mut values.frames, number, ABSENT.frames as u16);
+    to(&mut values.range, number, ABSENT.range as u16);
+    to(&mut values.closed, number, ABSENT.closed);
+}
+
+/// Makes one of the lists longer than the others, or shorter.
+fn make_unequal(random: &mut Random, values: &mut Values) {
+    let number = match random.below(2) {
+        0 => random.below(values.frames.len() + 1),
+        _ => values.frames.len() + random.pick(&[1, 2, 40, 300]),
+    };
+    match random.below(3) {
+        0 => values.frames.resize(number, 0),
+        1 => values.range.resize(number, 0),
+        _ => values.closed.resize(number, u64::MAX),
     }
 }
 

@@ -53,6 +53,11 @@ pub fn add_each(sorts: &mut [Sort], is_of: &[bool]) {
     }
 }
 
+/// How many of all these sorts there were.
+pub fn total(sorts: &[Sort]) -> usize {
+    sorts.iter().map(|sort| sort.seen).sum()
+}
+
 /// Some sorts, and the words before them.
 pub type Line<'a> = (&'static str, &'a [Sort]);
 
