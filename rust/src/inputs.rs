@@ -1,7 +1,7 @@
 //! Random inputs of the program: a network file and a list of calls.
 
 use crate::call_records::{push_quote, push_release, push_set_up};
-use crate::model::INPUT_LIMIT;
+use crate::model::{Run, INPUT_LIMIT};
 use crate::network_file::{image, Network};
 use crate::networks::{
     closed_frames, damaged, fit, listed_network, network, roomy_network, Closing,
@@ -13,6 +13,14 @@ use crate::route::MAX_HOPS;
 pub struct Input {
     pub file: Vec<u8>,
     pub calls: Vec<u8>,
+}
+
+/// An input, how many there have been with it, and the model's run on it.
+#[derive(Clone, Copy)]
+pub struct Case<'a> {
+    pub input: &'a Input,
+    pub inputs: usize,
+    pub run: &'a Run,
 }
 
 // ---- Whole inputs ----
@@ -138,7 +146,7 @@ fn full_ledger(random: &mut Random) -> Input {
 }
 
 /// A list around or over the bytes that count, with a record that ends at the limit or lies across it.
-fn over_the_limit(random: &mut Random) -> Input {
+pub fn over_the_limit(random: &mut Random) -> Input {
     let network = network(random, 8);
     let numbers = random.pick(&[2, 8, 100]);
     let mut calls = Vec::with_capacity(INPUT_LIMIT + 512);

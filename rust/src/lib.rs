@@ -12,12 +12,16 @@ pub mod network_file;
 pub mod networks;
 pub mod random;
 pub mod route;
+pub mod runs;
 pub mod sorts;
 pub mod stand_in;
+pub mod state_calls;
 pub mod survivors;
 pub mod tried;
 pub mod writing;
 pub mod wrong;
+pub mod wrong_runs;
+pub mod wrong_state;
 pub mod wrong_writing;
 
 #[cfg(test)]

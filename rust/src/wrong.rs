@@ -2,20 +2,16 @@
 
 use crate::dijkstra;
 use crate::model::{self, Ledger, Rules, Session};
-use crate::network_file::{check_link, image, read_link, read_network, refuse, write_again};
+use crate::network_file::{check_link, read_link, read_network, refuse};
 use crate::network_file::{Link, Network, Refusal, ABSENT};
 use crate::route::{self, Answer, Hop};
+use crate::tried::Wrong;
 
-/// A wrong model: its mistake and its text.
-pub struct Wrong {
-    pub name: &'static str,
-    pub text: Text,
-}
-
-type Text = Box<dyn Fn(&[u8], &[u8]) -> Vec<u8>>;
+/// The text of a wrong model.
+pub type Text = Box<dyn Fn(&[u8], &[u8]) -> Vec<u8>>;
 
 /// All wrong models.
-pub fn all() -> Vec<Wrong> {
+pub fn all() -> Vec<Wrong<Text>> {
     let mut all = wrong_searches();
     all.extend(wrong_calls());
     all.extend(wrong_files());
@@ -23,10 +19,10 @@ pub fn all() -> Vec<Wrong> {
     all
 }
 
-fn by_rules(name: &'static str, rules: impl Rules + 'static) -> Wrong {
+fn by_rules(name: &'static str, rules: impl Rules + 'static) -> Wrong<Text> {
     Wrong {
         name,
-        text: Box::new(move |file, calls| model::run_by(&rules, file, calls).text),
+        does: Box::new(move |file, calls| model::run_by(&rules, file, calls).text),
     }
 }
 
@@ -78,7 +74,7 @@ fn going_back(way: &Way) -> Vec<u32> {
     key
 }
 
-fn wrong_searches() -> Vec<Wrong> {
+fn wrong_searches() -> Vec<Wrong<Text>> {
     let student = |name, student: Student| by_rules(name, student);
     vec![
         student(
@@ -311,7 +307,7 @@ impl Rules for Nearest {
 /// The right rules but for one, put into a struct of its own.
 macro_rules! mistake {
     ($name:ident, $($rule:item)*) => {
-        struct $name;
+        pub(crate) struct $name;
         impl Rules for $name {
             fn least(&self, ticks: u32, hops: &[Hop]) -> Answer {
                 dijkstra::least(ticks, hops)
@@ -320,6 +316,8 @@ macro_rules! mistake {
         }
     };
 }
+
+mistake! { NoMistake, }
 
 mistake! { NinetyFivePlaces,
     fn places(&self) -> usize {
@@ -439,7 +437,7 @@ mistake! { RouteLinkByLink,
     }
 }
 
-fn wrong_calls() -> Vec<Wrong> {
+fn wrong_calls() -> Vec<Wrong<Text>> {
     vec![
         by_rules("17 at 95 sessions", NinetyFivePlaces),
         by_rules("17 at 97 sessions", NinetySevenPlaces),
@@ -542,7 +540,7 @@ mistake! { MoreBytesIgnored,
     }
 }
 
-fn wrong_files() -> Vec<Wrong> {
+fn wrong_files() -> Vec<Wrong<Text>> {
     vec![
         by_rules("5 before 4", StrayBitFirst),
         by_rules("absent value written and taken", AbsentValueWritten),
@@ -556,10 +554,10 @@ fn wrong_files() -> Vec<Wrong> {
 // ---- Mistakes in the text ----
 
 /// The right text, changed.
-fn by_text(name: &'static str, change: fn(Vec<u8>) -> Vec<u8>) -> Wrong {
+fn by_text(name: &'static str, change: fn(Vec<u8>) -> Vec<u8>) -> Wrong<Text> {
     Wrong {
         name,
-        text: Box::new(move |file, calls| change(model::transcript(file, calls, dijkstra::least))),
+        does: Box::new(move |file, calls| change(model::transcript(file, calls, dijkstra::least))),
     }
 }
 
@@ -569,7 +567,7 @@ fn by_line(text: Vec<u8>, change: fn(&str) -> String) -> Vec<u8> {
     text.lines().map(change).collect::<String>().into_bytes()
 }
 
-fn wrong_texts() -> Vec<Wrong> {
+fn wrong_texts() -> Vec<Wrong<Text>> {
     vec![
         by_text("last newline missing", |mut text| {
             text.pop();
@@ -588,122 +586,6 @@ fn wrong_texts() -> Vec<Wrong> {
             let broken = text.iter().position(|&byte| byte == b'?');
             let end = broken.map_or(text.len(), |at| at + "? no 11\n".len());
             text[..end].to_vec()
-        }),
-    ]
-}
-
-// ---- Mistakes with the lent buffer ----
-
-/// A stand-in for the library's function.
-pub type Report = fn(&[u8], &[u8], &mut [u8]) -> Result<usize, u64>;
-
-/// A wrong library: its mistake with the buffer, and its function.
-pub struct WrongLibrary {
-    pub name: &'static str,
-    pub report: Report,
-}
-
-/// The right text put into the buffer, or refusal 20.
-pub fn right_report(file: &[u8], calls: &[u8], out: &mut [u8]) -> Result<usize, u64> {
-    let text = model::transcript(file, calls, dijkstra::least);
-    if out.len() < text.len() {
-        return Err(20);
-    }
-    out[..text.len()].copy_from_slice(&text);
-    Ok(text.len())
-}
-
-/// All wrong libraries.
-pub fn all_libraries() -> Vec<WrongLibrary> {
-    let library = |name, report| WrongLibrary { name, report };
-    vec![
-        library("a byte after the text changed", |file, calls, out| {
-            let length = right_report(file, calls, out)?;
-            if let Some(next) = out.get_mut(length) {
-                *next = !*next;
-            }
-            Ok(length)
-        }),
-        library("rest of the buffer cleared", |file, calls, out| {
-            let length = right_report(file, calls, out)?;
-            out[length..].fill(0);
-            Ok(length)
-        }),
-        library(
-            "short buffer filled before it is refused",
-            |file, calls, out| {
-                let text = model::transcript(file, calls, dijkstra::least);
-                let room = text.len().min(out.len());
-                out[..room].copy_from_slice(&text[..room]);
-                right_report(file, calls, out)
-            },
-        ),
-        library(
-            "exact buffer refused",
-            |file, calls, out| match right_report(file, calls, out) {
-                Ok(length) if length == out.len() => Err(20),
-                other => other,
-            },
-        ),
-        library("short buffer not refused", |file, calls, out| {
-            right_report(file, calls, out).or(Ok(out.len()))
-        }),
-        library("length without the last newline", |file, calls, out| {
-            right_report(file, calls, out).map(|length| length - 1)
-        }),
-    ]
-}
-
-// ---- Mistakes of the writer ----
-
-/// A stand-in for the library's function that reads a network file and writes it again.
-pub type Image = fn(&[u8], &mut [u8]) -> Result<usize, u64>;
-
-/// A wrong writer: its mistake, and its function.
-pub struct WrongImage {
-    pub name: &'static str,
-    pub image: Image,
-}
-
-/// The right image put into the buffer, or the refusal.
-fn right_image(file: &[u8], out: &mut [u8]) -> Result<usize, u64> {
-    let image = write_again(file, out.len()).map_err(u64::from)?;
-    out[..image.len()].copy_from_slice(&image);
-    Ok(image.len())
-}
-
-/// All wrong writers.
-pub fn all_images() -> Vec<WrongImage> {
-    let writer = |name, image| WrongImage { name, image };
-    vec![
-        writer("a byte after the image changed", |file, out| {
-            let length = right_image(file, out)?;
-            if let Some(next) = out.get_mut(length) {
-                *next = !*next;
-            }
-            Ok(length)
-        }),
-        writer("short buffer filled before it is refused", |file, out| {
-            if let Ok(image) = write_again(file, usize::MAX) {
-                let room = image.len().min(out.len());
-                out[..room].copy_from_slice(&image[..room]);
-            }
-            right_image(file, out)
-        }),
-        writer("20 before the refusal of the file", |file, out| {
-            if out.len() < file.len() {
-                return Err(20);
-            }
-            right_image(file, out)
-        }),
-        writer("closed frames of no link written", |file, out| {
-            let network = read_network(file).map_err(u64::from)?;
-            let links = network.links.iter();
-            let links = links.map(|link| Link { closed: 0, ..*link }).collect();
-            let open = image(&Network { links, ..network });
-            right_image(file, out)?;
-            out[..open.len()].copy_from_slice(&open);
-            Ok(open.len())
         }),
     ]
 }

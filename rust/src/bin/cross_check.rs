@@ -1,13 +1,17 @@
 //! Compares the library with the model on random inputs, and then shows that wrong ones would be found.
 
 use frames_check::compared::Compared;
-use frames_check::inputs::{self, Input};
+use frames_check::inputs::{self, Case, Input};
 use frames_check::listing::{Listed, MOST_PATHS};
-use frames_check::network_file::write_again;
-use frames_check::random::{self, Random};
+use frames_check::model::Run;
+use frames_check::network_file::Values;
+use frames_check::random::Random;
 use frames_check::route::{Answer, Hop};
-use frames_check::wrong::{self, Image, Report, Wrong, WrongImage, WrongLibrary};
-use frames_check::{dijkstra, library, listing, model};
+use frames_check::runs::Runs;
+use frames_check::state_calls::StateCalls;
+use frames_check::tried::Tried;
+use frames_check::writing::Writing;
+use frames_check::{dijkstra, library, listing, model, wrong};
 use std::cell::{Cell, RefCell};
 use std::process::exit;
 use std::time::{Duration, Instant};
@@ -18,11 +22,8 @@ const SEED: u64 = 0x0960_0064_0096_0032;
 /// Each refusal has to be seen at least so often.
 const LEAST_SEEN: usize = 20;
 
-/// The refusals that the program and the lent buffer can show: 1 to 20.
-const REFUSALS: usize = 20;
-
-/// Files written again, files refused and buffers too short have to be seen at least so often each.
-const LEAST_IMAGES: usize = 20_000;
+/// The refusals that a text can show: 1 to 19.
+const REFUSALS: usize = 19;
 
 fn main() {
     let start = Instant::now();
@@ -36,8 +37,7 @@ fn main() {
     check.print_times(start.elapsed());
     check.demand_wrong_ones_found();
     check.demand_refusals_seen();
-    check.demand_routes_listed();
-    check.demand_images_seen();
+    check.demand_sorts_seen();
     println!("cross-check: {} inputs, 0 differed", check.inputs);
 }
 
@@ -91,35 +91,11 @@ struct Check {
     refusals: [usize; REFUSALS + 1],
     searches: Searches,
     listed: Compared,
-    wrong_models: Vec<Tried<Wrong>>,
-    wrong_libraries: Vec<Tried<WrongLibrary>>,
-    wrong_images: Vec<Tried<WrongImage>>,
-    images: Images,
-    rooms: Random,
-    buffer: Buffer,
+    wrong_models: Tried<wrong::Text>,
+    runs: Runs,
+    state_calls: StateCalls,
+    writing: Writing,
     times: Times,
-}
-
-/// How many files were written again, how many were refused, and how many buffers were too short.
-#[derive(Default)]
-struct Images {
-    written: usize,
-    refused: usize,
-    too_short: usize,
-}
-
-/// A wrong model or library, and after how many inputs it differed.
-struct Tried<T> {
-    wrong: T,
-    differed: Option<usize>,
-}
-
-fn untried<T>(all: Vec<T>) -> Vec<Tried<T>> {
-    let untried = |wrong| Tried {
-        wrong,
-        differed: None,
-    };
-    all.into_iter().map(untried).collect()
 }
 
 /// The time of each part.
@@ -127,8 +103,10 @@ fn untried<T>(all: Vec<T>) -> Vec<Tried<T>> {
 struct Times {
     inputs: Duration,
     model: Duration,
-    library: Duration,
-    wrong: Duration,
+    runs: Duration,
+    wrong_models: Duration,
+    state_calls: Duration,
+    writing: Duration,
 }
 
 /// Runs a part and adds its time.
@@ -139,16 +117,24 @@ fn timed<T>(time: &mut Duration, part: impl FnOnce() -> T) -> T {
     result
 }
 
-/// An input with the text that belongs to it, and the rooms to try: enough, and now and then too little.
-struct Trial {
-    input: Input,
-    expected: Vec<u8>,
-    enough: usize,
-    too_little: Option<usize>,
+/// The library's writer, handed its values in one.
+fn write(values: &Values, out: &mut [u8]) -> Result<usize, u64> {
+    let Values {
+        ticks,
+        frames,
+        range,
+        closed,
+    } = values;
+    library::write(*ticks, frames, range, closed, out)
 }
 
 impl Check {
     fn new() -> Self {
+        let state_calls = StateCalls::new(
+            Box::new(library::lookup),
+            Box::new(library::free_frames),
+            SEED + 2,
+        );
         Check {
             inputs: 0,
             calls: 0,
@@ -158,12 +144,10 @@ impl Check {
             refusals: [0; REFUSALS + 1],
             searches: Searches::default(),
             listed: Compared::default(),
-            wrong_models: untried(wrong::all()),
-            wrong_libraries: untried(wrong::all_libraries()),
-            wrong_images: untried(wrong::all_images()),
-            images: Images::default(),
-            rooms: Random::new(SEED + 2),
-            buffer: Buffer::new(),
+            wrong_models: Tried::new("model", wrong::all()),
+            runs: Runs::new(Box::new(library::report), SEED + 1),
+            state_calls,
+            writing: Writing::new(Box::new(library::image), Box::new(write), SEED + 3),
             times: Times::default(),
         }
     }
@@ -176,121 +160,99 @@ impl Check {
                 1, 5, 0, 2, 0, 1, 1, 5, 0, 2, 0, 1, 3, 5, 0, 2, 1, 0, 3, 5, 0,
             ],
         };
-        let expected =
-            b"1 S ok 6 16 7 0\n2 S no 16\n3 R ok\n4 Q ok 0 0 0\n5 R no 19\nlive 0\n".to_vec();
-        if self.model_text(&input) != expected {
+        let expected = "1 S ok 6 16 7 0\n2 S no 16\n3 R ok\n4 Q ok 0 0 0\n5 R no 19\nlive 0\n";
+        let run = self.model_run(&input);
+        if run.text != expected.as_bytes() {
             fail("the model's text of the worked example isn't the document's");
         }
-        let trial = Trial {
-            enough: expected.len(),
-            too_little: Some(expected.len() - 1),
-            input,
-            expected,
-        };
-        self.compare(&trial);
+        self.compare_runs(&input, &run);
+        self.worked_calls();
         println!("worked example: as in the document");
     }
 
-    fn model_text(&self, input: &Input) -> Vec<u8> {
-        let least = |ticks, hops: &[Hop]| self.searches.least(ticks, hops);
-        model::transcript(&input.file, &input.calls, least)
+    /// The library's lookup, free frames and writer on the document's examples, worked out by hand.
+    fn worked_calls(&self) {
+        let file = [0x30, 0, 2, 3, 8, 2, 3, 8, 2];
+        let calls = [1, 5, 0, 2, 0, 1];
+        let mut shown = [0; 6];
+        let lookup = library::lookup(&file, &calls, 5, &mut shown);
+        if (lookup, shown) != (Ok(6), [2, 6, 0, 1, 7, 0]) {
+            fail("a lookup after the example's first call isn't its answer");
+        }
+        let free = [0, 1, 2].map(|link| library::free_frames(&file, &calls, link));
+        if free != [Ok(7), Ok(7), Err(13)] {
+            fail("the free frames after the example's first call aren't seven of each link");
+        }
+        let mut image = [0; 7];
+        let length = library::write(48, &[16, 8], &[4, 2], &[0, 0], &mut image);
+        if (length, image) != (Ok(7), [0x30, 0, 2, 0, 3, 8, 2]) {
+            fail("the file of the example's values isn't the document's");
+        }
     }
 
-    /// One random input: the library's text, then the wrong models and libraries.
+    fn model_run(&self, input: &Input) -> Run {
+        let least = |ticks, hops: &[Hop]| self.searches.least(ticks, hops);
+        model::run(&input.file, &input.calls, least)
+    }
+
+    /// One random input: the library's run and the wrong models; lookups and free frames after its calls; its file and a
+    /// network given as values written.
     fn one_input(&mut self, random: &mut Random) {
         let mut times = std::mem::take(&mut self.times);
         let input = timed(&mut times.inputs, || inputs::input(random));
-        let expected = timed(&mut times.model, || self.model_text(&input));
-        let trial = Trial {
-            enough: random::enough_room(random, expected.len()),
-            too_little: random
-                .chance(25)
-                .then(|| random::too_little_room(random, expected.len())),
-            input,
-            expected,
-        };
+        let run = timed(&mut times.model, || self.model_run(&input));
         self.inputs += 1;
-        timed(&mut times.library, || {
-            self.compare(&trial);
-            self.compare_images(&trial.input.file);
+        timed(&mut times.runs, || self.compare_runs(&input, &run));
+        timed(&mut times.wrong_models, || {
+            self.try_wrong_models(&input, &run)
         });
-        timed(&mut times.wrong, || self.try_wrong_ones(&trial));
+        timed(&mut times.state_calls, || {
+            self.compare_state_calls(&input, &run)
+        });
+        timed(&mut times.writing, || self.compare_writing(&input));
         self.times = times;
     }
 
-    /// Compares the library with the model and counts what the library answered.
-    fn compare(&mut self, trial: &Trial) {
-        if let Some(fault) = self.buffer.text_fault(library::report, trial) {
-            self.show_and_fail(trial, &fault);
+    /// Compares the library's run with the model's, and counts what it answered.
+    fn compare_runs(&mut self, input: &Input, run: &Run) {
+        let inputs = self.inputs;
+        if let Err(fault) = self.runs.compare(Case { input, inputs, run }) {
+            self.show_and_fail(input, run, &fault);
         }
-        self.tally(trial.expected.len());
-        self.compare_with_listing(trial.expected.len());
-        if let Some(room) = trial.too_little {
-            if let Some(fault) = self.buffer.refusal_fault(library::report, trial, room) {
-                self.show_and_fail(trial, &fault);
-            }
-            self.refusals[20] += 1;
+        let text = std::str::from_utf8(&run.text).expect("the text is plain");
+        self.tally(text);
+        self.compare_with_listing(text);
+    }
+
+    /// Runs the wrong models that haven't differed yet.
+    fn try_wrong_models(&mut self, input: &Input, run: &Run) {
+        self.wrong_models.try_on(self.inputs, |wrong| {
+            wrong(&input.file, &input.calls) != run.text
+        });
+    }
+
+    /// Compares lookups and free frames after the calls.
+    fn compare_state_calls(&mut self, input: &Input, run: &Run) {
+        let inputs = self.inputs;
+        if let Err(fault) = self.state_calls.compare(Case { input, inputs, run }) {
+            self.show_and_fail(input, run, &fault);
         }
     }
 
-    /// Compares what the library writes of a file that it reads with the file, with room enough and with too little.
-    fn compare_images(&mut self, file: &[u8]) {
-        let rooms = [
-            random::enough_room(&mut self.rooms, file.len()),
-            random::too_little_room(&mut self.rooms, file.len().max(1)),
-        ];
-        for room in rooms {
-            if let Some(fault) = self.buffer.image_fault(library::image, file, room) {
-                println!("net.bin: {}", hex(file));
-                fail(&format!("input {}: {fault}", self.inputs));
-            }
-            match write_again(file, room) {
-                Ok(image) if image == file => self.images.written += 1,
-                Ok(_) => fail("the model has two files of one network"),
-                Err(20) => self.images.too_short += 1,
-                Err(_) => self.images.refused += 1,
-            }
-            for tried in &mut self.wrong_images {
-                let image = tried.wrong.image;
-                if tried.differed.is_none() && self.buffer.image_fault(image, file, room).is_some()
-                {
-                    tried.differed = Some(self.inputs);
-                }
-            }
+    /// Compares what is written of the file and of a network given as values.
+    fn compare_writing(&mut self, input: &Input) {
+        let Check {
+            writing, inputs, ..
+        } = self;
+        let file = writing.compare_file(*inputs, &input.file);
+        if let Err(fault) = file.and_then(|()| writing.compare_values(*inputs)) {
+            println!("net.bin: {}", hex(&input.file));
+            fail(&format!("input {}: {fault}", self.inputs));
         }
     }
 
-    /// Runs the wrong models and libraries that haven't differed yet.
-    fn try_wrong_ones(&mut self, trial: &Trial) {
-        let input = &trial.input;
-        for tried in self
-            .wrong_models
-            .iter_mut()
-            .filter(|t| t.differed.is_none())
-        {
-            if (tried.wrong.text)(&input.file, &input.calls) != trial.expected {
-                tried.differed = Some(self.inputs);
-            }
-        }
-        for tried in self
-            .wrong_libraries
-            .iter_mut()
-            .filter(|t| t.differed.is_none())
-        {
-            let report = tried.wrong.report;
-            let too_little = trial.too_little;
-            let fault = self.buffer.text_fault(report, trial).or_else(|| {
-                too_little.and_then(|room| self.buffer.refusal_fault(report, trial, room))
-            });
-            if fault.is_some() {
-                tried.differed = Some(self.inputs);
-            }
-        }
-    }
-
-    /// Counts what the lines of the library's text show.
-    fn tally(&mut self, length: usize) {
-        let text = std::str::from_utf8(&self.buffer.bytes[..length]).expect("the text is plain");
+    /// Counts what the lines of the text show, which is the library's and the model's.
+    fn tally(&mut self, text: &str) {
         for line in text.lines() {
             let words: Vec<&str> = line.split(' ').collect();
             match words[..] {
@@ -309,9 +271,8 @@ impl Check {
         self.blocked = self.refusals[18];
     }
 
-    /// Compares the answers that the library's text shows with those of the listing, and counts their routes.
-    fn compare_with_listing(&mut self, length: usize) {
-        let text = std::str::from_utf8(&self.buffer.bytes[..length]).expect("the text is plain");
+    /// Compares the answers that the text shows with those of the listing, and counts their routes.
+    fn compare_with_listing(&mut self, text: &str) {
         let answers: Vec<Answer> = text.lines().filter_map(answer).collect();
         let searches = self.searches.unread.take();
         if answers.len() != searches.len() {
@@ -330,17 +291,13 @@ impl Check {
     }
 
     /// Prints the input in hexadecimal and both texts, and ends the check as failed.
-    fn show_and_fail(&mut self, trial: &Trial, fault: &str) -> ! {
-        let input = &trial.input;
+    fn show_and_fail(&self, input: &Input, run: &Run, fault: &str) -> ! {
         let mut room = vec![0; 1_000_000];
         let length = library::report(&input.file, &input.calls, &mut room).unwrap_or(0);
         let text = &room[..length.min(room.len())];
         println!("net.bin: {}", hex(&input.file));
         println!("calls: {}", hex(&input.calls));
-        println!(
-            "model's text:\n{}",
-            String::from_utf8_lossy(&trial.expected)
-        );
+        println!("model's text:\n{}", String::from_utf8_lossy(&run.text));
         println!("library's text:\n{}", String::from_utf8_lossy(text));
         fail(&format!("input {}: {fault}", self.inputs));
     }
@@ -359,33 +316,33 @@ impl Check {
             self.searches.by_dijkstra.get()
         );
         self.listed.print();
-        println!(
-            "files read and written again: {} the same, {} refused, {} with too little room, 0 differed",
-            self.images.written, self.images.refused, self.images.too_short
-        );
+        self.runs.print();
+        self.state_calls.print();
+        self.writing.print();
     }
 
     fn print_times(&self, whole: Duration) {
-        println!(
-            "seconds: inputs {:.1}, model {:.1}, library {:.1}, wrong ones {:.1}, whole {:.1}",
-            self.times.inputs.as_secs_f64(),
-            self.times.model.as_secs_f64(),
-            self.times.library.as_secs_f64(),
-            self.times.wrong.as_secs_f64(),
-            whole.as_secs_f64()
-        );
+        let times = &self.times;
+        let parts = [
+            ("inputs", times.inputs),
+            ("model", times.model),
+            ("runs", times.runs),
+            ("wrong models", times.wrong_models),
+            ("lookups and free frames", times.state_calls),
+            ("writing", times.writing),
+            ("whole", whole),
+        ];
+        let parts = parts.map(|(name, time)| format!("{name} {:.1}", time.as_secs_f64()));
+        println!("seconds: {}", parts.join(", "));
     }
 
     fn demand_wrong_ones_found(&self) {
-        for tried in &self.wrong_models {
-            demand_found("model", tried.wrong.name, tried.differed);
-        }
-        for tried in &self.wrong_libraries {
-            demand_found("library", tried.wrong.name, tried.differed);
-        }
-        for tried in &self.wrong_images {
-            demand_found("writer", tried.wrong.name, tried.differed);
-        }
+        demand_found(&self.wrong_models);
+        demand_found(&self.runs.wrong);
+        demand_found(&self.state_calls.wrong_lookups);
+        demand_found(&self.state_calls.wrong_counts);
+        demand_found(&self.writing.wrong_images);
+        demand_found(&self.writing.wrong_writers);
     }
 
     fn demand_refusals_seen(&self) {
@@ -396,29 +353,26 @@ impl Check {
         }
     }
 
-    fn demand_images_seen(&self) {
-        let Images {
-            written,
-            refused,
-            too_short,
-        } = self.images;
-        if written.min(refused).min(too_short) < LEAST_IMAGES {
-            fail("too few files were written again, refused or given too little room");
-        }
-    }
-
-    fn demand_routes_listed(&self) {
-        if let Some(too_few) = self.listed.too_few() {
-            fail(&format!("listed routes: {too_few}"));
+    fn demand_sorts_seen(&self) {
+        let listed = self.listed.too_few();
+        let listed = listed.map(|few| format!("listed routes: {few}"));
+        let too_few = [
+            listed,
+            self.runs.too_few(),
+            self.state_calls.too_few(),
+            self.writing.too_few(),
+        ];
+        if let Some(too_few) = too_few.into_iter().flatten().next() {
+            fail(&too_few);
         }
     }
 }
 
-/// The wrong one must have differed.
-fn demand_found(kind: &str, name: &str, differed: Option<usize>) {
-    match differed {
-        Some(inputs) => println!("wrong {kind} {name}: differed after {inputs} inputs"),
-        None => fail(&format!("wrong {kind} {name} never differed")),
+/// Each wrong one must have differed.
+fn demand_found<F>(tried: &Tried<F>) {
+    tried.print();
+    if let Some(missed) = tried.never_differed() {
+        fail(&missed);
     }
 }
 
@@ -456,76 +410,4 @@ fn value<T: std::str::FromStr>(word: &str) -> T {
 
 fn hex(bytes: &[u8]) -> String {
     bytes.iter().map(|byte| format!("{byte:02x} ")).collect()
-}
-
-// ---- The lent buffer ----
-
-/// The lent buffer and the bytes that it is filled with before each call.
-struct Buffer {
-    bytes: Vec<u8>,
-    pattern: Vec<u8>,
-}
-
-impl Buffer {
-    fn new() -> Self {
-        let mut random = Random::new(SEED + 1);
-        Buffer {
-            bytes: Vec::new(),
-            pattern: random.bytes(1_000_000),
-        }
-    }
-
-    /// Fills a buffer of that length afresh and lends it.
-    fn lend(&mut self, report: Report, input: &Input, room: usize) -> Result<usize, u64> {
-        self.bytes.clear();
-        self.bytes.extend_from_slice(&self.pattern[..room]);
-        report(&input.file, &input.calls, &mut self.bytes)
-    }
-
-    /// The text must stand at the start of a buffer with room for it, and the bytes after it as they were.
-    fn text_fault(&mut self, report: Report, trial: &Trial) -> Option<String> {
-        let room = trial.enough;
-        let answer = self.lend(report, &trial.input, room);
-        let length = trial.expected.len();
-        if answer != Ok(length) {
-            return Some(format!("room {room} gave {answer:?}, not {length}"));
-        }
-        if self.bytes[..length] != trial.expected {
-            return Some("the texts differ".to_string());
-        }
-        if self.bytes[length..] != self.pattern[length..room] {
-            return Some("bytes after the text were touched".to_string());
-        }
-        None
-    }
-
-    /// What a file says must be written at the start of a buffer with room for it, and the other bytes be as they were;
-    /// where the file or the buffer is refused, all of them.
-    fn image_fault(&mut self, image: Image, file: &[u8], room: usize) -> Option<String> {
-        self.bytes.clear();
-        self.bytes.extend_from_slice(&self.pattern[..room]);
-        let answer = image(file, &mut self.bytes);
-        let expected = write_again(file, room).map_err(u64::from);
-        if answer != expected.as_ref().map(Vec::len).map_err(|&refusal| refusal) {
-            return Some(format!(
-                "an image, room {room}, gave {answer:?}, not {expected:?}"
-            ));
-        }
-        let written = expected.unwrap_or_default();
-        let same = self.bytes.starts_with(&written)
-            && self.bytes[written.len()..] == self.pattern[written.len()..room];
-        (!same).then(|| "an image's bytes differ, or others were touched".to_string())
-    }
-
-    /// A buffer that is too short must be refused with 20 and be as it was.
-    fn refusal_fault(&mut self, report: Report, trial: &Trial, room: usize) -> Option<String> {
-        let answer = self.lend(report, &trial.input, room);
-        if answer != Err(20) {
-            return Some(format!("room {room} gave {answer:?}, not refusal 20"));
-        }
-        if self.bytes != self.pattern[..room] {
-            return Some("a buffer that is too short was touched".to_string());
-        }
-        None
-    }
 }

@@ -1,0 +1,165 @@
+//! Runs of the program in lent buffers, compared with the model.
+
+use crate::inputs::{Case, Input};
+use crate::lent::Lent;
+use crate::model::{room_for_run, INPUT_LIMIT};
+use crate::network_file::Refusal;
+use crate::random::{enough_room, too_little_room, Random};
+use crate::sorts::{add_each, print_lines, sort, too_few_in, Line, Sort};
+use crate::stand_in::Report;
+use crate::tried::Tried;
+use crate::wrong_runs;
+
+/// Lists of so many bytes, which are rare, are given every sort of room.
+const NEAR_THE_LIMIT: usize = INPUT_LIMIT - 16;
+
+/// The function under test, and what has been seen of it so far.
+pub struct Runs {
+    report: Box<Report>,
+    random: Random,
+    lent: Lent<u8>,
+    /// The rooms by the least one that isn't refused; those of lists with more bytes than count.
+    rooms: [Sort; 5],
+    over_the_limit: [Sort; 5],
+    /// Refused, although the text would have fitted.
+    fitting: [Sort; 1],
+    pub wrong: Tried<Box<Report>>,
+}
+
+/// The sorts of rooms, of each of which there have to be so many.
+fn rooms(least: usize) -> [Sort; 5] {
+    ["exact", "longer", "one byte short", "shorter", "none"].map(|name| sort(name, least))
+}
+
+impl Runs {
+    pub fn new(report: Box<Report>, seed: u64) -> Self {
+        let mut random = Random::new(seed);
+        let pattern = random.bytes(800_000);
+        Runs {
+            report,
+            random,
+            lent: Lent::new(pattern),
+            rooms: rooms(20_000),
+            over_the_limit: rooms(20),
+            fitting: [sort("with room for the text", 50_000)],
+            wrong: Tried::new("run", wrong_runs::all()),
+        }
+    }
+
+    /// Compares the run with the model's in rooms that are enough and in rooms that aren't; what differs, in words.
+    pub fn compare(&mut self, case: Case<'_>) -> Result<(), String> {
+        let Input { file, calls } = case.input;
+        if case.run.text.len() > room_for_run(calls) {
+            return Err("the text is longer than the room that serves for every text".to_string());
+        }
+        for room in self.rooms_for(calls) {
+            let right = expected(case, room);
+            let mut fault =
+                |report: &Report| self.lent.fault(room, right, |out| report(file, calls, out));
+            if let Some(fault) = fault(&self.report) {
+                return Err(format!("run: {fault}"));
+            }
+            self.wrong
+                .try_on(case.inputs, |wrong| fault(wrong).is_some());
+            self.tally(case, room);
+        }
+        Ok(())
+    }
+
+    /// A room that is enough and one that isn't; where the list is near the limit, one of each sort.
+    fn rooms_for(&mut self, calls: &[u8]) -> Vec<usize> {
+        let random = &mut self.random;
+        let exact = room_for_run(calls);
+        if calls.len() < NEAR_THE_LIMIT {
+            return vec![enough_room(random, exact), too_little_room(random, exact)];
+        }
+        let longer = exact + random.between(1, 100);
+        let shorter = random.between(1, exact - 2);
+        vec![exact, longer, exact - 1, shorter, 0]
+    }
+
+    fn tally(&mut self, case: Case<'_>, room: usize) {
+        let calls = &case.input.calls;
+        let exact = room_for_run(calls);
+        let is_of = [
+            room == exact,
+            room > exact,
+            room == exact - 1,
+            0 < room && room < exact - 1,
+            room == 0,
+        ];
+        add_each(&mut self.rooms, &is_of);
+        if calls.len() > INPUT_LIMIT {
+            add_each(&mut self.over_the_limit, &is_of);
+        }
+        self.fitting[0].add(case.run.text.len() <= room && room < exact);
+    }
+
+    fn lines(&self) -> [Line<'_>; 3] {
+        [
+            ("", &self.rooms),
+            ("over 65,536 call bytes: ", &self.over_the_limit),
+            ("refused ", &self.fitting),
+        ]
+    }
+
+    /// Prints what was seen.
+    pub fn print(&self) {
+        println!("rooms of runs:");
+        print_lines(&self.lines());
+    }
+
+    /// The first sort of which too few were seen, in words.
+    pub fn too_few(&self) -> Option<String> {
+        too_few_in(&self.lines()).map(|few| format!("rooms of runs: {few}"))
+    }
+}
+
+/// The text, or 20 where the room isn't enough for every text of so many call bytes.
+fn expected<'a>(case: Case<'a>, room: usize) -> Result<&'a [u8], Refusal> {
+    if room < room_for_run(&case.input.calls) {
+        Err(20)
+    } else {
+        Ok(&case.run.text)
+    }
+}
+
+#[cfg(test)]
+mod tests {
+    use super::*;
+    use crate::{dijkstra, inputs, model, stand_in};
+
+    /// Compares a function with the model on some inputs, most of them short.
+    fn compared(report: Box<Report>) -> Result<Runs, String> {
+        let mut runs = Runs::new(report, 11);
+        let mut random = Random::new(12);
+        for inputs in 1..=600 {
+            let input = match inputs % 100 {
+                0 => inputs::over_the_limit(&mut random),
+                _ => inputs::input(&mut random),
+            };
+            let run = &model::run(&input.file, &input.calls, dijkstra::least);
+            runs.compare(Case {
+                input: &input,
+                inputs,
+                run,
+            })?;
+        }
+        Ok(runs)
+    }
+
+    #[test]
+    fn the_right_one_does_not_differ_and_wrong_ones_do() {
+        let right = compared(Box::new(stand_in::report));
+        let right = right.unwrap_or_else(|fault| panic!("{fault}"));
+        assert_eq!(right.wrong.never_differed(), None);
+    }
+
+    #[test]
+    fn a_wrong_one_in_the_place_of_the_library_is_found() {
+        for wrong in wrong_runs::all() {
+            let found = compared(wrong.does).err();
+            assert!(found.is_some_and(|words| words.starts_with("run: ")));
+        }
+    }
+}

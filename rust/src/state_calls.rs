@@ -1,0 +1,350 @@
+//! Lookups and free frames after a list of calls, compared with the model.
+
+use crate::call_records::{read_call, Call};
+use crate::inputs::{Case, Input};
+use crate::lent::Lent;
+use crate::model::{self, Stored, INPUT_LIMIT};
+use crate::network_file::Refusal;
+use crate::random::{enough_room, too_little_room, Random};
+use crate::route::MAX_HOPS;
+use crate::sorts::{add_each, print_lines, sort, sorts_of_hops, too_few_in, total, Line, Sort};
+use crate::stand_in::{FreeFrames, Lookup};
+use crate::tried::Tried;
+use crate::wrong_state;
+
+/// Every lookup and every count replays its list. After a list of more bytes than this, not every live session is looked
+/// up and not every link counted, but so many of them.
+const LONG_LIST: usize = 600;
+const SAMPLE: usize = 8;
+
+/// The numbers that a lookup can put, at most.
+const MOST_NUMBERS: usize = 2 + 2 * MAX_HOPS;
+
+/// What is known of a number that is looked up. One in the call records that isn't live was released, or its set-up
+/// was refused or never served; one near a live number differs from it by one or in one bit.
+#[derive(Clone, Copy)]
+enum Origin {
+    CallRecords,
+    NearLive,
+    Any,
+    Live,
+}
+
+/// What a lookup gives.
+type Shown = Result<Vec<u16>, Refusal>;
+
+/// The functions under test, and what has been seen of them so far.
+pub struct StateCalls {
+    lookup: Box<Lookup>,
+    free_frames: Box<FreeFrames>,
+    random: Random,
+    lent: Lent<u16>,
+    long_lists: usize,
+    /// Shown; refused with 19, with 20, and by the file.
+    lookups: [Sort; 4],
+    /// Shown, by the number of hops; refused with 19, by what is known of the number.
+    hops: [Sort; MAX_HOPS],
+    not_live: [Sort; 3],
+    /// Counted; refused with 13, and by the file.
+    counts: [Sort; 3],
+    /// Counted, with a closed frame, and with a held one.
+    links: [Sort; 2],
+    pub wrong_lookups: Tried<Box<Lookup>>,
+    pub wrong_counts: Tried<Box<FreeFrames>>,
+}
+
+impl StateCalls {
+    pub fn new(lookup: Box<Lookup>, free_frames: Box<FreeFrames>, seed: u64) -> Self {
+        let mut random = Random::new(seed);
+        let pattern = (0..1_000).map(|_| random.word() as u16).collect();
+        StateCalls {
+            lookup,
+            free_frames,
+            random,
+            lent: Lent::new(pattern),
+            long_lists: 0,
+            lookups: [
+                sort("shown", 80_000),
+                sort("refused with 19:", 200_000),
+                sort("with 20:", 20_000),
+                sort("by the file", 60_000),
+            ],
+            hops: sorts_of_hops([30_000, 10_000, 10_000, 8_000, 4_000, 3_000, 2_000, 1_500]),
+            not_live: [
+                sort("in the call records", 100_000),
+                sort("near a live number", 20_000),
+                sort("any number", 50_000),
+            ],
+            counts: [
+                sort("counted", 600_000),
+                sort("refused with 13:", 150_000),
+                sort("by the file", 40_000),
+            ],
+            links: [
+                sort("with a closed frame", 300_000),
+                sort("with a held frame", 150_000),
+            ],
+            wrong_lookups: Tried::new("lookup", wrong_state::lookups()),
+            wrong_counts: Tried::new("count", wrong_state::counts()),
+        }
+    }
+
+    /// Compares lookups and counts after the calls of an input; what differs, in words.
+    pub fn compare(&mut self, case: Case<'_>) -> Result<(), String> {
+        self.long_lists += usize::from(is_long(case));
+        for (origin, number) in self.numbers(case) {
+            for room in self.rooms(&case.run.state, number) {
+                let expected = self.compare_lookup(case, number, room)?;
+                self.tally_lookup(origin, &expected);
+            }
+        }
+        for link in self.links(case) {
+            self.compare_count(case, link)?;
+        }
+        Ok(())
+    }
+
+    /// Compares one lookup, and answers what it gave.
+    fn compare_lookup(
+        &mut self,
+        case: Case<'_>,
+        number: u16,
+        room: usize,
+    ) -> Result<Shown, String> {
+        let Input { file, calls } = case.input;
+        let expected = model::lookup(&case.run.state, number, room);
+        let right = expected.as_deref().map_err(Refusal::clone);
+        let mut fault = |lookup: &Lookup| {
+            let call = |out: &mut [u16]| lookup(file, calls, number, out);
+            self.lent.fault(room, right, call)
+        };
+        if let Some(fault) = fault(&self.lookup) {
+            let shown = self.lent.written(room);
+            let words = format!("lookup of {number}: {fault}");
+            return Err(format!(
+                "{words}\nlent places: {shown:?}\nmodel: {expected:?}"
+            ));
+        }
+        self.wrong_lookups
+            .try_on(case.inputs, |wrong| fault(wrong).is_some());
+        Ok(expected)
+    }
+
+    fn tally_lookup(&mut self, origin: Origin, shown: &Shown) {
+        match shown {
+            Ok(shown) => {
+                self.lookups[0].add(true);
+                self.hops[shown.len() / 2 - 2].add(true);
+            }
+            Err(19) => {
+                self.lookups[1].add(true);
+                self.not_live[origin as usize].add(true);
+            }
+            Err(20) => self.lookups[2].add(true),
+            Err(_) => self.lookups[3].add(true),
+        }
+    }
+
+    fn compare_count(&mut self, case: Case<'_>, link: u8) -> Result<(), String> {
+        let Input { file, calls } = case.input;
+        let expected = model::free_frames(&case.run.state, link).map_err(u64::from);
+        let answer = (self.free_frames)(file, calls, link);
+        if answer != expected {
+            return Err(format!(
+                "free frames of link {link}: {answer:?}, model: {expected:?}"
+            ));
+        }
+        self.wrong_counts
+            .try_on(case.inputs, |wrong| wrong(file, calls, link) != expected);
+        self.tally_count(&case.run.state, link);
+        Ok(())
+    }
+
+    fn tally_count(&mut self, stored: &Stored, link: u8) {
+        let Ok(state) = stored else {
+            return self.counts[2].add(true);
+        };
+        let Ok(values) = state.link(link) else {
+            return self.counts[1].add(true);
+        };
+        self.counts[0].add(true);
+        let held = state.ledger.held[usize::from(link)];
+        add_each(&mut self.links, &[values.closed != 0, held != 0]);
+    }
+
+    // ---- What is asked for ----
+
+    /// The session numbers to look up: the live ones; of the others in the call records the last and another one; one
+    /// near a live number; and any number.
+    fn numbers(&mut self, case: Case<'_>) -> Vec<(Origin, u16)> {
+        let live = live_numbers(&case.run.state);
+        let mut records = numbers_in(&case.input.calls);
+        records.retain(|number| !live.contains(number));
+        let random = &mut self.random;
+        let mut numbers = vec![(Origin::Any, random.word() as u16)];
+        if let Some(&last) = records.last() {
+            let another = random.pick(&records);
+            numbers.extend([last, another].map(|number| (Origin::CallRecords, number)));
+        }
+        if !live.is_empty() {
+            let live = random.pick(&live);
+            numbers.push((Origin::NearLive, near(random, live)));
+        }
+        let live = self.some_of(case, live).into_iter();
+        numbers.extend(live.map(|number| (Origin::Live, number)));
+        numbers
+    }
+
+    /// The rooms for a lookup: enough, and now and then too little; any where it is refused whatever the room.
+    fn rooms(&mut self, stored: &Stored, number: u16) -> Vec<usize> {
+        let random = &mut self.random;
+        let Ok(shown) = model::lookup(stored, number, MOST_NUMBERS) else {
+            return vec![random.below(MOST_NUMBERS + 2)];
+        };
+        let mut rooms = vec![enough_room(random, shown.len())];
+        if random.chance(25) {
+            rooms.push(too_little_room(random, shown.len()));
+        }
+        rooms
+    }
+
+    /// The links to count: those that are there; the first number that is none's, and another such number.
+    fn links(&mut self, case: Case<'_>) -> Vec<u8> {
+        let number = match &case.run.state {
+            Ok(state) => state.network.links.len(),
+            Err(_) => 0,
+        };
+        let mut links = vec![number as u8, self.random.between(number, 255) as u8];
+        links.extend(self.some_of(case, (0..number as u8).collect()));
+        links
+    }
+
+    /// All of them, or a sample where the list is long.
+    fn some_of<T>(&mut self, case: Case<'_>, mut all: Vec<T>) -> Vec<T> {
+        while is_long(case) && all.len() > SAMPLE {
+            all.swap_remove(self.random.below(all.len()));
+        }
+        all
+    }
+
+    // ---- What was seen ----
+
+    fn lookup_lines(&self) -> [Line<'_>; 3] {
+        [
+            ("", &self.lookups),
+            ("shown: of ", &self.hops),
+            ("refused with 19: ", &self.not_live),
+        ]
+    }
+
+    fn count_lines(&self) -> [Line<'_>; 2] {
+        [("", &self.counts), ("counted: ", &self.links)]
+    }
+
+    /// Prints what was seen.
+    pub fn print(&self) {
+        let (lookups, counts) = (total(&self.lookups), total(&self.counts));
+        println!("lookups: {lookups} compared, 0 differed");
+        print_lines(&self.lookup_lines());
+        println!("free frames: {counts} compared, 0 differed");
+        print_lines(&self.count_lines());
+        println!(
+            "  of every live session and every link; after {} lists of over {LONG_LIST} bytes, of {SAMPLE} of each at most",
+            self.long_lists
+        );
+    }
+
+    /// The first sort of which too few were seen, in words.
+    pub fn too_few(&self) -> Option<String> {
+        let lookups = too_few_in(&self.lookup_lines()).map(|few| format!("lookups: {few}"));
+        let counts = || too_few_in(&self.count_lines()).map(|few| format!("free frames: {few}"));
+        lookups.or_else(counts)
+    }
+}
+
+/// Is the list one after which a sample has to do?
+fn is_long(case: Case<'_>) -> bool {
+    case.input.calls.len() > LONG_LIST
+}
+
+/// The numbers of the live sessions.
+fn live_numbers(stored: &Stored) -> Vec<u16> {
+    match stored {
+        Ok(state) => state.ledger.sessions.iter().map(|s| s.number).collect(),
+        Err(_) => Vec::new(),
+    }
+}
+
+/// A number that differs from another one by one or in one bit.
+fn near(random: &mut Random, number: u16) -> u16 {
+    let bit = 1 << random.below(16);
+    random.pick(&[number ^ bit, number.wrapping_add(1), number.wrapping_sub(1)])
+}
+
+/// The session numbers of call records, also of those after one that can't be read, and of one across the limit.
+fn numbers_in(calls: &[u8]) -> Vec<u16> {
+    let mut numbers = Vec::new();
+    let mut rest = &calls[..calls.len().min(INPUT_LIMIT + 8)];
+    while !rest.is_empty() {
+        let Ok((call, used)) = read_call(rest) else {
+            rest = &rest[1..];
+            continue;
+        };
+        if let Call::SetUp { number, .. } | Call::Release { number } = call {
+            numbers.push(number);
+        }
+        rest = &rest[used..];
+    }
+    numbers
+}
+
+#[cfg(test)]
+mod tests {
+    use super::*;
+    use crate::{dijkstra, inputs, stand_in};
+
+    /// Compares functions with the model on some inputs, most of them short.
+    fn compared(lookup: Box<Lookup>, free_frames: Box<FreeFrames>) -> Result<StateCalls, String> {
+        let mut calls = StateCalls::new(lookup, free_frames, 7);
+        let mut random = Random::new(8);
+        for inputs in 1..=1_500 {
+            let input = match inputs % 300 {
+                0 => inputs::over_the_limit(&mut random),
+                _ => inputs::input(&mut random),
+            };
+            let run = &model::run(&input.file, &input.calls, dijkstra::least);
+            calls.compare(Case {
+                input: &input,
+                inputs,
+                run,
+            })?;
+        }
+        Ok(calls)
+    }
+
+    #[test]
+    fn right_ones_do_not_differ_and_wrong_ones_do() {
+        let right = compared(Box::new(stand_in::lookup), Box::new(stand_in::free_frames));
+        let right = right.unwrap_or_else(|fault| panic!("{fault}"));
+        assert_eq!(right.wrong_lookups.never_differed(), None);
+        assert_eq!(right.wrong_counts.never_differed(), None);
+    }
+
+    #[test]
+    fn a_wrong_one_in_the_place_of_the_library_is_found() {
+        for wrong in wrong_state::lookups() {
+            let found = compared(wrong.does, Box::new(stand_in::free_frames)).err();
+            assert!(found.is_some_and(|words| words.starts_with("lookup of ")));
+        }
+        for wrong in wrong_state::counts() {
+            let found = compared(Box::new(stand_in::lookup), wrong.does).err();
+            assert!(found.is_some_and(|words| words.starts_with("free frames of ")));
+        }
+    }
+
+    #[test]
+    fn numbers_of_all_records() {
+        let calls = [1, 5, 1, 1, 0, 2, 1, 0, 4, 3, 7, 0, 3, 1];
+        assert_eq!(numbers_in(&calls), [261, 7]);
+    }
+}
