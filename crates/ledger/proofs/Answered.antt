@@ -5,7 +5,7 @@ use mathlib.Core.List.{List}
 use Prim.Native.Nat.{ℕ}
 use Rattle.trellis.specs.Answer.{found, blocked}
 use Rattle.trellis.specs.Answer as trellis
-use Rattle.refusals.specs.Refusals.{given, pass, refuseIf, orElse}
+use Rattle.refusals.specs.Refusals.{given, pass, refuseIf, refusedOr}
 use Rattle.refusals.proofs.Refusals.{past, not-refused, both-passed}
 use Rattle.network.specs.Network.{Topology}
 use Rattle.forwarding.specs.declared.Hop.{Hop}
@@ -35,7 +35,7 @@ pub record Admitted (net : Topology) (ss : List Session) (n : ℕ) (route : List
 pub admitted : (net : Topology) (ss : List Session) (n : ℕ) (route : List ℕ) → callCheck net ss (SetUp n route) ≡ given pass → Admitted net ss n route
 unfolding callCheck
 admitted net ss n route e =
-    let a = both-passed (routeCheck net route) (orElse (refuseIf (isLive n ss) 16) (refuseIf (full ss) 17)) e in
+    let a = both-passed (routeCheck net route) (refusedOr (refuseIf (isLive n ss) 16) (refuseIf (full ss) 17)) e in
     let b = past (isLive n ss) 16 (refuseIf (full ss) 17) pass (a .1) in
     record { passed = a .0; unused = b .0; room = not-refused (full ss) 17 (b .1) }
 

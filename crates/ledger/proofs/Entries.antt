@@ -10,7 +10,7 @@ use Rattle.lists.proofs.Count as tests
 use Rattle.ledger.specs.Lists.{anyOf, keep}
 use Rattle.ledger.specs.Sessions.{Session}
 use Rattle.ledger.specs.Calls.{Call, SetUp, Quote, Release, Reply, schedule, freed, refusal, effect, otherThan, liveAfter}
-use Rattle.ledger.specs.Ledger.{Step, did, acceptedReleaseOf, ledgerFrom, ledger}
+use Rattle.ledger.specs.Ledger.{AnsweredCall, did, acceptedReleaseOf, ledgerFrom, ledger}
 use Rattle.ledger.proofs.Lists.{neither-or, kept-member, member-kept}
 
 -- ---- one step: a session after it stood before it, and its number was not released, or the step was the set-up that entered it
@@ -46,29 +46,29 @@ stays (Release n) (refusal k count) ss e m h = m
 
 -- ---- the steps of a list
 -- e was entered by one of the steps, and no later one struck its number out
-pub record Entered (steps : List Step) (e : Session) : Type 0 where
+pub record Entered (steps : List AnsweredCall) (e : Session) : Type 0 where
   pub count : ℕ
-  pub before : List Step
-  pub later : List Step
+  pub before : List AnsweredCall
+  pub later : List AnsweredCall
   pub accepted : steps ≡ before ++ (did (SetUp (e .number) (e .route)) (schedule (e .held) count) ∷ later)
   pub kept : anyOf (acceptedReleaseOf (e .number)) later ≡ false
 
-later-entered : (s : Step) (steps : List Step) (e : Session) → Entered steps e → Entered (s ∷ steps) e
+later-entered : (s : AnsweredCall) (steps : List AnsweredCall) (e : Session) → Entered steps e → Entered (s ∷ steps) e
 later-entered s steps e h =
-    record { count = h .count; before = s ∷ h .before; later = h .later; accepted = ap (λ (l : List Step). s ∷ l) (h .accepted); kept = h .kept }
+    record { count = h .count; before = s ∷ h .before; later = h .later; accepted = ap (λ (l : List AnsweredCall). s ∷ l) (h .accepted); kept = h .kept }
 
 -- an entry stood in the list before and was kept, or was entered
-abbrev Origin : List Session → List Step → Session → Type 0
+abbrev Origin : List Session → List AnsweredCall → Session → Type 0
 Origin ss steps e = (List·Memᴰ e ss × (anyOf (acceptedReleaseOf (e .number)) steps ≡ false)) ⊎ Entered steps e
 
-origin-step : (call : Call) (r : Reply) (steps : List Step) (ss : List Session) (e : Session) → List·Memᴰ e (liveAfter ss (effect call r))
+origin-step : (call : Call) (r : Reply) (steps : List AnsweredCall) (ss : List Session) (e : Session) → List·Memᴰ e (liveAfter ss (effect call r))
     → anyOf (acceptedReleaseOf (e .number)) steps ≡ false → Origin ss (did call r ∷ steps) e
 origin-step call r steps ss e m kept =
     ⊎-elim (λ k. inl (k .0, neither-or (acceptedReleaseOf (e .number) (did call r)) (anyOf (acceptedReleaseOf (e .number)) steps) (k .1) kept))
-    (λ k. inr (record { count = k .0; before = []; later = steps; accepted = ap (λ (s : Step). s ∷ steps) (k .1); kept = kept }))
+    (λ k. inr (record { count = k .0; before = []; later = steps; accepted = ap (λ (s : AnsweredCall). s ∷ steps) (k .1); kept = kept }))
     (stood call r ss e m)
 
-origin : (steps : List Step) (ss : List Session) (e : Session) → List·Memᴰ e (ledgerFrom ss steps) → Origin ss steps e
+origin : (steps : List AnsweredCall) (ss : List Session) (e : Session) → List·Memᴰ e (ledgerFrom ss steps) → Origin ss steps e
 origin [] ss e m = inl (m, refl)
 origin (did call r ∷ steps) ss e m =
     ⊎-elim
@@ -77,18 +77,18 @@ origin (did call r ∷ steps) ss e m =
     (origin steps (liveAfter ss (effect call r)) e m)
 
 -- AN ENTRY OF THE LEDGER WAS ENTERED AND KEPT
-pub entry-entered : (steps : List Step) (e : Session) → List·Memᴰ e (ledger steps) → Entered steps e
+pub entry-entered : (steps : List AnsweredCall) (e : Session) → List·Memᴰ e (ledger steps) → Entered steps e
 entry-entered steps e m = ⊎-elim (λ k. absurd (List·Memᴰ·not-nil (k .0))) (λ k. k) (origin steps [] e m)
 
 -- ---- and back
-stay : (steps : List Step) (ss : List Session) (e : Session) → List·Memᴰ e ss → anyOf (acceptedReleaseOf (e .number)) steps ≡ false → List·Memᴰ e (ledgerFrom ss steps)
+stay : (steps : List AnsweredCall) (ss : List Session) (e : Session) → List·Memᴰ e ss → anyOf (acceptedReleaseOf (e .number)) steps ≡ false → List·Memᴰ e (ledgerFrom ss steps)
 stay [] ss e m h = m
 stay (did call r ∷ steps) ss e m h =
     let both = tests.or-neither (acceptedReleaseOf (e .number) (did call r)) (anyOf (acceptedReleaseOf (e .number)) steps) h in
     stay steps (liveAfter ss (effect call r)) e (stays call r ss e m (both .0)) (both .1)
 
 -- WHAT WAS ENTERED AND KEPT STANDS IN THE LEDGER
-pub entered-entry : (before later : List Step) (ss : List Session) (e : Session) (count : ℕ) → anyOf (acceptedReleaseOf (e .number)) later ≡ false
+pub entered-entry : (before later : List AnsweredCall) (ss : List Session) (e : Session) (count : ℕ) → anyOf (acceptedReleaseOf (e .number)) later ≡ false
     → List·Memᴰ e (ledgerFrom ss (before ++ (did (SetUp (e .number) (e .route)) (schedule (e .held) count) ∷ later)))
 entered-entry [] later ss e count h = stay later (ss ++ (e ∷ [])) e (Memᴰ·append-right ss (List·Memᴰ·head refl)) h
 entered-entry (did call r ∷ before) later ss e count h = entered-entry before later (liveAfter ss (effect call r)) e count h

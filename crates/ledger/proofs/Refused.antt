@@ -8,7 +8,7 @@ use lib.ListN.{length}
 use lib.Dec.{eqb}
 use Rattle.trellis.specs.Answer.{found, blocked}
 use Rattle.trellis.specs.Answer as trellis
-use Rattle.refusals.specs.Refusals.{Ruling, given, refused, pass, refuseIf, orElse}
+use Rattle.refusals.specs.Refusals.{Ruling, given, refused, pass, refuseIf, refusedOr}
 use Rattle.network.specs.Network.{Topology}
 use Rattle.forwarding.specs.declared.Hop.{Hop}
 use Rattle.forwarding.specs.Route.{routeAnswer}
@@ -24,7 +24,7 @@ abbrev special : Ruling → Bool
 special (given p) = false
 special (refused k) = eqb k 0 || eqb k 18
 
-special-or : (a b : Ruling) → special a ≡ false → special b ≡ false → special (orElse a b) ≡ false
+special-or : (a b : Ruling) → special a ≡ false → special b ≡ false → special (refusedOr a b) ≡ false
 special-or (given p) b h g = g
 special-or (refused k) b h g = h
 
@@ -36,8 +36,8 @@ route-plain : (net : Topology) (route : List ℕ) → special (routeCheck net ro
 unfolding routeCheck
 route-plain net route =
     let r : Ruling = refuseIf (ratesApart (ratesOf net route)) 15 in
-    let o : Ruling = orElse (refuseIf (linkTwice route) 14) r in
-    let k : Ruling = orElse (refuseIf (unknownLink net route) 13) o in
+    let o : Ruling = refusedOr (refuseIf (linkTwice route) 14) r in
+    let k : Ruling = refusedOr (refuseIf (unknownLink net route) 13) o in
     special-or (refuseIf (badLength (length route)) 12) k (special-if (badLength (length route)) 12 refl)
     (special-or (refuseIf (unknownLink net route) 13) o (special-if (unknownLink net route) 13 refl)
     (special-or (refuseIf (linkTwice route) 14) r (special-if (linkTwice route) 14 refl)
@@ -46,7 +46,7 @@ route-plain net route =
 call-plain : (net : Topology) (ss : List Session) (call : Call) → special (callCheck net ss call) ≡ false
 unfolding callCheck
 call-plain net ss (SetUp n route) =
-    special-or (routeCheck net route) (orElse (refuseIf (isLive n ss) 16) (refuseIf (full ss) 17)) (route-plain net route)
+    special-or (routeCheck net route) (refusedOr (refuseIf (isLive n ss) 16) (refuseIf (full ss) 17)) (route-plain net route)
     (special-or (refuseIf (isLive n ss) 16) (refuseIf (full ss) 17) (special-if (isLive n ss) 16 refl) (special-if (full ss) 17 refl))
 call-plain net ss (Quote route) = route-plain net route
 call-plain net ss (Release n) = special-if (not (isLive n ss)) 19 refl

@@ -9,7 +9,7 @@ use Rattle.refusals.specs.Refusals.{given}
 use Rattle.ledger.specs.Sessions.{Session, View, Slot, holds}
 use Rattle.ledger.specs.Sound.{shareSlot, frameTwice, intact}
 use Rattle.ledger.specs.Calls.{Call, Reply, liveAfter, left, reply, next, lookup}
-use Rattle.ledger.specs.Ledger.{Step, did, effectOf, ledgerFrom, ledger, isRefusal, acceptedSetUp, acceptedRelease, countSteps}
+use Rattle.ledger.specs.Ledger.{AnsweredCall, did, effectOf, ledgerFrom, ledger, isRefusal, acceptedSetUp, acceptedRelease, countSteps}
 use Rattle.ledger.specs.Demand.{fresh, HoldsSlot, NamedAndKept, LiveNumbers, Right, Runs, over, then, Demand3Holds, Stepped, EveryListStepped}
 use Rattle.ledger.proofs.Lists.{anyTwo-at}
 use Rattle.ledger.proofs.Intact.{intact-is, fresh-intact}
@@ -23,24 +23,24 @@ use Rattle.ledger.proofs.Balance.{released-live, balance-step}
 
 -- ---- the calls of a list one after the other
 -- the sessions that they leave are the ledger
-pub runs-live : {v last : View} {steps : List Step} → Runs v steps last → last .live ≡ ledgerFrom (v .live) steps
+pub runs-live : {v last : View} {steps : List AnsweredCall} → Runs v steps last → last .live ≡ ledgerFrom (v .live) steps
 unfolding next left
 runs-live over = refl
 runs-live (then call rest) = runs-live rest
 
-pub runs-network : {v last : View} {steps : List Step} → Runs v steps last → last .network ≡ v .network
+pub runs-network : {v last : View} {steps : List AnsweredCall} → Runs v steps last → last .network ≡ v .network
 unfolding next left
 runs-network over = refl
 runs-network (then call rest) = runs-network rest
 
-pub runs-intact : {v last : View} {steps : List Step} → intact v ≡ true → Runs v steps last → intact last ≡ true
+pub runs-intact : {v last : View} {steps : List AnsweredCall} → intact v ≡ true → Runs v steps last → intact last ≡ true
 runs-intact i over = i
 runs-intact {v} i (then call rest) = runs-intact (next-intact v call i) rest
 
 reply-right : (v : View) (call : Call) → intact v ≡ true → Right (v .network) (v .live) call (reply v call)
 reply-right v call i = rw (reply-intact v call i) (answer-right (v .network) (v .live) call)
 
-runs-right : (before : List Step) {v last : View} {steps : List Step} (call : Call) (r : Reply) (later : List Step) → intact v ≡ true → Runs v steps last
+runs-right : (before : List AnsweredCall) {v last : View} {steps : List AnsweredCall} (call : Call) (r : Reply) (later : List AnsweredCall) → intact v ≡ true → Runs v steps last
     → steps ≡ before ++ (did call r ∷ later) → Right (v .network) (ledgerFrom (v .live) before) call r
 unfolding next left
 runs-right [] call r later i over e = absurd (nil≢cons e)
@@ -51,10 +51,10 @@ runs-right [] {v} call r later i (then c rest) e =
     subst (λ (x : Reply). Right (v .network) (v .live) call x) q (subst (λ (x : Call). Right (v .network) (v .live) x (reply v c)) p (reply-right v c i))
 runs-right (s ∷ before) call r later i over e = absurd (nil≢cons e)
 runs-right (s ∷ before) {v} call r later i (then c rest) e =
-    subst (λ (x : Step). Right (v .network) (ledgerFrom (liveAfter (v .live) (effectOf x)) before) call r) (head-eq-of-cons-eq e)
+    subst (λ (x : AnsweredCall). Right (v .network) (ledgerFrom (liveAfter (v .live) (effectOf x)) before) call r) (head-eq-of-cons-eq e)
     (runs-right before call r later (next-intact v c i) rest (tail-eq-of-cons-eq e))
 
-runs-balance : {v last : View} {steps : List Step} → intact v ≡ true → Runs v steps last
+runs-balance : {v last : View} {steps : List AnsweredCall} → intact v ≡ true → Runs v steps last
     → countSteps acceptedSetUp steps + length (v .live) ≡ length (last .live) + countSteps acceptedRelease steps
 unfolding next left
 runs-balance i over = omega arith
@@ -76,7 +76,7 @@ every-list v (call ∷ calls) =
     }
 
 -- ---- the whole
-module _ (v : View) (steps : List Step) (i : intact v ≡ true) (led : v .live ≡ ledger steps) where
+module _ (v : View) (steps : List AnsweredCall) (i : intact v ≡ true) (led : v .live ≡ ledger steps) where
   -- a live session stands in the list, under its number
   live-session : (n : ℕ) (s : Session) → lookup v n ≡ given s → List·Memᴰ s (v .live) × (s .number ≡ n)
   live-session n s e = looked-up n (v .live) s (lookup-given v n s e .1)
@@ -96,7 +96,7 @@ module _ (v : View) (steps : List Step) (i : intact v ≡ true) (led : v .live �
   named-held x w =
       let s : Session = w .entry in
       let m : List·Memᴰ s (ledger steps) =
-      subst (λ (done : List Step). List·Memᴰ s (ledger done)) (sym (w .accepted)) (entered-entry (w .before) (w .later) [] s (w .count) (w .kept)) in
+      subst (λ (done : List AnsweredCall). List·Memᴰ s (ledger done)) (sym (w .accepted)) (entered-entry (w .before) (w .later) [] s (w .count) (w .kept)) in
       (s .number, record { session = s; shown = entry-shown s m; named = w .named })
 
   held-once : (x : Slot) (n m : ℕ) → HoldsSlot v n x → HoldsSlot v m x → n ≡ m

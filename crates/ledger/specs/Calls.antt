@@ -7,7 +7,7 @@ use lib.ListN.{length}
 use lib.Dec.{eqb, leb}
 use Rattle.trellis.specs.Answer.{found, blocked}
 use Rattle.trellis.specs.Answer as trellis
-use Rattle.refusals.specs.Refusals.{Ruling, Outcome, given, refused, refuseIf, orElse}
+use Rattle.refusals.specs.Refusals.{Ruling, Outcome, given, refused, refuseIf, refusedOr}
 use Rattle.words.specs.Word.{freeFrames}
 use Rattle.network.specs.Network.{Topology}
 use Rattle.forwarding.specs.declared.Hop.{Hop}
@@ -51,7 +51,7 @@ full ss = leb 96 (length ss)
 -- the checks of a call after 0, over the live sessions ss, in the order of the list: 12 to 15, "16. Set-up: the number is live", 17, and
 -- "19. Release or lookup: the number isn't live"
 unfoldable pub callCheck : Topology → List Session → Call → Ruling
-callCheck net ss (SetUp n route) = orElse (routeCheck net route) (orElse (refuseIf (isLive n ss) 16) (refuseIf (full ss) 17))
+callCheck net ss (SetUp n route) = refusedOr (routeCheck net route) (refusedOr (refuseIf (isLive n ss) 16) (refuseIf (full ss) 17))
 callCheck net ss (Quote route) = routeCheck net route
 callCheck net ss (Release n) = refuseIf (not (isLive n ss)) 19
 
@@ -63,7 +63,7 @@ granted net ss (Release n) = freed
 
 -- THE ANSWER OF A CALL on a state that shows v, whatever state it is
 unfoldable pub reply : View → Call → Reply
-reply v call = unless (orElse (brokenCheck v) (callCheck (v .network) (v .live) call)) (granted (v .network) (v .live) call)
+reply v call = unless (refusedOr (brokenCheck v) (callCheck (v .network) (v .live) call)) (granted (v .network) (v .live) call)
 
 -- A QUOTE: "Where 0 and 13 don't refuse, it depends on T, the route and those links' K, Z and free frames alone", which are its hops
 abbrev pub QuoteDepends : Type 0
@@ -115,7 +115,7 @@ lookIn n [] = refused 19
 lookIn n (s ∷ ss) = cond (eqb (s .number) n) (given s) (lookIn n ss)
 
 unfoldable pub lookup : View → ℕ → Outcome Session
-lookup v n = orElse (brokenCheck v) (lookIn n (v .live))
+lookup v n = refusedOr (brokenCheck v) (lookIn n (v .live))
 
 -- A RELEASE "frees exactly that session's frames": a frame is held after it exactly when it was held before and isn't that session's
 abbrev pub ReleaseFrees : Type 0
@@ -124,6 +124,6 @@ ReleaseFrees = (v : View) (n : ℕ) (s : Session) → lookup v n ≡ given s →
 -- free frames of a link: "a call on the stored state gives their number (refusal 13 for a link that isn't there)"
 unfoldable pub freeCount : View → ℕ → Outcome ℕ
 freeCount v l =
-    orElse (brokenCheck v)
-    (orElse (refuseIf (unknown (length (v .network .links)) l) 13)
+    refusedOr (brokenCheck v)
+    (refusedOr (refuseIf (unknown (length (v .network .links)) l) 13)
     (given (freeFrames (linkAt (v .network) l .frames) (freeOf (v .network) (v .live) l))))

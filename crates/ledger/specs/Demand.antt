@@ -19,7 +19,7 @@ use Rattle.ledger.specs.Held.{heldOver}
 use Rattle.ledger.specs.Sessions.{Session, View, Slot, holds, isLive, hopsOf}
 use Rattle.ledger.specs.Sound.{intact}
 use Rattle.ledger.specs.Calls.{Call, SetUp, Quote, Release, Reply, schedule, freed, refusal, callCheck, reply, next, lookup}
-use Rattle.ledger.specs.Ledger.{Step, did, callOf, ledger, acceptedSetUp, acceptedRelease, acceptedReleaseOf, countSteps}
+use Rattle.ledger.specs.Ledger.{AnsweredCall, did, callOf, ledger, acceptedSetUp, acceptedRelease, acceptedReleaseOf, countSteps}
 
 -- "A fresh network is any that has passed its checks, and it holds no sessions"
 abbrev pub fresh : Topology → View
@@ -36,11 +36,11 @@ pub record HoldsSlot (v : View) (n : ℕ) (x : Slot) : Type 0 where
   pub named : holds x session ≡ true
 
 -- "an accepted set-up's answer named it and no later release of that number was accepted"; the set-up, with what its answer gave, is the entry
-pub record NamedAndKept (steps : List Step) (x : Slot) : Type 0 where
+pub record NamedAndKept (steps : List AnsweredCall) (x : Slot) : Type 0 where
   pub entry : Session
   pub count : ℕ
-  pub before : List Step
-  pub later : List Step
+  pub before : List AnsweredCall
+  pub later : List AnsweredCall
   pub accepted : steps ≡ before ++ (did (SetUp (entry .number) (entry .route)) (schedule (entry .held) count) ∷ later)
   pub named : holds x entry ≡ true
   pub kept : anyOf (acceptedReleaseOf (entry .number)) later ≡ false
@@ -72,7 +72,7 @@ pub record Right (net : Topology) (ss : List Session) (call : Call) (r : Reply) 
   pub due : callCheck net ss call ≡ given pass → Due net ss call r
 
 -- DEMAND 3, of the calls with their answers on the fresh network `net`; v is what the state after them shows
-pub record Demand3 (net : Topology) (v : View) (steps : List Step) : Type 0 where
+pub record Demand3 (net : Topology) (v : View) (steps : List AnsweredCall) : Type 0 where
   -- "a frame is held exactly when an accepted set-up's answer named it and no later release of that number was accepted"
   pub held : (x : Slot) → ((n : ℕ) × HoldsSlot v n x) ↔ NamedAndKept steps x
   -- "a held frame has exactly one live session"
@@ -83,7 +83,7 @@ pub record Demand3 (net : Topology) (v : View) (steps : List Step) : Type 0 wher
   pub balance : countSteps acceptedSetUp steps ≡ length numbers + countSteps acceptedRelease steps
   -- "every set-up or quote that no other check refused got a least schedule over the frames then free, or was refused as blocked exactly when
   -- there was none"; "every other check refuses exactly under its condition, in the order of the refusal list"
-  pub answers : (before : List Step) (call : Call) (r : Reply) (later : List Step) → steps ≡ before ++ (did call r ∷ later)
+  pub answers : (before : List AnsweredCall) (call : Call) (r : Reply) (later : List AnsweredCall) → steps ≡ before ++ (did call r ∷ later)
       → Right net (ledger before) call r
   -- "lookup gives each entry's route, frames and delay for its number, and 19 for every number without an entry"
   pub entryShown : (e : Session) → List·Memᴰ e (ledger steps) → lookup v (e .number) ≡ given e
@@ -95,17 +95,17 @@ pub record Demand3 (net : Topology) (v : View) (steps : List Step) : Type 0 wher
   pub network : v .network ≡ net
 
 -- the views that calls leave, one after the other, each call answered on the view that the one before it left
-pub data Runs : View → List Step → View → Type 0 where
+pub data Runs : View → List AnsweredCall → View → Type 0 where
   over : {v : View} → Runs v [] v
-  then : {v last : View} {steps : List Step} (call : Call) → Runs (next v call) steps last → Runs v (did call (reply v call) ∷ steps) last
+  then : {v last : View} {steps : List AnsweredCall} (call : Call) → Runs (next v call) steps last → Runs v (did call (reply v call) ∷ steps) last
 
 -- DEMAND 3, for every list of set-ups, quotes and releases, refused ones included, from a fresh network
 abbrev pub Demand3Holds : Type 0
-Demand3Holds = (net : Topology) → networkCheck net ≡ given pass → (steps : List Step) (v : View) → Runs (fresh net) steps v → Demand3 net v steps
+Demand3Holds = (net : Topology) → networkCheck net ≡ given pass → (steps : List AnsweredCall) (v : View) → Runs (fresh net) steps v → Demand3 net v steps
 
 -- the steps of a list of calls, from a view on
 pub record Stepped (v : View) (calls : List Call) : Type 0 where
-  pub steps : List Step
+  pub steps : List AnsweredCall
   pub last : View
   pub runs : Runs v steps last
   pub same : map callOf steps ≡ calls

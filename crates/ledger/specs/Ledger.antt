@@ -8,21 +8,21 @@ use Rattle.ledger.specs.Sessions.{Session}
 use Rattle.ledger.specs.Calls.{Call, SetUp, Quote, Release, Reply, schedule, freed, refusal, Effect, effect, liveAfter}
 
 -- a call of the list with the answer that it got
-pub data Step : Type 0 where
-  did : Call → Reply → Step
+pub data AnsweredCall : Type 0 where
+  did : Call → Reply → AnsweredCall
 
-abbrev pub callOf : Step → Call
+abbrev pub callOf : AnsweredCall → Call
 callOf (did call r) = call
 
-abbrev pub effectOf : Step → Effect
+abbrev pub effectOf : AnsweredCall → Effect
 effectOf (did call r) = effect call r
 
 -- the ledger: "It begins empty"
-abbrev pub ledgerFrom : List Session → List Step → List Session
+abbrev pub ledgerFrom : List Session → List AnsweredCall → List Session
 ledgerFrom ss [] = ss
 ledgerFrom ss (s ∷ steps) = ledgerFrom (liveAfter ss (effectOf s)) steps
 
-abbrev pub ledger : List Step → List Session
+abbrev pub ledger : List AnsweredCall → List Session
 ledger steps = ledgerFrom [] steps
 
 -- whether an answer is a schedule, and whether it is a refusal
@@ -37,24 +37,24 @@ isRefusal freed = false
 isRefusal (refusal number count) = true
 
 -- "A set-up is accepted when its answer is a schedule"
-abbrev pub acceptedSetUp : Step → Bool
+abbrev pub acceptedSetUp : AnsweredCall → Bool
 acceptedSetUp (did (SetUp n route) r) = hasSchedule r
 acceptedSetUp (did (Quote route) r) = false
 acceptedSetUp (did (Release n) r) = false
 
 -- "a release when it isn't refused"
-abbrev pub acceptedRelease : Step → Bool
+abbrev pub acceptedRelease : AnsweredCall → Bool
 acceptedRelease (did (SetUp n route) r) = false
 acceptedRelease (did (Quote route) r) = false
 acceptedRelease (did (Release n) r) = not (isRefusal r)
 
 -- an accepted release of this number
-abbrev pub acceptedReleaseOf : ℕ → Step → Bool
+abbrev pub acceptedReleaseOf : ℕ → AnsweredCall → Bool
 acceptedReleaseOf m (did (SetUp n route) r) = false
 acceptedReleaseOf m (did (Quote route) r) = false
 acceptedReleaseOf m (did (Release n) r) = not (isRefusal r) && eqb m n
 
 -- how many steps of the list pass a test
-abbrev pub countSteps : (Step → Bool) → List Step → ℕ
+abbrev pub countSteps : (AnsweredCall → Bool) → List AnsweredCall → ℕ
 countSteps p [] = 0
 countSteps p (s ∷ steps) = oneIf (p s) + countSteps p steps

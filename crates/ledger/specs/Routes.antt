@@ -4,7 +4,7 @@ use mathlib.Core.List.{List, [], _∷_, map}
 use Prim.Native.Nat.{ℕ, _%_}
 use lib.ListN.{length}
 use lib.Dec.{eqb, ltb}
-use Rattle.refusals.specs.Refusals.{Ruling, refuseIf, orElse}
+use Rattle.refusals.specs.Refusals.{Ruling, refuseIf, refusedOr}
 use Rattle.network.specs.Network.{Topology}
 use Rattle.ledger.specs.Lists.{anyOf, anyTwo}
 use Rattle.ledger.specs.Sessions.{linkAt}
@@ -40,7 +40,7 @@ ratesOf net route = map (λ l. linkAt net l .frames) route
 -- 12 to 15; a check of routes that is added later stands here
 unfoldable pub routeCheck : Topology → List ℕ → Ruling
 routeCheck net route =
-    orElse (refuseIf (badLength (length route)) 12)
-    (orElse (refuseIf (unknownLink net route) 13)
-    (orElse (refuseIf (linkTwice route) 14)
+    refusedOr (refuseIf (badLength (length route)) 12)
+    (refusedOr (refuseIf (unknownLink net route) 13)
+    (refusedOr (refuseIf (linkTwice route) 14)
     (refuseIf (ratesApart (ratesOf net route)) 15)))

@@ -7,7 +7,7 @@ use native.Mathlib.Omega.{arith}
 use lib.ListN.{length, getD, drop}
 use Rattle.places.specs.Places.{firsts}
 use Rattle.places.proofs.Firsts.{length-firsts, next-first, no-first}
-use Rattle.refusals.specs.Refusals.{Ruling, given, refused, pass, refuseIf, orElse, ruling, refusalNumber}
+use Rattle.refusals.specs.Refusals.{Ruling, given, refused, pass, refuseIf, refusedOr, ruling, refusalNumber}
 use Rattle.refusals.specs.declared.Verdict.{Verdict}
 use Rattle.refusals.specs.declared.Verdict.the-variants.{Passed, Refused}
 use Rattle.refusals.specs.declared.Refusal.{Refusal}
@@ -51,7 +51,7 @@ module _ (T n : ℕ) (links : List Link) where
 
   module _ (i : ℕ) (p : Reached T n links i) where
     module _ (h : i < n) (v : Verdict) (ev : ruling v ≡ linkCheck T (getD links i noLink)) where
-      split : linksCheck T (firsts n links noLink) ≡ orElse (ruling v) (linksCheck T (drop (i + 1) (firsts n links noLink)))
+      split : linksCheck T (firsts n links noLink) ≡ refusedOr (ruling v) (linksCheck T (drop (i + 1) (firsts n links noLink)))
       unfolding linksCheck
       split = p .same ∙ rw (next-first n i links noLink h, ← ev)
 
@@ -94,7 +94,7 @@ pub link-good : (T : ℕ) (l : Link) → linkCheck T l ≡ given pass → GoodLi
 unfolding linkCheck
 link-good T l e =
     let c : Ruling = refuseIf (badClosed (l .frames) (l .closed)) 9 in
-    let r : Ruling = orElse (refuseIf (badRange (l .frames) (l .range)) 8) c in
+    let r : Ruling = refusedOr (refuseIf (badRange (l .frames) (l .range)) 8) c in
     let a : (badFrames T (l .frames) ≡ false) × (r ≡ given pass) = past (badFrames T (l .frames)) 7 r pass e in
     let b : (badRange (l .frames) (l .range) ≡ false) × (c ≡ given pass) = past (badRange (l .frames) (l .range)) 8 c pass (a .1) in
     record { frames = a .0; range = b .0; closed = not-refused (badClosed (l .frames) (l .closed)) 9 (b .1) }
@@ -116,7 +116,7 @@ pub network-good : (t : Topology) → networkCheck t ≡ given pass → GoodNetw
 unfolding networkCheck
 network-good t e =
     let l : Ruling = linksCheck (t .ticks) (t .links) in
-    let r : Ruling = orElse (refuseIf (badCycle (t .ticks)) 3) l in
+    let r : Ruling = refusedOr (refuseIf (badCycle (t .ticks)) 3) l in
     let a : (badCount (length (t .links)) ≡ false) × (r ≡ given pass) = past (badCount (length (t .links))) 2 r pass e in
     let b : (badCycle (t .ticks) ≡ false) × (l ≡ given pass) = past (badCycle (t .ticks)) 3 l pass (a .1) in
     record { count = a .0; cycle = b .0; links = b .1 }

@@ -5,7 +5,7 @@ use mathlib.Core.List.{List, [], _∷_}
 use Prim.Native.Nat.{ℕ, _/_, _%_, _^_, _<_, _≤_}
 use lib.ListN.{length}
 use lib.Dec.{eqb, ltb}
-use Rattle.refusals.specs.Refusals.{Ruling, given, pass, refuseIf, orElse}
+use Rattle.refusals.specs.Refusals.{Ruling, given, pass, refuseIf, refusedOr}
 use Rattle.words.specs.Word.{bitOf}
 use Rattle.network.specs.Network.{Topology}
 use Rattle.network.specs.declared.Link.{Link}
@@ -33,20 +33,20 @@ badClosed K closed = not (eqb (closed / 2 ^ K) 0)
 -- the checks of a link; one that is added later stands here
 unfoldable pub linkCheck : ℕ → Link → Ruling
 linkCheck T l =
-    orElse (refuseIf (badFrames T (l .frames)) 7)
-    (orElse (refuseIf (badRange (l .frames) (l .range)) 8)
+    refusedOr (refuseIf (badFrames T (l .frames)) 7)
+    (refusedOr (refuseIf (badRange (l .frames) (l .range)) 8)
     (refuseIf (badClosed (l .frames) (l .closed)) 9))
 
 -- "records and links in turn": all checks of one before the next
 unfoldable pub linksCheck : ℕ → List Link → Ruling
 linksCheck T [] = given pass
-linksCheck T (l ∷ ls) = orElse (linkCheck T l) (linksCheck T ls)
+linksCheck T (l ∷ ls) = refusedOr (linkCheck T l) (linksCheck T ls)
 
 -- "A network given as values, also to the writer, meets 2, 3, 7, 8 and 9"
 unfoldable pub networkCheck : Topology → Ruling
 networkCheck t =
-    orElse (refuseIf (badCount (length (t .links))) 2)
-    (orElse (refuseIf (badCycle (t .ticks)) 3)
+    refusedOr (refuseIf (badCount (length (t .links))) 2)
+    (refusedOr (refuseIf (badCycle (t .ticks)) 3)
     (linksCheck (t .ticks) (t .links)))
 
 -- ---- what a check that passed shows, in the words of "Network"

@@ -15,7 +15,7 @@ use Rattle.places.proofs.Firsts.{firsts-more}
 use Rattle.refusals.specs.declared.Verdict.the-variants as verdicts
 use Rattle.refusals.specs.declared.Refusal.{Refusal}
 use Rattle.refusals.specs.declared.Verdict.the-variants.{Passed}
-use Rattle.refusals.specs.Refusals.{Outcome, given, refused, pass, Ruling, refuseIf, orElse, onGiven, refusalNumber}
+use Rattle.refusals.specs.Refusals.{Outcome, given, refused, pass, Ruling, refuseIf, refusedOr, onGiven, refusalNumber}
 use Rattle.refusals.proofs.Refusals.{not-given}
 use Rattle.numbers.specs.Numbers.{numberIn}
 use Rattle.numbers.proofs.Laws.{number-bound}
@@ -45,13 +45,13 @@ pub was : (T : ℕ) (s : List ℕ) (y : Linked) → readLink T s ≡ given y →
 unfolding readLink
 was T s y e = go (readRecord linkLayout s) refl e
   where
-    one : (x : Said) → readRecord linkLayout s ≡ given x → (r : Ruling) → linkCheck T (linkOf (x .values)) ≡ r → orElse r (given (record { link = linkOf (x .values); used = x .used })) ≡ given y → Was T s y
+    one : (x : Said) → readRecord linkLayout s ≡ given x → (r : Ruling) → linkCheck T (linkOf (x .values)) ≡ r → refusedOr r (given (record { link = linkOf (x .values); used = x .used })) ≡ given y → Was T s y
     one x q (given pass) p f =
         let z : _≡_ {A = Linked} (record { link = linkOf (x .values); used = x .used }) y = cc in
         record { said = x; is = q; passed = p; link = sym (ap (λ (a : Linked). a .link) z); used = sym (ap (λ (a : Linked). a .used) z) }
     one x q (refused n) p f = absurd (not-given n y f)
 
-    go : (o : Outcome Said) → readRecord linkLayout s ≡ o → onGiven o (λ x. orElse (linkCheck T (linkOf (x .values))) (given (record { link = linkOf (x .values); used = x .used }))) ≡ given y → Was T s y
+    go : (o : Outcome Said) → readRecord linkLayout s ≡ o → onGiven o (λ x. refusedOr (linkCheck T (linkOf (x .values))) (given (record { link = linkOf (x .values); used = x .used }))) ≡ given y → Was T s y
     go (given x) q f = one x q (linkCheck T (linkOf (x .values))) refl f
     go (refused n) q f = absurd (not-given n y f)
 
@@ -125,7 +125,7 @@ module _ (T count : ℕ) (records : List ℕ) where
         }
 
     module _ (h : count ≤ i) where
-      last : readLinks T count records ≡ after (g .done) (orElse (refuseIf (not (eqb (length (drop at records)) 0)) 10) (given []))
+      last : readLinks T count records ≡ after (g .done) (refusedOr (refuseIf (not (eqb (length (drop at records)) 0)) 10) (given []))
       unfolding readLinks
       last = let z : count - i ≡ 0 = omega arith in g .same ∙ rw z
 

@@ -8,7 +8,7 @@ use borrow.Author.Tests.{le-ltb, ltb-true, ltb-false, ne-eqb}
 use lib.ListN.{length, getD, drop, take, length-append, length-drop, take-append-drop}
 use lib.Seq.{drop-append-le, length-take-le, take-all}
 use lib.Dec.{ltb}
-use Rattle.refusals.specs.Refusals.{Outcome, given, refused, refuseIf, orElse, onGiven}
+use Rattle.refusals.specs.Refusals.{Outcome, given, refused, refuseIf, refusedOr, onGiven}
 use Rattle.numbers.specs.Numbers.{numberIn}
 use Rattle.numbers.proofs.Front.{byte-front, number-front}
 use Rattle.network.specs.Checks.{badCount, badCycle}
@@ -48,7 +48,7 @@ links-front T (suc n) a t h = rw (link-front T a t (omega arith)) (others-front 
 
 -- ---- the file
 -- a count that passed its check is 32 at most: the links end before byte 355
-counted-front : (T n : ℕ) (a t : List ℕ) (b : Bool) → badCount n ≡ b → 356 ≤ length a → orElse (refuseIf b 2) (orElse (refuseIf (badCycle T) 3) (within T (readLinks T n (drop 3 (a ++ t))))) ≡ orElse (refuseIf b 2) (orElse (refuseIf (badCycle T) 3) (within T (readLinks T n (drop 3 a))))
+counted-front : (T n : ℕ) (a t : List ℕ) (b : Bool) → badCount n ≡ b → 356 ≤ length a → refusedOr (refuseIf b 2) (refusedOr (refuseIf (badCycle T) 3) (within T (readLinks T n (drop 3 (a ++ t))))) ≡ refusedOr (refuseIf b 2) (refusedOr (refuseIf (badCycle T) 3) (within T (readLinks T n (drop 3 a))))
 counted-front T n a t true e h = refl
 counted-front T n a t false e h =
     let few : n ≤ 32 = count-passed n e .1 in

@@ -11,7 +11,7 @@ use lib.Dec.{eqb, ltb}
 use lib.Pow.{pow-mono}
 use lib.ListN.{length, getD, drop, take, take-append-drop}
 use Rattle.places.proofs.Firsts.{next-first, no-first, firsts-all}
-use Rattle.refusals.specs.Refusals.{Outcome, given, refused, pass, refuseIf, orElse, onGiven, givenOr}
+use Rattle.refusals.specs.Refusals.{Outcome, given, refused, pass, refuseIf, refusedOr, onGiven, givenOr}
 use Rattle.refusals.proofs.Refusals.{past, not-given}
 use Rattle.numbers.specs.Numbers.{numberIn, bytesOf, IsBytes}
 use Rattle.numbers.proofs.Trip.{number-bytes, bytes-number, bytes-drop}
@@ -140,8 +140,8 @@ file-only s t b e =
     let T : ℕ = numberIn 2 s in
     let n : ℕ = getD s 2 0 in
     let links : Outcome Topology = within T (readLinks T n (drop 3 s)) in
-    let three : Outcome Topology = orElse (refuseIf (badCycle T) 3) links in
-    let two : Outcome Topology = orElse (refuseIf (badCount n) 2) three in
+    let three : Outcome Topology = refusedOr (refuseIf (badCycle T) 3) links in
+    let two : Outcome Topology = refusedOr (refuseIf (badCount n) 2) three in
     let p : (ltb (length s) 3 ≡ false) × (two ≡ given t) = past (ltb (length s) 3) 1 two t e in
     let q : (badCount n ≡ false) × (three ≡ given t) = past (badCount n) 2 three t (p .1) in
     let r : (badCycle T ≡ false) × (links ≡ given t) = past (badCycle T) 3 links t (q .1) in

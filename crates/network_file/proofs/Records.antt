@@ -9,7 +9,7 @@ use lib.ListN.{getD}
 use Rattle.places.specs.Places.{firsts}
 use Rattle.places.proofs.Firsts.{getD-firsts}
 use Rattle.refusals.specs.declared.Verdict.{Verdict}
-use Rattle.refusals.specs.Refusals.{Outcome, given, refused, orElse, refusalNumber, ruling}
+use Rattle.refusals.specs.Refusals.{Outcome, given, refused, refusedOr, refusalNumber, ruling}
 use Rattle.refusals.specs.declared.Refusal.{Refusal}
 use Rattle.refusals.specs.declared.Verdict.the-variants.{Passed, Refused}
 use Rattle.refusals.proofs.Refusals.{refused-is, given-is}
@@ -71,7 +71,7 @@ unfolding linkOf
 link-places vs = rw (getD-firsts 8 0 vs 0 (omega arith), getD-firsts 8 1 vs 0 (omega arith), getD-firsts 8 2 vs 0 (omega arith))
 
 -- ---- reading
-pub link-said : (T : ℕ) (s : List ℕ) (x : Said) → readRecord linkLayout s ≡ given x → readLink T s ≡ orElse (linkCheck T (linkOf (x .values))) (given (record { link = linkOf (x .values); used = x .used }))
+pub link-said : (T : ℕ) (s : List ℕ) (x : Said) → readRecord linkLayout s ≡ given x → readLink T s ≡ refusedOr (linkCheck T (linkOf (x .values))) (given (record { link = linkOf (x .values); used = x .used }))
 unfolding readLink
 link-said T s x e = rw e
 
@@ -100,7 +100,7 @@ module _ (T : ℕ) (s : List ℕ) (fields : List Field) (ef : fields ≡ firsts 
       same : l ≡ linkOf (saidIn o .values)
       same = el ∙ ap linkOf (told .values) ∙ link-places (saidIn o .values)
 
-      split : readLink T s ≡ orElse (ruling v) (given (record { link = l; used = r .used }))
+      split : readLink T s ≡ refusedOr (ruling v) (given (record { link = l; used = r .used }))
       split = link-said T s (saidIn o) said ∙ rw (← same, ← told .used, ← ev)
 
       pub link-refused : (x : Refusal) → v ≡ Refused x → refused (refusalNumber x) ≡ readLink T s

@@ -12,7 +12,7 @@ use Rattle.places.proofs.Firsts.{firsts-back}
 use Rattle.refusals.specs.declared.Refusal.{Refusal}
 use Rattle.refusals.specs.declared.Verdict.the-variants.{Passed}
 use Rattle.refusals.specs.declared.Verdict.the-variants as verdicts
-use Rattle.refusals.specs.Refusals.{Outcome, given, refused, pass, Ruling, refuseIf, orElse, refusalNumber, ruling, rulingOf, givenOr}
+use Rattle.refusals.specs.Refusals.{Outcome, given, refused, pass, Ruling, refuseIf, refusedOr, refusalNumber, ruling, rulingOf, givenOr}
 use Rattle.refusals.proofs.Refusals.{not-given, refused-is, given-is}
 use Rattle.numbers.specs.Numbers.{bytesOf, IsBytes}
 use Rattle.numbers.proofs.Trip.{bytes-cons, bytes-none, bytes-append, bytes-of}
@@ -88,7 +88,7 @@ done : (t : Topology) (room size : ℕ) → given size ≡ lengthOf (writeNetwor
 unfolding writeNetwork
 done t room size e = go (networkCheck t) refl (ltb room (length (imageOf t))) refl (sym e)
   where
-    go : (r : Ruling) → networkCheck t ≡ r → (b : Bool) → ltb room (length (imageOf t)) ≡ b → lengthOf (orElse r (orElse (refuseIf b 20) (given (imageOf t)))) ≡ given size → Done t room size
+    go : (r : Ruling) → networkCheck t ≡ r → (b : Bool) → ltb room (length (imageOf t)) ≡ b → lengthOf (refusedOr r (refusedOr (refuseIf b 20) (given (imageOf t)))) ≡ given size → Done t room size
     go (refused n) q b p f = absurd (not-given n size f)
     go (given pass) q true p f = absurd (not-given 20 size f)
     go (given pass) q false p f = record { passed = q; enough = ltb-false room (length (imageOf t)) p; is = sym (ap (givenOr 0) f) }

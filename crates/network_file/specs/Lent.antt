@@ -4,13 +4,13 @@ use mathlib.Core.List.{List, _++_}
 use Prim.Native.Nat.{ℕ}
 use lib.Dec.{ltb}
 use lib.ListN.{length, drop}
-use Rattle.refusals.specs.Refusals.{Outcome, given, refused, refuseIf, orElse, refusalNumber}
+use Rattle.refusals.specs.Refusals.{Outcome, given, refused, refuseIf, refusedOr, refusalNumber}
 use Rattle.network_file.specs.declared.Written.the-variants.{Length, Refused}
 use Rattle.network_file.specs.declared.Written.{Written}
 
 -- x is to be written into a buffer of `room` places; 20: "the buffer is shorter than what is to be written", for which `least` places are asked
 abbrev pub inRoom : ℕ → ℕ → List ℕ → Outcome (List ℕ)
-inRoom least room x = orElse (refuseIf (ltb room least) 20) (given x)
+inRoom least room x = refusedOr (refuseIf (ltb room least) 20) (given x)
 
 -- the answer: the length of what is written, or the refusal
 abbrev pub lengthOf : Outcome (List ℕ) → Outcome ℕ

@@ -8,7 +8,7 @@ use lib.Dec.{eqb, ltb}
 use Rattle.places.specs.Places.{firsts}
 use Rattle.refusals.specs.declared.Verdict.the-variants as verdicts
 use Rattle.refusals.specs.declared.Refusal.{Refusal}
-use Rattle.refusals.specs.Refusals.{Outcome, given, refused, refuseIf, orElse, onGiven, refusalNumber, ruling, rulingOf}
+use Rattle.refusals.specs.Refusals.{Outcome, given, refused, refuseIf, refusedOr, onGiven, refusalNumber, ruling, rulingOf}
 use Rattle.numbers.specs.Numbers.{numberIn}
 use Rattle.network.specs.Checks.{badCount, badCycle, linkCheck}
 use Rattle.network.specs.declared.Link.{Link}
@@ -27,7 +27,7 @@ pub record Linked : Type 0 where
 
 -- "Each link record is read from the part of the file that starts at it": 4, 5, 6, then 7, 8, 9
 unfoldable pub readLink : ℕ → List ℕ → Outcome Linked
-readLink T s = onGiven (readRecord linkLayout s) (λ x. orElse (linkCheck T (linkOf (x .values))) (given (record { link = linkOf (x .values); used = x .used })))
+readLink T s = onGiven (readRecord linkLayout s) (λ x. refusedOr (linkCheck T (linkOf (x .values))) (given (record { link = linkOf (x .values); used = x .used })))
 
 -- 5: "A map byte has a bit above bit 2": no bit is stray exactly where the map byte is below 8
 abbrev pub StrayAbove : Type 0
@@ -38,7 +38,7 @@ AboveStray = (map : ℕ) → map < 8 → strayBits linkLayout map ≡ 0
 
 -- "then a record per link", all checks of one before the next; then 10: "Bytes follow the last record"
 unfoldable pub readLinks : ℕ → ℕ → List ℕ → Outcome (List Link)
-readLinks T zero s = orElse (refuseIf (not (eqb (length s) 0)) 10) (given [])
+readLinks T zero s = refusedOr (refuseIf (not (eqb (length s) 0)) 10) (given [])
 readLinks T (suc n) s = onGiven (readLink T s) (λ x. onGiven (readLinks T n (drop (x .used) s)) (λ ls. given (x .link ∷ ls)))
 
 -- the network of some links
@@ -50,9 +50,9 @@ unfoldable pub readNetwork : List ℕ → Outcome Topology
 readNetwork s =
     let T = numberIn 2 s in
     let count = getD s 2 0 in
-    orElse (refuseIf (ltb (length s) 3) 1)
-    (orElse (refuseIf (badCount count) 2)
-    (orElse (refuseIf (badCycle T) 3)
+    refusedOr (refuseIf (ltb (length s) 3) 1)
+    (refusedOr (refuseIf (badCount count) 2)
+    (refusedOr (refuseIf (badCycle T) 3)
     (within T (readLinks T count (drop 3 s)))))
 
 -- THE FIRST 356 BYTES OF A FILE TELL WHAT THE WHOLE SAYS

@@ -3,7 +3,7 @@ use mathlib.Core.Path.{_≡_}
 use mathlib.Core.List.{List, [], _∷_, _++_}
 use Prim.Native.Nat.{ℕ, _≤_}
 use lib.ListN.{length}
-use Rattle.refusals.specs.Refusals.{Outcome, given, pass, orElse}
+use Rattle.refusals.specs.Refusals.{Outcome, given, pass, refusedOr}
 use Rattle.numbers.specs.Numbers.{bytesOf}
 use Rattle.network.specs.Network.{Topology}
 use Rattle.network.specs.declared.Link.{Link}
@@ -31,4 +31,4 @@ ImageBound = (t : Topology) → networkCheck t ≡ given pass → length (imageO
 
 -- WHAT THE WRITER WRITES into a buffer of so many bytes: 2, 3, then 7, 8 and 9 for each link, then 20; "The writer answers the image's length"
 unfoldable pub writeNetwork : Topology → ℕ → Outcome (List ℕ)
-writeNetwork t room = orElse (networkCheck t) (inRoom (length (imageOf t)) room (imageOf t))
+writeNetwork t room = refusedOr (networkCheck t) (inRoom (length (imageOf t)) room (imageOf t))

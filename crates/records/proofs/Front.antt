@@ -8,7 +8,7 @@ use borrow.Author.Tests.{le-ltb, ne-eqb}
 use lib.ListN.{length, getD, drop, length-append, length-drop}
 use lib.Seq.{drop-append-le}
 use lib.Dec.{eqb, ltb}
-use Rattle.refusals.specs.Refusals.{Outcome, given, refuseIf, orElse}
+use Rattle.refusals.specs.Refusals.{Outcome, given, refuseIf, refusedOr}
 use Rattle.refusals.proofs.Refusals.{past}
 use Rattle.numbers.specs.Numbers.{numberIn}
 use Rattle.numbers.proofs.Front.{byte-front, number-front}
@@ -75,9 +75,9 @@ used-bound fs s x e =
     let vs : List ℕ = valuesIn fs map (drop 1 s) in
     let n : ℕ = needed fs map in
     let y : Said = record { values = vs; used = 1 + n } in
-    let six : Outcome Said = orElse (refuseIf (restated fs map vs) 6) (given y) in
-    let five : Outcome Said = orElse (refuseIf (not (eqb (strayBits fs map) 0)) 5) six in
-    let four : Outcome Said = orElse (refuseIf (ltb (length s) (1 + n)) 4) five in
+    let six : Outcome Said = refusedOr (refuseIf (restated fs map vs) 6) (given y) in
+    let five : Outcome Said = refusedOr (refuseIf (not (eqb (strayBits fs map) 0)) 5) six in
+    let four : Outcome Said = refusedOr (refuseIf (ltb (length s) (1 + n)) 4) five in
     let o : (eqb (length s) 0 ≡ false) × (four ≡ given x) = past (eqb (length s) 0) 4 four x e in
     let p : (ltb (length s) (1 + n) ≡ false) × (five ≡ given x) = past (ltb (length s) (1 + n)) 4 five x (o .1) in
     let q : (not (eqb (strayBits fs map) 0) ≡ false) × (six ≡ given x) = past (not (eqb (strayBits fs map) 0)) 5 six x (p .1) in

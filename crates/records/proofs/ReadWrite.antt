@@ -10,7 +10,7 @@ use lib.ListN.{length, getD, drop, take, length-drop}
 use lib.Dec.{eqb, ltb}
 use lib.Seq.{take-add}
 use Rattle.lists.proofs.Count.{or-neither}
-use Rattle.refusals.specs.Refusals.{Outcome, given, refuseIf, orElse}
+use Rattle.refusals.specs.Refusals.{Outcome, given, refuseIf, refusedOr}
 use Rattle.refusals.proofs.Refusals.{past}
 use Rattle.numbers.specs.Numbers.{numberIn, bytesOf}
 use Rattle.numbers.proofs.Trip.{bytes-number, bytes-drop}
@@ -98,8 +98,8 @@ mapped-whole fs map t x l b e =
     let vs : List ℕ = valuesIn fs map t in
     let n : ℕ = needed fs map in
     let y : Said = record { values = vs; used = 1 + n } in
-    let six : Outcome Said = orElse (refuseIf (restated fs map vs) 6) (given y) in
-    let five : Outcome Said = orElse (refuseIf (not (eqb (strayBits fs map) 0)) 5) six in
+    let six : Outcome Said = refusedOr (refuseIf (restated fs map vs) 6) (given y) in
+    let five : Outcome Said = refusedOr (refuseIf (not (eqb (strayBits fs map) 0)) 5) six in
     let p : (ltb (length (map ∷ t)) (1 + n) ≡ false) × (five ≡ given x) = past (ltb (length (map ∷ t)) (1 + n)) 4 five x e in
     let q : (not (eqb (strayBits fs map) 0) ≡ false) × (six ≡ given x) = past (not (eqb (strayBits fs map) 0)) 5 six x (p .1) in
     let r : (restated fs map vs ≡ false) × (given y ≡ given x) = past (restated fs map vs) 6 (given y) x (q .1) in

@@ -6,7 +6,7 @@ use Prim.Native.Nat.{ℕ, _+_}
 use lib.Dec.{eqb, ltb}
 use lib.ListN.{length, getD, drop}
 use Rattle.places.specs.Places.{firsts}
-use Rattle.refusals.specs.Refusals.{Outcome, given, refused, refuseIf, orElse, ruling, rulingOf, givenOr}
+use Rattle.refusals.specs.Refusals.{Outcome, given, refused, refuseIf, refusedOr, ruling, rulingOf, givenOr}
 use Rattle.refusals.specs.declared.Verdict.the-variants.{Refused}
 use Rattle.refusals.specs.declared.Refusal.{Refusal}
 use Rattle.numbers.specs.Numbers.{numberIn}
@@ -51,14 +51,14 @@ pub record Said : Type 0 where
 unfoldable pub readMapped : List Field → ℕ → List ℕ → Outcome Said
 readMapped fs map s =
     let values = valuesIn fs map (drop 1 s) in
-    orElse (refuseIf (ltb (length s) (1 + needed fs map)) 4)
-    (orElse (refuseIf (not (eqb (strayBits fs map) 0)) 5)
-    (orElse (refuseIf (restated fs map values) 6)
+    refusedOr (refuseIf (ltb (length s) (1 + needed fs map)) 4)
+    (refusedOr (refuseIf (not (eqb (strayBits fs map) 0)) 5)
+    (refusedOr (refuseIf (restated fs map values) 6)
     (given (record { values = values; used = 1 + needed fs map }))))
 
 -- THE RECORD THAT STARTS A LIST OF BYTES: "No map byte is left", 4, or what its map byte says
 unfoldable pub readRecord : List Field → List ℕ → Outcome Said
-readRecord fs s = orElse (refuseIf (eqb (length s) 0) 4) (readMapped fs (getD s 0 0) s)
+readRecord fs s = refusedOr (refuseIf (eqb (length s) 0) 4) (readMapped fs (getD s 0 0) s)
 
 -- ---- what the program's answer says in these words
 -- nothing, and 0, stand in the place of a record that is refused

@@ -7,7 +7,7 @@ use native.Mathlib.Omega.{arith}
 use lib.ListN.{getD}
 use Rattle.refusals.specs.declared.Refusal.the-variants.{BrokenState, ShortFile, LinkCount, CycleLength, ShortRecord, StrayBit, AbsentWritten, FrameCount, RangeOutside, ClosedOutside, BytesFollow, UnreadableCall, RouteLength, UnknownLink, LinkTwice, RatesApart, NumberLive, PlacesFull, NoSchedule, NumberNotLive, ShortBuffer}
 use Rattle.refusals.specs.declared.Refusal.{Refusal}
-use Rattle.refusals.specs.Refusals.{refusalNumber, refusalCount, RefusalOnly, Outcome, given, refused, pass, Ruling, refuseIf, orElse, rulingOf, givenOr}
+use Rattle.refusals.specs.Refusals.{refusalNumber, refusalCount, RefusalOnly, Outcome, given, refused, pass, Ruling, refuseIf, refusedOr, rulingOf, givenOr}
 
 listed : ℕ → List Refusal
 listed count = BrokenState ∷ ShortFile ∷ LinkCount ∷ CycleLength ∷ ShortRecord ∷ StrayBit ∷ AbsentWritten ∷ FrameCount ∷ RangeOutside ∷ ClosedOutside ∷ BytesFollow ∷ UnreadableCall ∷ RouteLength ∷ UnknownLink ∷ LinkTwice ∷ RatesApart ∷ NumberLive ∷ PlacesFull ∷ NoSchedule count ∷ NumberNotLive ∷ ShortBuffer ∷ []
@@ -48,7 +48,7 @@ pub not-given : {A : Type 0} (n : ℕ) (a : A) → refused n ≡ given a → ⊥
 not-given n a e = let z : _≡_ {A = ℕ} 0 1 = cc in omega arith
 
 -- a check that did not refuse, and what came after it
-pub past : {A : Type 0} (b : Bool) (n : ℕ) (next : Outcome A) (a : A) → orElse (refuseIf b n) next ≡ given a → (b ≡ false) × (next ≡ given a)
+pub past : {A : Type 0} (b : Bool) (n : ℕ) (next : Outcome A) (a : A) → refusedOr (refuseIf b n) next ≡ given a → (b ≡ false) × (next ≡ given a)
 past true n next a e = (cc, cc)
 past false n next a e = (refl, e)
 
@@ -58,7 +58,7 @@ not-refused true n e = cc
 not-refused false n e = refl
 
 -- of two checks that passed, each did
-pub both-passed : (a b : Ruling) → orElse a b ≡ given pass → (a ≡ given pass) × (b ≡ given pass)
+pub both-passed : (a b : Ruling) → refusedOr a b ≡ given pass → (a ≡ given pass) × (b ≡ given pass)
 both-passed (given pass) b e = (refl, e)
 both-passed (refused n) b e = (cc, cc)
 

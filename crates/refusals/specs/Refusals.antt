@@ -78,9 +78,9 @@ refuseIf true n = refused n
 refuseIf false n = given pass
 
 -- "Each call makes, in this order, the checks": the first that refuses, or else what comes after it
-abbrev pub orElse : {A : Type 0} → Ruling → Outcome A → Outcome A
-orElse (given p) next = next
-orElse (refused n) next = refused n
+abbrev pub refusedOr : {A : Type 0} → Ruling → Outcome A → Outcome A
+refusedOr (given p) next = next
+refusedOr (refused n) next = refused n
 
 -- what comes of what was given; a refusal is passed on
 abbrev pub onGiven : {A B : Type 0} → Outcome A → (A → Outcome B) → Outcome B

@@ -7,7 +7,7 @@ use Rattle.refusals.specs.Refusals.{Outcome, given, refused}
 use Rattle.network_file.proofs.RoundTrip.{read-passes}
 use Rattle.ledger.specs.Sessions.{View}
 use Rattle.ledger.specs.Calls.{Call, refusal, reply, next}
-use Rattle.ledger.specs.Ledger.{Step, did, callOf}
+use Rattle.ledger.specs.Ledger.{AnsweredCall, did, callOf}
 use Rattle.ledger.specs.Demand.{fresh, Runs, over, then}
 use Rattle.ledger.proofs.Whole.{demand3}
 use Rattle.call_records.specs.Records.{firstCall, callsIn, counted}
@@ -33,7 +33,7 @@ calls-end = by-records (λ (s : List ℕ). Ends (callsIn s)) (rw no-calls tt)
 
 -- the lines from a place on, as steps
 record Told (place : ℕ) (v : View) (os : List (Outcome Call)) : Type 0 where
-  steps : List Step
+  steps : List AnsweredCall
   last : View
   runs : Runs v steps last
   made : map callOf steps ≡ madeIn os

@@ -6,7 +6,7 @@ use Prim.Native.Nat.{ℕ, zero, suc, _+_, _≤_}
 use native.Mathlib.Omega.{arith}
 use lib.ListN.{length, getD, drop}
 use lib.Dec.{eqb, ltb}
-use Rattle.refusals.specs.Refusals.{Outcome, given, refused, Ruling, refuseIf, orElse, onGiven}
+use Rattle.refusals.specs.Refusals.{Outcome, given, refused, Ruling, refuseIf, refusedOr, onGiven}
 use Rattle.numbers.specs.Numbers.{numberIn}
 use Rattle.network.specs.Network.{Topology}
 use Rattle.network.specs.declared.Link.{Link}
@@ -28,7 +28,7 @@ most-if : (m : ℕ) (b : Bool) (n : ℕ) → n ≤ m → Most m (refuseIf b n)
 most-if m true n h = h
 most-if m false n h = tt
 
-most-or : {A : Type 0} (m : ℕ) (a : Ruling) (o : Outcome A) → Most m a → Most m o → Most m (orElse a o)
+most-or : {A : Type 0} (m : ℕ) (a : Ruling) (o : Outcome A) → Most m a → Most m o → Most m (refusedOr a o)
 most-or m (given p) o h g = g
 most-or m (refused n) o h g = h
 
@@ -37,7 +37,7 @@ most-on m (given a) f h g = g a
 most-on m (refused n) f h g = h
 
 -- one more check before others
-most-check : {A : Type 0} (m : ℕ) (b : Bool) (n : ℕ) (o : Outcome A) → n ≤ m → Most m o → Most m (orElse (refuseIf b n) o)
+most-check : {A : Type 0} (m : ℕ) (b : Bool) (n : ℕ) (o : Outcome A) → n ≤ m → Most m o → Most m (refusedOr (refuseIf b n) o)
 most-check m b n o h g = most-or m (refuseIf b n) o (most-if m b n h) g
 
 -- ---- net.bin: 1 to 10
@@ -62,7 +62,7 @@ link-most T l =
 read-link-most : (T : ℕ) (s : List ℕ) → Most 10 (readLink T s)
 unfolding readLink
 read-link-most T s =
-    most-on 10 (readRecord linkLayout s) (λ x. orElse (linkCheck T (linkOf (x .values))) (given (record { link = linkOf (x .values); used = x .used }))) (record-most linkLayout s)
+    most-on 10 (readRecord linkLayout s) (λ x. refusedOr (linkCheck T (linkOf (x .values))) (given (record { link = linkOf (x .values); used = x .used }))) (record-most linkLayout s)
     (λ x. most-or 10 (linkCheck T (linkOf (x .values))) (given (record { link = linkOf (x .values); used = x .used })) (link-most T (linkOf (x .values))) tt)
 
 links-most : (T n : ℕ) (s : List ℕ) → Most 10 (readLinks T n s)

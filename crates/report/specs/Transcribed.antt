@@ -9,7 +9,7 @@ use Rattle.network.specs.Network.{Topology}
 use Rattle.network_file.specs.Reading.{readNetwork}
 use Rattle.ledger.specs.Sessions.{View}
 use Rattle.ledger.specs.Calls.{Call, refusal}
-use Rattle.ledger.specs.Ledger.{Step, did, callOf}
+use Rattle.ledger.specs.Ledger.{AnsweredCall, did, callOf}
 use Rattle.ledger.specs.Demand.{Demand3}
 use Rattle.call_records.specs.Records.{callsIn, counted}
 use Rattle.text.specs.Characters.{questionMark}
@@ -17,7 +17,7 @@ use Rattle.text.specs.Lines.{letterOf, line, liveLine}
 use Rattle.report.specs.Transcript.{transcript}
 
 -- the lines of calls with their answers
-abbrev pub stepLines : ℕ → List Step → List ℕ
+abbrev pub stepLines : ℕ → List AnsweredCall → List ℕ
 stepLines place [] = []
 stepLines place (did call r ∷ steps) = line place (letterOf call) r ++ stepLines (suc place) steps
 
@@ -36,7 +36,7 @@ unreadLine place (refused n ∷ os) = line place questionMark (refusal n 0)
 -- THE TEXT ON A FILE THAT SAYS `net` IS DEMAND 3'S LIST, LINE BY LINE: the calls that the records say, each with its answer, then 11 where a record
 -- can't be read, and the number of sessions that are live after the list
 pub record Transcribed (file calls : List ℕ) (net : Topology) : Type 0 where
-  pub steps : List Step
+  pub steps : List AnsweredCall
   pub last : View
   pub made : map callOf steps ≡ madeIn (callsIn (counted calls))
   pub text : transcript file calls ≡ stepLines 1 steps ++ (unreadLine 1 (callsIn (counted calls)) ++ liveLine (length (last .live)))

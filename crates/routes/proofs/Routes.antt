@@ -6,7 +6,7 @@ use Prim.Native.Nat.{ℕ, _+_, _-_, _<_, _≤_}
 use native.Mathlib.Decide.{decLt}
 use native.Mathlib.Omega.{arith}
 use lib.ListN.{length, getD, drop, drop-of-length-le}
-use Rattle.refusals.specs.Refusals.{Ruling, given, refused, pass, refuseIf, orElse}
+use Rattle.refusals.specs.Refusals.{Ruling, given, refused, pass, refuseIf, refusedOr}
 use Rattle.refusals.proofs.Refusals.{past}
 use Rattle.network.specs.declared.Link.{Link}
 use Rattle.network.specs.declared.Network.{Network}
@@ -95,8 +95,8 @@ module _ (net : Topology) (route : List ℕ) (e : routeCheck net route ≡ given
   checked : (badLength (length route) ≡ false) × (unknownLink net route ≡ false)
   unfolding routeCheck
   checked =
-      let t : Ruling = orElse (refuseIf (linkTwice route) 14) (refuseIf (ratesApart (ratesOf net route)) 15) in
-      let u : Ruling = orElse (refuseIf (unknownLink net route) 13) t in
+      let t : Ruling = refusedOr (refuseIf (linkTwice route) 14) (refuseIf (ratesApart (ratesOf net route)) 15) in
+      let u : Ruling = refusedOr (refuseIf (unknownLink net route) 13) t in
       let a : (badLength (length route) ≡ false) × (u ≡ given pass) = past (badLength (length route)) 12 u pass e in
       (a .0, past (unknownLink net route) 13 t pass (a .1) .0)
 

@@ -6,7 +6,7 @@ use Rattle.refusals.specs.declared.Refusal.{Refusal}
 use Rattle.refusals.proofs.Refusals.{refusal-only}
 use Rattle.ledger.specs.Sessions.{View}
 use Rattle.ledger.specs.Calls.{Call, Quote, Reply, schedule, freed, refusal, reply, next, lookup, freeCount}
-use Rattle.ledger.specs.Ledger.{Step, did, callOf}
+use Rattle.ledger.specs.Ledger.{AnsweredCall, did, callOf}
 use Rattle.ledger.specs.Demand.{Runs, over, then}
 use Rattle.ledger.proofs.Quoted.{quote-depends}
 use Rattle.state.specs.declared.Quoted.{Quoted}
@@ -28,7 +28,7 @@ quotes-same freed a b p q = absurd p
 quotes-same (refusal k count) a b p q = p .3 ∙ ap notQuoted (refusal-only (p .0) (q .0) (p .1 ∙ sym (q .1)) (p .2 ∙ sym (q .2))) ∙ sym (q .3)
 
 -- ---- the calls of a list tell its steps and what the last view shows
-runs-same : {v last end : View} {steps others : List Step} → Runs v steps last → Runs v others end → map callOf steps ≡ map callOf others
+runs-same : {v last end : View} {steps others : List AnsweredCall} → Runs v steps last → Runs v others end → map callOf steps ≡ map callOf others
     → (steps ≡ others) × (last ≡ end)
 runs-same over over e = (refl, refl)
 runs-same over (then call rest) e = absurd (nil≢cons e)

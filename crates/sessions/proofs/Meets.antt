@@ -12,7 +12,7 @@ use Rattle.places.specs.Places.{firsts}
 use Rattle.places.proofs.Firsts.{firsts-back}
 use Rattle.trellis.specs.Answer.{found, blocked}
 use Rattle.trellis.specs.Answer as trellis
-use Rattle.refusals.specs.Refusals.{refusalNumber, refusalCount, Outcome, Ruling, given, refused, pass, Pass, refuseIf, orElse, ruling}
+use Rattle.refusals.specs.Refusals.{refusalNumber, refusalCount, Outcome, Ruling, given, refused, pass, Pass, refuseIf, refusedOr, ruling}
 use Rattle.refusals.specs.declared.Refusal.{Refusal}
 use Rattle.refusals.specs.declared.Refusal.the-variants.{BrokenState, LinkCount, CycleLength, FrameCount, RangeOutside, ClosedOutside, RouteLength, UnknownLink, LinkTwice, RatesApart, NumberLive, PlacesFull, NoSchedule, NumberNotLive}
 use Rattle.refusals.specs.declared.Verdict.{Verdict}
@@ -61,7 +61,7 @@ named-if : (b : Bool) (r : Refusal) → eqb (refusalNumber r) 18 ≡ false → N
 named-if true r e = (r, refl, e)
 named-if false r e = tt
 
-named-or : {A : Type 0} (a : Ruling) (b : Outcome A) → Named a → Named b → Named (orElse a b)
+named-or : {A : Type 0} (a : Ruling) (b : Outcome A) → Named a → Named b → Named (refusedOr a b)
 named-or (given p) b h g = g
 named-or (refused k) b h g = h
 
@@ -72,8 +72,8 @@ route-named : (net : Topology) (route : List ℕ) → Named (routeCheck net rout
 unfolding routeCheck
 route-named net route =
     let r : Ruling = refuseIf (ratesApart (ratesOf net route)) 15 in
-    let o : Ruling = orElse (refuseIf (linkTwice route) 14) r in
-    let k : Ruling = orElse (refuseIf (unknownLink net route) 13) o in
+    let o : Ruling = refusedOr (refuseIf (linkTwice route) 14) r in
+    let k : Ruling = refusedOr (refuseIf (unknownLink net route) 13) o in
     named-or (refuseIf (badLength (length route)) 12) k (named-if (badLength (length route)) RouteLength refl)
     (named-or (refuseIf (unknownLink net route) 13) o (named-if (unknownLink net route) UnknownLink refl)
     (named-or (refuseIf (linkTwice route) 14) r (named-if (linkTwice route) LinkTwice refl)
@@ -82,7 +82,7 @@ route-named net route =
 call-named : (net : Topology) (ss : List Session) (call : Call) → Named (callCheck net ss call)
 unfolding callCheck
 call-named net ss (SetUp n route) =
-    named-or (routeCheck net route) (orElse (refuseIf (isLive n ss) 16) (refuseIf (full ss) 17)) (route-named net route)
+    named-or (routeCheck net route) (refusedOr (refuseIf (isLive n ss) 16) (refuseIf (full ss) 17)) (route-named net route)
     (named-or (refuseIf (isLive n ss) 16) (refuseIf (full ss) 17) (named-if (isLive n ss) NumberLive refl) (named-if (full ss) PlacesFull refl))
 call-named net ss (Quote route) = route-named net route
 call-named net ss (Release n) = named-if (not (isLive n ss)) NumberNotLive refl
@@ -104,7 +104,7 @@ unfolding freeCount
 count-named v l =
     let n : Outcome ℕ = given (freeFrames (linkAt (v .network) l .frames) (freeOf (v .network) (v .live) l)) in
     let b : Bool = unknown (length (v .network .links)) l in
-    named-or (brokenCheck v) (orElse (refuseIf b 13) n) (broken-named v) (named-or (refuseIf b 13) n (named-if b UnknownLink refl) tt)
+    named-or (brokenCheck v) (refusedOr (refuseIf b 13) n) (broken-named v) (named-or (refuseIf b 13) n (named-if b UnknownLink refl) tt)
 
 -- ---- the answers: what is given, or the refusal with the number
 told-for : {A B : Type 0} (of : A → B) (not : Refusal → B) (o : Outcome A) → Named o → (q : B) × Tells of not o q
@@ -129,7 +129,7 @@ freed-unless (refused k) h = (verdict.Refused (h .0), ap₂ refusal (h .1) (no-c
 module _ (v : View) where
   -- 0 and the checks after it
   abbrev checks : Call → Ruling
-  checks call = orElse (brokenCheck v) (callCheck (v .network) (v .live) call)
+  checks call = refusedOr (brokenCheck v) (callCheck (v .network) (v .live) call)
 
   checks-named : (call : Call) → Named (checks call)
   checks-named call = named-or (brokenCheck v) (callCheck (v .network) (v .live) call) (broken-named v) (call-named (v .network) (v .live) call)
@@ -226,7 +226,7 @@ link-named : (T : ℕ) (k : Link) → Named (linkCheck T k)
 unfolding linkCheck
 link-named T k =
     let c : Ruling = refuseIf (badClosed (k .frames) (k .closed)) 9 in
-    let r : Ruling = orElse (refuseIf (badRange (k .frames) (k .range)) 8) c in
+    let r : Ruling = refusedOr (refuseIf (badRange (k .frames) (k .range)) 8) c in
     named-or (refuseIf (badFrames T (k .frames)) 7) r (named-if (badFrames T (k .frames)) FrameCount refl)
     (named-or (refuseIf (badRange (k .frames) (k .range)) 8) c (named-if (badRange (k .frames) (k .range)) RangeOutside refl)
     (named-if (badClosed (k .frames) (k .closed)) ClosedOutside refl))
@@ -240,7 +240,7 @@ network-named : (net : Topology) → Named (networkCheck net)
 unfolding networkCheck
 network-named net =
     let l : Ruling = linksCheck (net .ticks) (net .links) in
-    let t : Ruling = orElse (refuseIf (badCycle (net .ticks)) 3) l in
+    let t : Ruling = refusedOr (refuseIf (badCycle (net .ticks)) 3) l in
     named-or (refuseIf (badCount (length (net .links))) 2) t (named-if (badCount (length (net .links))) LinkCount refl)
     (named-or (refuseIf (badCycle (net .ticks)) 3) l (named-if (badCycle (net .ticks)) CycleLength refl) (links-named (net .ticks) (net .links)))
 

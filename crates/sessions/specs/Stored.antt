@@ -13,7 +13,7 @@ use Rattle.network.specs.declared.Network.{Network}
 use Rattle.ledger.specs.Sessions.{Session, Slot, holds, heldIn, isLive, hopsOf}
 use Rattle.ledger.specs.Sound.{intact}
 use Rattle.ledger.specs.Calls.{Call, SetUp, Quote, Release, refusal}
-use Rattle.ledger.specs.Ledger.{Step, did, callOf, ledger}
+use Rattle.ledger.specs.Ledger.{AnsweredCall, did, callOf, ledger}
 use Rattle.ledger.specs.Demand.{Demand3, Runs}
 use Rattle.state.specs.declared.State.{State}
 use Rattle.state.specs.declared.Served.{Served}
@@ -26,32 +26,32 @@ use Rattle.sessions.specs.Calls.{Begins, shownOf, notShown, Looks, Talli
 
 -- a list of calls on stored states, each call meeting its contract on the state that the one before it returned: "After a refused call too, the
 -- next gets the state that was returned"; the steps are the calls with their answers, as the program gave them
-pub data StoredRun : State → List Step → State → Type 0 where
+pub data StoredRun : State → List AnsweredCall → State → Type 0 where
   over : {st : State} → StoredRun st [] st
-  set-up : {st last : State} {steps : List Step} (number : ℕ) (route : List ℕ) (r : Served) → Serves st (SetUp number route) r
+  set-up : {st last : State} {steps : List AnsweredCall} (number : ℕ) (route : List ℕ) (r : Served) → Serves st (SetUp number route) r
       → StoredRun (r .state) steps last → StoredRun st (did (SetUp number route) (quotedIn (length route) (r .answer)) ∷ steps) last
-  quote : {st last : State} {steps : List Step} (route : List ℕ) (r : Served) → Serves st (Quote route) r
+  quote : {st last : State} {steps : List AnsweredCall} (route : List ℕ) (r : Served) → Serves st (Quote route) r
       → StoredRun (r .state) steps last → StoredRun st (did (Quote route) (quotedIn (length route) (r .answer)) ∷ steps) last
-  release : {st last : State} {steps : List Step} (number : ℕ) (r : Released) → Releases st number r
+  release : {st last : State} {steps : List AnsweredCall} (number : ℕ) (r : Released) → Releases st number r
       → StoredRun (r .state) steps last → StoredRun st (did (Release number) (releasedIn (r .verdict)) ∷ steps) last
 
 -- WHAT STORED STATES SHOW GOES BY THE RULES, call by call
 abbrev pub StoredByRules : Type 0
-StoredByRules = (st last : State) (steps : List Step) → StoredRun st steps last → Runs (viewOf st) steps (viewOf last)
+StoredByRules = (st last : State) (steps : List AnsweredCall) → StoredRun st steps last → Runs (viewOf st) steps (viewOf last)
 
 -- AFTER EVERY LIST OF CALLS FROM WHAT `begin` GAVE, on whatever network, THE STATE ISN'T BROKEN: "0 can only meet a caller that builds a state by hand"
 abbrev pub BegunIntact : Type 0
-BegunIntact = (network : Network) (r : Begun) → Begins network r → (last : State) (steps : List Step) → StoredRun (r .state) steps last
+BegunIntact = (network : Network) (r : Begun) → Begins network r → (last : State) (steps : List AnsweredCall) → StoredRun (r .state) steps last
     → intact (viewOf last) ≡ true
 
 -- WHERE `begin` REFUSED THE NETWORK NOTHING IS EVER HELD: no list of calls on the state that it gave leaves a session
 abbrev pub NothingHeld : Type 0
 NothingHeld = (network : Network) (r : Begun) (k : ℕ) → Begins network r → networkCheck (topologyOf network) ≡ refused k
-    → (last : State) (steps : List Step) → StoredRun (r .state) steps last → viewOf last .live ≡ []
+    → (last : State) (steps : List AnsweredCall) → StoredRun (r .state) steps last → viewOf last .live ≡ []
 
 -- demand 3, and at the call `sessions::lookup`: "On the state after the list, lookup gives each entry's route, frames and delay for its number, and 19 for
 -- every number without an entry"
-pub record Demand3AtCalls (net : Topology) (last : State) (steps : List Step) : Type 0 where
+pub record Demand3AtCalls (net : Topology) (last : State) (steps : List AnsweredCall) : Type 0 where
   pub rules : Demand3 net (viewOf last) steps
   pub entryShown : (e : Session) → List·Memᴰ e (ledger steps) → (r : Looked) → Looks last (e .number) r → r .shown ≡ shownOf e
   pub noneShown : (n : ℕ) → isLive n (ledger steps) ≡ false → (r : Looked) → Looks last n r → r .shown ≡ notShown NumberNotLive
@@ -59,7 +59,7 @@ pub record Demand3AtCalls (net : Topology) (last : State) (steps : List Step) : 
 -- DEMAND 3 OF THE STORED STATES: on every network that `begin` gave a state on, and for every list of set-ups, quotes and releases, refused ones
 -- included, on the states that the calls returned
 abbrev pub StoredDemand3 : Type 0
-StoredDemand3 = (network : Network) (r : Begun) → Begins network r → (last : State) (steps : List Step) → StoredRun (r .state) steps last
+StoredDemand3 = (network : Network) (r : Begun) → Begins network r → (last : State) (steps : List AnsweredCall) → StoredRun (r .state) steps last
     → Demand3AtCalls (topologyOf (r .state .network)) last steps
 
 -- EACH CONTRACT CAN BE MET ON EVERY STATE, broken ones too
@@ -79,7 +79,7 @@ BeginMet = (network : Network) → (r : Begun) × Begins network r
 
 -- the steps of a list of calls, from a stored state on
 pub record StoredSteps (st : State) (calls : List Call) : Type 0 where
-  pub steps : List Step
+  pub steps : List AnsweredCall
   pub last : State
   pub run : StoredRun st steps last
   pub same : map callOf steps ≡ calls
@@ -92,7 +92,7 @@ EveryListStored = (st : State) (calls : List Call) → StoredSteps st calls
 pub record Agree (st other : State) : Type 0 where
   pub lookups : (n : ℕ) (r q : Looked) → Looks st n r → Looks other n q → r .shown ≡ q .shown
   pub counts : (l : ℕ) (r q : Tallied) → Tallies st l r → Tallies other l q → r .counted ≡ q .counted
-  pub lists : (steps others : List Step) (last end : State) → StoredRun st steps last → StoredRun other others end
+  pub lists : (steps others : List AnsweredCall) (last end : State) → StoredRun st steps last → StoredRun other others end
       → map callOf steps ≡ map callOf others → (steps ≡ others) × (viewOf last ≡ viewOf end)
 
 -- WHAT THE RULES LEAVE FREE IS FREE: "the inner arrangement of stored sessions, which is free so long as lookup and later answers agree". Free are the places
