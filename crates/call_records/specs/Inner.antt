@@ -12,7 +12,7 @@ use Rattle.ledger.specs.Calls as calls
 use Rattle.call_records.specs.declared.Kind.{Kind}
 use Rattle.call_records.specs.declared.Kind.the-variants.{SetUp, Quote, Release, Unreadable}
 use Rattle.call_records.specs.declared.Record.{Record}
-use Rattle.call_records.specs.Records.{Said, firstCall}
+use Rattle.call_records.specs.Records.{firstCall}
 
 -- a record that can't be read, of n bytes: it takes all of them
 abbrev pub noRecord : ℕ → Record

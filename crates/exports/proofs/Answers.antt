@@ -12,12 +12,12 @@ use Rattle.network.specs.Network.{Topology, topologyOf}
 use Rattle.network_file.specs.declared.Loaded.{Loaded}
 use Rattle.network_file.specs.declared.Written.{Written}
 use Rattle.network_file.specs.Reading.{readNetwork, Reads}
-use Rattle.network_file.specs.Lent.{lengthOf, lengthRead, Writes}
+use Rattle.network_file.specs.Lent.{lengthRead, Writes}
 use Rattle.network_file.specs.Writing.{writeNetwork}
 use Rattle.network_file.proofs.RoundTrip.{refused-says, passed-says, read-passes, read-stands}
 use Rattle.ledger.specs.Sessions.{View}
 use Rattle.ledger.specs.Sound.{intact}
-use Rattle.ledger.specs.Calls.{Call, freeCount}
+use Rattle.ledger.specs.Calls.{Call}
 use Rattle.ledger.specs.Demand.{fresh}
 use Rattle.ledger.proofs.Intact.{fresh-intact}
 use Rattle.ledger.proofs.Kept.{next-intact}

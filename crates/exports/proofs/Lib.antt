@@ -1,4 +1,5 @@
 pub mod Answers
 pub mod Shows
+pub mod Below
 pub mod Numbers
 pub mod Values

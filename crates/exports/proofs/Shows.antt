@@ -1,26 +1,20 @@
 -- What lookup and free frames answer on the state after call records. Assumes nothing.
-use mathlib.Core.Path.{_≡_, refl, sym, ap, subst, _∙_}
-use mathlib.Core.Bool.{true}
-use mathlib.Core.List.{List, [], _∷_, _++_}
-use Prim.Native.Nat.{ℕ, _+_, _*_, _<_, _≤_}
+use mathlib.Core.Path.{_≡_, refl, sym, ap, _∙_}
+use mathlib.Core.List.{List, []}
+use Prim.Native.Nat.{ℕ, _+_, _≤_}
 use native.Mathlib.Omega.{arith}
-use lib.ListN.{length, take, drop, set, length-append, length-map}
+use lib.ListN.{length, length-map}
 use Rattle.places.specs.Places.{firsts}
-use Rattle.places.specs.Put.{putAt}
-use Rattle.places.proofs.Firsts.{length-firsts, firsts-back, firsts-take}
-use Rattle.places.proofs.Puts.{Grown, grown-none, grow, put-set, put-zero}
+use Rattle.places.proofs.Firsts.{firsts-back}
 use Rattle.refusals.specs.declared.Refusal.{Refusal}
-use Rattle.refusals.specs.declared.Verdict.{Verdict}
 use Rattle.refusals.specs.declared.Verdict.the-variants.{Passed, Refused}
 use Rattle.refusals.specs.Refusals.{Outcome, given, refused, onGiven, refusalNumber}
 use Rattle.numbers.specs.Numbers.{IsBytes}
-use Rattle.network.specs.declared.Network.{Network}
-use Rattle.network.specs.Network.{Topology, topologyOf}
+use Rattle.network.specs.Network.{topologyOf}
 use Rattle.network_file.specs.declared.Loaded.{Loaded}
 use Rattle.network_file.specs.Reading.{readNetwork, Reads}
 use Rattle.network_file.specs.Lent.{inRoom}
-use Rattle.forwarding.specs.declared.Held.{Held}
-use Rattle.ledger.specs.Held.{heldPlaces, heldOver}
+use Rattle.ledger.specs.Held.{heldPlaces}
 use Rattle.ledger.specs.Sessions.{Session, View, hopsOf, hopOf}
 use Rattle.ledger.specs.Calls.{lookup, freeCount}
 use Rattle.ledger.specs.Demand.{fresh}
@@ -41,18 +35,18 @@ use Rattle.sessions.specs.declared.Tallied.{Tallied}
 use Rattle.sessions.specs.Calls.{Tells, shownOf, notShown, Looks, countedOf, notCounted, Tallies}
 use Rattle.replay.specs.Replayed.{Becomes}
 use Rattle.exports.specs.Exported.{asNumber, Exports, stateAfter, sessionNumbers, lookupAfter, freeAfter}
-use Rattle.exports.specs.Inner.{placeNumbers, shownNumbers, Fits, countBy, countRead}
+use Rattle.exports.specs.Inner.{placeNumbers, shownNumbers, Fits, countRead}
 use Rattle.exports.proofs.Answers.{file-refused, file-passed}
 
 -- ---- a session that a lookup gives has a route that passed, and a frame for each of its links
 module _ (v : View) (n : ℕ) (s : Session) (e : lookup v n ≡ given s) where
-  few-hops : length (s .route) ≤ 8
+  pub few-hops : length (s .route) ≤ 8
   few-hops =
       let g = lookup-given v n s e in
       let good = session-good (v .network) s (all-member (goodSession (v .network)) (v .live) (intact-is v (g .0) .sessions) (looked-up n (v .live) s (g .1) .0)) in
       route-long (v .network) (s .route) (good .route) .1
 
-  frame-each : length (s .held .frames) ≡ length (s .route)
+  pub frame-each : length (s .held .frames) ≡ length (s .route)
   frame-each =
       let g = lookup-given v n s e in
       let good = session-good (v .network) s (all-member (goodSession (v .network)) (v .live) (intact-is v (g .0) .sessions) (looked-up n (v .live) s (g .1) .0)) in
@@ -115,4 +109,3 @@ module _ (file calls : List ℕ) (l : Loaded) (reads : Reads (readNetwork file) 
   pub free-refused : (r : Refusal) → l .verdict ≡ Refused r → (link k : ℕ) → k ≡ 1000000 + refusalNumber r → k ≡ asNumber (freeAfter file calls link)
   unfolding freeAfter
   free-refused r e link k w = w ∙ rw (after-refused r e)
-

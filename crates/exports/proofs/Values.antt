@@ -1,7 +1,7 @@
 -- A network given as values. Assumes nothing.
 use mathlib.Core.Path.{_≡_, refl, sym, ap, _∙_}
 use mathlib.Core.Bool.{Bool, true, false, _||_}
-use mathlib.Core.List.{List, [], _∷_, _++_, append-nil}
+use mathlib.Core.List.{List, [], _∷_, _++_}
 use Prim.Native.Nat.{ℕ, zero, suc, _+_, _<_, _≤_, min}
 use native.Mathlib.Nat.{not-suc-le-zero, le-of-suc-le-suc}
 use native.Mathlib.Numerals.{add-one}
@@ -14,8 +14,7 @@ use Rattle.places.specs.Places.{firsts}
 use Rattle.places.proofs.Firsts.{firsts-filled, firsts-more, firsts-back}
 use Rattle.refusals.specs.Refusals.{refused}
 use Rattle.network.specs.declared.Link.{Link}
-use Rattle.network.specs.declared.Network.{Network}
-use Rattle.network.specs.Network.{Topology, noLink, topologyOf}
+use Rattle.network.specs.Network.{noLink, topologyOf}
 use Rattle.network.specs.Checks.{badCount, networkCheck}
 use Rattle.network_file.specs.declared.Written.{Written}
 use Rattle.network_file.specs.Lent.{lengthRead, Writes}

@@ -2,7 +2,7 @@
 use mathlib.Core.Path.{_≡_}
 use mathlib.Core.Bool.{true}
 use mathlib.Core.List.{List, [], _∷_, _++_}
-use Prim.Native.Nat.{ℕ, _+_}
+use Prim.Native.Nat.{ℕ, _+_, _≤_}
 use lib.ListN.{length}
 use Rattle.refusals.specs.Refusals.{Outcome, given, refused, onGiven}
 use Rattle.numbers.specs.Numbers.{IsBytes}
@@ -16,8 +16,9 @@ use Rattle.ledger.specs.Calls.{lookup, freeCount}
 use Rattle.ledger.specs.Demand.{fresh}
 use Rattle.call_records.specs.Records.{callsIn, counted}
 use Rattle.call_records.specs.Served.{viewAfterAll}
+use Rattle.report.specs.Reports.{reported}
 
--- an answer as one number: a length or a count, or 1,000,000 and the refusal; no length or count is as large
+-- an answer as one number: a length or a count, or 1,000,000 and the refusal; no length or count is as large (`AnswersBelow`, `ValuesBelow`)
 abbrev pub asNumber : Outcome ℕ → ℕ
 asNumber (given n) = n
 asNumber (refused n) = 1000000 + n
@@ -62,3 +63,18 @@ linksFrom (k ∷ ks) (z ∷ zs) (c ∷ cs) = record { frames = k; range = z; clo
 -- A NETWORK GIVEN AS VALUES, WRITTEN into a buffer of so many bytes
 unfoldable pub writtenOf : ℕ → List ℕ → List ℕ → List ℕ → ℕ → Outcome (List ℕ)
 writtenOf T ks zs cs room = writeNetwork (record { ticks = T; links = linksFrom ks zs cs }) room
+
+-- what is written on a file and call bytes is at most so long, and a count so large
+pub record Below (file calls : List ℕ) : Type 0 where
+  pub text : (room : ℕ) (x : List ℕ) → reported file calls room ≡ given x → length x ≤ 720918
+  pub session : (number room : ℕ) (x : List ℕ) → lookupAfter file calls number room ≡ given x → length x ≤ 18
+  pub free : (link n : ℕ) → freeAfter file calls link ≡ given n → n ≤ 64
+  pub again : (room : ℕ) (x : List ℕ) → writtenAgain file room ≡ given x → length x ≤ 355
+
+-- EVERY ANSWER BELOW 1,000,000 IS A LENGTH OR A COUNT, and every other a refusal; and buffers of 720,918, 18 and 355 places always serve
+abbrev pub AnswersBelow : Type 0
+AnswersBelow = (file calls : List ℕ) → IsBytes file → Below file calls
+
+-- the same of a network given as values
+abbrev pub ValuesBelow : Type 0
+ValuesBelow = (T : ℕ) (ks zs cs : List ℕ) (room : ℕ) (x : List ℕ) → writtenOf T ks zs cs room ≡ given x → length x ≤ 355

@@ -12,7 +12,7 @@ use Rattle.places.proofs.Firsts.{length-firsts, next-first, no-first}
 use Rattle.refusals.specs.declared.Verdict.the-variants as verdicts
 use Rattle.refusals.specs.declared.Verdict.{Verdict}
 use Rattle.refusals.specs.declared.Refusal.{Refusal}
-use Rattle.refusals.specs.Refusals.{given, refused, pass, refusalNumber, ruling}
+use Rattle.refusals.specs.Refusals.{given, pass, refusalNumber, ruling}
 use Rattle.numbers.specs.Numbers.{bytesOf}
 use Rattle.numbers.proofs.Laws.{length-bytes}
 use Rattle.network.specs.declared.Link.{Link}

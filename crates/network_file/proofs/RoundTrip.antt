@@ -25,7 +25,7 @@ use Rattle.records.proofs.OneRecord.{record-bytes}
 use Rattle.network_file.specs.declared.Written.the-variants.{Length, Refused}
 use Rattle.network_file.specs.declared.Loaded.{Loaded}
 use Rattle.network_file.specs.OneFile.{EachNetworkHasOneFile, ReadPasses, ReadStands, WrittenReads, ReadWrites}
-use Rattle.network_file.specs.Lent.{inRoom, lengthOf, lengthRead, bufferAfter, Writes}
+use Rattle.network_file.specs.Lent.{lengthOf, lengthRead, bufferAfter, Writes}
 use Rattle.network_file.specs.Writing.{linkBytes, linksBytes, imageOf, writeNetwork}
 use Rattle.network_file.specs.Fields.{linkLayout, valuesOf}
 use Rattle.network_file.specs.Reading.{readNetwork, stored, storedIn, Reads}

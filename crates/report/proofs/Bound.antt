@@ -130,7 +130,7 @@ module _ (rest : List ℕ) (m place : ℕ) (v : View) (e : intact v ≡ true) (h
       )
   one-more (refused k) took most =
       let none : linesOf (place + 1) v (callsIn rest) ≡ liveLine (length (v .live)) =
-        ap (λ (x : List ℕ). linesOf (place + 1) v (callsIn x)) (took .1) ∙ ap (linesOf (place + 1) v) no-calls ∙ lines-none (place + 1) v in
+      ap (λ (x : List ℕ). linesOf (place + 1) v (callsIn x)) (took .1) ∙ ap (linesOf (place + 1) v) no-calls ∙ lines-none (place + 1) v in
       omega (
         arith,
         ap length (lines-more place v (refused k) (callsIn rest)),
@@ -144,7 +144,7 @@ lines-most : (s : List ℕ) → Most s
 lines-most = by-records Most
     (λ (place : ℕ) (v : View) (e : intact v ≡ true) (h : place + 0 < 100000). rw (no-calls, lines-none place v) (omega (arith, live-most v e)))
     (λ (b : ℕ) (s : List ℕ) (most : Most (firstCall (b ∷ s) .rest)) (place : ℕ) (v : View) (e : intact v ≡ true) (h : place + length (b ∷ s) < 100000).
-      rw (first-then-rest b s) (one-more (firstCall (b ∷ s) .rest) (suc (length s)) place v e (omega arith) (firstCall (b ∷ s) .call) (first-took b s) most))
+    rw (first-then-rest b s) (one-more (firstCall (b ∷ s) .rest) (suc (length s)) place v e (omega arith) (firstCall (b ∷ s) .call) (first-took b s) most))
 
 -- AS MANY BYTES SERVE FOR EVERY TEXT
 pub text-bound : TextWithin

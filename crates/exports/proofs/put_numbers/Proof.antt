@@ -1,5 +1,5 @@
 -- `exports::put_numbers` meets its contract. The invariant: the bytes before `i` stand in the buffer. Assumes nothing.
-use Prim.Native.Nat.{ℕ, _-_}
+use Prim.Native.Nat.{_-_}
 use native.Mathlib.Omega.{arith}
 use lib.ListN.{length}
 use borrow.Author.Needs.{needs}
