@@ -17,7 +17,7 @@ use Rattle.ledger.specs.Calls as calls
 use Rattle.call_records.specs.declared.Kind.{Kind}
 use Rattle.call_records.specs.declared.Kind.the-variants.{SetUp, Quote, Release, Unreadable}
 use Rattle.call_records.specs.declared.Record.{Record}
-use Rattle.call_records.specs.Inner.{noRecord, recordWithin, routedRecord, readRecord, routeIn, callAs, callIn, InBytes}
+use Rattle.call_records.specs.Inner.{noRecord, recordWithin, routedRecord, readRecord, routeIn, callAs, callIn, UnreadableShape, InBytes}
 
 -- a byte past the end counts as 0
 pub links-past : (s : List ℕ) (at : ℕ) → length s ≤ at → (0 ≡ getD s at 0) × (0 < 256)
@@ -111,6 +111,31 @@ in-bytes s = lies-there s .lies
 
 pub some-byte : (s : List ℕ) → 0 < length s → 1 ≤ readRecord s .end
 some-byte s = lies-there s .some
+
+-- ---- a record that can't be read
+unread-within : (kind : Kind) (width start end : ℕ) (s : List ℕ) → (kind ≡ Unreadable → ⊥) → recordWithin kind width start end s .kind ≡ Unreadable → recordWithin kind width start end s ≡ noRecord (length s)
+unfolding recordWithin
+unread-within kind width start end s not e = go (ltb (length s) end) e
+  where
+    go : (b : Bool) → (cond b (noRecord (length s)) (record { kind = kind; number = numberIn width (drop 1 s); start = start; end = end })) .kind ≡ Unreadable
+        → cond b (noRecord (length s)) (record { kind = kind; number = numberIn width (drop 1 s); start = start; end = end }) ≡ noRecord (length s)
+    go true q = refl
+    go false q = absurd (not q)
+
+unread-routed : (kind : Kind) (width : ℕ) (s : List ℕ) → (kind ≡ Unreadable → ⊥) → routedRecord kind width s .kind ≡ Unreadable → routedRecord kind width s ≡ noRecord (length s)
+unfolding routedRecord
+unread-routed kind width s not e = unread-within kind width (2 + width) (2 + width + getD s (1 + width) 0) s not e
+
+pub unreadable-shape : UnreadableShape
+unfolding readRecord
+unreadable-shape s = go (eqb (getD s 0 0) 1) (eqb (getD s 0 0) 2) (eqb (getD s 0 0) 3)
+  where
+    go : (p q r : Bool) → (cond p (routedRecord SetUp 2 s) (cond q (routedRecord Quote 0 s) (cond r (recordWithin Release 2 3 3 s) (noRecord (length s))))) .kind ≡ Unreadable
+        → cond p (routedRecord SetUp 2 s) (cond q (routedRecord Quote 0 s) (cond r (recordWithin Release 2 3 3 s) (noRecord (length s)))) ≡ noRecord (length s)
+    go true q r e = unread-routed SetUp 2 s (λ (z : SetUp ≡ Unreadable). let y : _≡_ {A = ℕ} 0 1 = cc in omega arith) e
+    go false true r e = unread-routed Quote 0 s (λ (z : Quote ≡ Unreadable). let y : _≡_ {A = ℕ} 0 1 = cc in omega arith) e
+    go false false true e = unread-within Release 2 3 3 s (λ (z : Release ≡ Unreadable). let y : _≡_ {A = ℕ} 0 1 = cc in omega arith) e
+    go false false false e = refl
 
 -- ---- the call that a record says, by its kind
 module _ (r : Record) (s : List ℕ) where

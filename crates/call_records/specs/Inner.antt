@@ -53,6 +53,10 @@ callIn r s = callAs (r .kind) (r .number) (routeIn r s)
 abbrev pub RecordSays : Type 0
 RecordSays = (s : List ℕ) → record { call = callIn (readRecord s) s; rest = drop (readRecord s .end) s } ≡ firstCall s
 
+-- A RECORD THAT CAN'T BE READ HAS ONE SHAPE, whatever is wrong with it
+abbrev pub UnreadableShape : Type 0
+UnreadableShape = (s : List ℕ) → readRecord s .kind ≡ Unreadable → readRecord s ≡ noRecord (length s)
+
 -- a record that lies within as many bytes
 pub record InBytes (r : Record) (n : ℕ) : Type 0 where
   pub ordered : r .start ≤ r .end
