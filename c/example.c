@@ -1,0 +1,283 @@
+/*
+ * The functions of frames.h on the worked example of document 01. Every answer, every place that is written and every place that
+ * must stay as it was is compared with what the document gives; the first difference ends the program with status 1.
+ *
+ *     cc -Ic c/example.c target/staticlib/libexports.a -o target/example && target/example
+ */
+#include "frames.h"
+
+#include <inttypes.h>
+#include <stdio.h>
+#include <stdlib.h>
+#include <string.h>
+
+/* The network: T = 48; links 0 and 1 have K 8 and Z 2, and no frame is closed. */
+static const uint8_t net[] = {0x30, 0x00, 0x02, 0x03, 0x08, 0x02, 0x03, 0x08, 0x02};
+
+static const uint8_t calls[] = {
+    0x01, 0x05, 0x00, 0x02, 0x00, 0x01, /* set-up 5 over 0 1: frames 7 0, which is a delay of 6 ticks */
+    0x01, 0x05, 0x00, 0x02, 0x00, 0x01, /* set-up 5 again: refused with 16 */
+    0x03, 0x05, 0x00,                   /* release 5 */
+    0x02, 0x01, 0x00,                   /* quote over 0 */
+    0x03, 0x05, 0x00,                   /* release 5: refused with 19 */
+};
+
+/* So many bytes of the calls leave session 5 live, LIVE_CUT inside the second record; and so many release it. */
+enum { LIVE = 6, LIVE_CUT = 8, LIVE_STILL = 12, RELEASED = 15 };
+
+/* The buffers that are lent. The places behind are lent to no call, and between two calls every byte is UNTOUCHED. */
+enum { BEHIND = 8, UNTOUCHED = 0xa5 };
+static uint8_t text[FRAMES_TEXT_MOST + BEHIND];
+static uint16_t session[FRAMES_SESSION_MOST + BEHIND];
+static uint8_t image[FRAMES_IMAGE_MOST + BEHIND];
+
+/* The function that is tried, and how many calls of it came out as expected. */
+static const char *function;
+static int passed;
+
+static void clear(void)
+{
+    memset(text, UNTOUCHED, sizeof text);
+    memset(session, UNTOUCHED, sizeof session);
+    memset(image, UNTOUCHED, sizeof image);
+}
+
+static void begin(const char *name)
+{
+    function = name;
+    passed = 0;
+    clear();
+}
+
+static void end(void)
+{
+    printf("%s: %d calls as expected\n", function, passed);
+}
+
+/* ---- What a call must come to ---- */
+
+static void compare_answer(const char *what, uint64_t answer, uint64_t expected)
+{
+    if (answer != expected) {
+        fprintf(stderr, "%s, %s: answered %" PRIu64 ", expected %" PRIu64 "\n", function, what, answer, expected);
+        exit(1);
+    }
+}
+
+/* A buffer has these bytes at its start, and the others are untouched. */
+static void compare_buffer(const char *what, const void *buffer, size_t size, const void *written, size_t length)
+{
+    const uint8_t *got = buffer, *start = written;
+    for (size_t i = 0; i < size; i++) {
+        int expected = i < length ? start[i] : UNTOUCHED;
+        if (got[i] != expected) {
+            fprintf(stderr, "%s, %s: byte %zu of the buffer is %02x, expected %02x\n", function, what, i, got[i], expected);
+            exit(1);
+        }
+    }
+}
+
+/* All three buffers, by how many of these bytes stand in each. */
+static void compare_buffers(const char *what, const void *written, size_t in_text, size_t in_session, size_t in_image)
+{
+    compare_buffer(what, text, sizeof text, written, in_text);
+    compare_buffer(what, session, sizeof session, written, in_session);
+    compare_buffer(what, image, sizeof image, written, in_image);
+    clear();
+    passed++;
+}
+
+static void text_is(const char *what, uint64_t answer, const char *expected)
+{
+    compare_answer(what, answer, strlen(expected));
+    compare_buffers(what, expected, strlen(expected), 0, 0);
+}
+
+/* Session 5 has two hops, a delay of 6 ticks, links 0 1 and frames 7 0. */
+static void session_5_is_shown(const char *what, uint64_t answer)
+{
+    static const uint16_t expected[] = {2, 6, 0, 1, 7, 0};
+    compare_answer(what, answer, 6);
+    compare_buffers(what, expected, 0, sizeof expected, 0);
+}
+
+static void image_is(const char *what, uint64_t answer, const uint8_t *expected, size_t length)
+{
+    compare_answer(what, answer, length);
+    compare_buffers(what, expected, 0, 0, length);
+}
+
+static void count_is(const char *what, uint64_t answer, uint64_t expected)
+{
+    compare_answer(what, answer, expected);
+    compare_buffers(what, NULL, 0, 0, 0);
+}
+
+static void is_refused(const char *what, uint64_t answer, uint64_t number)
+{
+    count_is(what, answer, FRAMES_REFUSED + number);
+}
+
+/* ---- The calls ---- */
+
+static void try_report(void)
+{
+    static const uint8_t zeros[FRAMES_CALLS_MOST + 1] = {0};     /* no record is of kind 0 */
+    const size_t room = FRAMES_TEXT_BOUND(sizeof calls);         /* 22 + 11 * 21 = 253 */
+    const size_t one = 22 + 11 * LIVE, cut = 22 + 11 * LIVE_CUT; /* 88 and 110 */
+
+    begin("frames_report");
+    uint64_t length = frames_report(net, sizeof net, calls, sizeof calls, text, room);
+    text_is("all calls", length, "1 S ok 6 16 7 0\n2 S no 16\n3 R ok\n4 Q ok 0 0 0\n5 R no 19\nlive 0\n");
+    is_refused("a byte below the bound", frames_report(net, sizeof net, calls, sizeof calls, text, room - 1), 20);
+    is_refused("no buffer", frames_report(net, sizeof net, calls, sizeof calls, NULL, 0), 20);
+    text_is("one call", frames_report(net, sizeof net, calls, LIVE, text, one), "1 S ok 6 16 7 0\nlive 1\n");
+    text_is("a cut record", frames_report(net, sizeof net, calls, LIVE_CUT, text, cut), "1 S ok 6 16 7 0\n2 ? no 11\nlive 1\n");
+    text_is("kind 0", frames_report(net, sizeof net, zeros, sizeof zeros, text, FRAMES_TEXT_MOST), "1 ? no 11\nlive 0\n");
+    is_refused("a byte below every bound", frames_report(net, sizeof net, zeros, sizeof zeros, text, FRAMES_TEXT_MOST - 1), 20);
+    text_is("no calls", frames_report(net, sizeof net, NULL, 0, text, 22), "live 0\n");
+    is_refused("no calls, a byte below the bound", frames_report(net, sizeof net, NULL, 0, text, 21), 20);
+    text_is("two bytes of a file", frames_report(net, 2, calls, sizeof calls, text, room), "net no 1\n");
+    text_is("no file", frames_report(NULL, 0, calls, sizeof calls, text, room), "net no 1\n");
+    is_refused("no file, a byte below the bound", frames_report(NULL, 0, calls, sizeof calls, text, room - 1), 20);
+    end();
+}
+
+static void try_lookup(void)
+{
+    begin("frames_lookup");
+    uint64_t length = frames_lookup(net, sizeof net, calls, LIVE, 5, session, FRAMES_SESSION_MOST);
+    session_5_is_shown("after its set-up", length);
+    session_5_is_shown("after a refused set-up", frames_lookup(net, sizeof net, calls, LIVE_STILL, 5, session, 18));
+    session_5_is_shown("after a cut record", frames_lookup(net, sizeof net, calls, LIVE_CUT, 5, session, 18));
+    session_5_is_shown("into a buffer of six", frames_lookup(net, sizeof net, calls, LIVE, 5, session, 6));
+    is_refused("into a buffer of five", frames_lookup(net, sizeof net, calls, LIVE, 5, session, 5), 20);
+    is_refused("no buffer", frames_lookup(net, sizeof net, calls, LIVE, 5, NULL, 0), 20);
+    is_refused("after its release", frames_lookup(net, sizeof net, calls, RELEASED, 5, session, 18), 19);
+    is_refused("another number", frames_lookup(net, sizeof net, calls, LIVE, 6, session, 18), 19);
+    is_refused("another number and no buffer", frames_lookup(net, sizeof net, calls, LIVE, 6, NULL, 0), 19);
+    is_refused("no calls", frames_lookup(net, sizeof net, NULL, 0, 5, session, 18), 19);
+    is_refused("two bytes of a file", frames_lookup(net, 2, calls, LIVE, 5, session, 18), 1);
+    is_refused("no file, no calls and no buffer", frames_lookup(NULL, 0, NULL, 0, 5, NULL, 0), 1);
+    end();
+}
+
+static void try_free_frames(void)
+{
+    begin("frames_free_frames");
+    uint64_t count = frames_free_frames(net, sizeof net, calls, LIVE, 0);
+    count_is("frame 7 of link 0 is held", count, 7);
+    count_is("frame 0 of link 1 is held", frames_free_frames(net, sizeof net, calls, LIVE, 1), 7);
+    count_is("after the release", frames_free_frames(net, sizeof net, calls, RELEASED, 0), 8);
+    count_is("a quote holds nothing", frames_free_frames(net, sizeof net, calls, sizeof calls, 0), 8);
+    count_is("no calls", frames_free_frames(net, sizeof net, NULL, 0, 1), 8);
+    is_refused("there is no link 2", frames_free_frames(net, sizeof net, calls, LIVE, 2), 13);
+    is_refused("two bytes of a file", frames_free_frames(net, 2, calls, LIVE, 0), 1);
+    is_refused("no file, no calls and no link 2", frames_free_frames(NULL, 0, NULL, 0, 2), 1);
+    end();
+}
+
+/* A file of each refusal. */
+static const struct {
+    const char *what;
+    uint64_t refusal;
+    size_t length;
+    uint8_t bytes[12];
+} refused_files[] = {
+    {"two bytes", 1, 2, {0x30, 0x00}},
+    {"no links", 2, 3, {0x30, 0x00, 0x00}},
+    {"T 0", 3, 4, {0x00, 0x00, 0x01, 0x00}},
+    {"no map byte", 4, 3, {0x30, 0x00, 0x01}},
+    {"bit 3 of a map byte", 5, 4, {0x30, 0x00, 0x01, 0x08}},
+    {"K 16 written", 6, 5, {0x30, 0x00, 0x01, 0x01, 0x10}},
+    {"K 5, which does not divide 48", 7, 5, {0x30, 0x00, 0x01, 0x01, 0x05}},
+    {"Z 17, above K 16", 8, 5, {0x30, 0x00, 0x01, 0x02, 0x11}},
+    {"frame 16 closed, K 16", 9, 12, {0x30, 0x00, 0x01, 0x04, 0x00, 0x00, 0x01}},
+    {"a byte after the last record", 10, 5, {0x30, 0x00, 0x01, 0x00, 0x00}},
+};
+
+static void try_image(void)
+{
+    begin("frames_image");
+    uint64_t length = frames_image(net, sizeof net, image, FRAMES_IMAGE_MOST);
+    image_is("the file", length, net, sizeof net);
+    image_is("into a buffer of nine", frames_image(net, sizeof net, image, 9), net, sizeof net);
+    is_refused("into a buffer of eight", frames_image(net, sizeof net, image, 8), 20);
+    is_refused("no buffer", frames_image(net, sizeof net, NULL, 0), 20);
+    is_refused("no file and no buffer", frames_image(NULL, 0, NULL, 0), 1);
+    for (size_t i = 0; i < sizeof refused_files / sizeof refused_files[0]; i++) {
+        const uint8_t *file = refused_files[i].bytes;
+        length = frames_image(file, refused_files[i].length, image, FRAMES_IMAGE_MOST);
+        is_refused(refused_files[i].what, length, refused_files[i].refusal);
+    }
+    end();
+}
+
+/* Values of each refusal, and of its order. */
+static const struct {
+    const char *what;
+    uint64_t refusal;
+    uint16_t ticks;
+    size_t links;
+    uint16_t frames[2], range[2];
+    uint64_t closed[2];
+} refused_values[] = {
+    {"no links", 2, 48, 0, {0, 0}, {0, 0}, {0, 0}},
+    {"no links and T 0", 2, 0, 0, {0, 0}, {0, 0}, {0, 0}},
+    {"T 0", 3, 0, 1, {8, 0}, {2, 0}, {0, 0}},
+    {"T 961 and K 0", 3, 961, 1, {0, 0}, {2, 0}, {0, 0}},
+    {"K 0", 7, 48, 1, {0, 0}, {2, 0}, {0, 0}},
+    {"K 65, T 650", 7, 650, 1, {65, 0}, {2, 0}, {0, 0}},
+    {"K 5, which does not divide 48, and Z 0", 7, 48, 1, {5, 0}, {0, 0}, {0, 0}},
+    {"Z 0", 8, 48, 1, {8, 0}, {0, 0}, {0, 0}},
+    {"Z 9, above K 8, and frame 8 closed", 8, 48, 1, {8, 0}, {9, 0}, {0x100, 0}},
+    {"frame 8 closed, K 8", 9, 48, 1, {8, 0}, {2, 0}, {0x100, 0}},
+    {"link 0 is refused before link 1", 9, 48, 2, {8, 0}, {2, 0}, {0x100, 0}},
+    {"link 1", 7, 48, 2, {8, 0}, {2, 0}, {0, 0}},
+};
+
+static void try_refused_values(void)
+{
+    for (size_t i = 0; i < sizeof refused_values / sizeof refused_values[0]; i++) {
+        size_t links = refused_values[i].links;
+        uint64_t answer = frames_write(refused_values[i].ticks, refused_values[i].frames, links, refused_values[i].range, links,
+                                       refused_values[i].closed, links, image, FRAMES_IMAGE_MOST);
+        is_refused(refused_values[i].what, answer, refused_values[i].refusal);
+    }
+}
+
+static void try_write(void)
+{
+    static const uint16_t frames[] = {16, 8}, range[] = {4, 2}, many[33] = {0};
+    static const uint64_t closed[] = {0, 0}, third[] = {0x08, 0}, none[33] = {0};
+    /* link 0 has the absent values alone; link 1 has K 8 and Z 2 */
+    static const uint8_t expected[] = {0x30, 0x00, 0x02, 0x00, 0x03, 0x08, 0x02};
+    static const uint8_t first_link[] = {0x30, 0x00, 0x01, 0x00};
+    static const uint8_t with_closed[] = {0x30, 0x00, 0x01, 0x07, 0x08, 0x02, 0x08, 0, 0, 0, 0, 0, 0, 0};
+
+    begin("frames_write");
+    uint64_t length = frames_write(48, frames, 2, range, 2, closed, 2, image, FRAMES_IMAGE_MOST);
+    image_is("two links", length, expected, sizeof expected);
+    image_is("into a buffer of seven", frames_write(48, frames, 2, range, 2, closed, 2, image, 7), expected, sizeof expected);
+    image_is("the shortest slice counts", frames_write(48, frames, 2, range, 1, closed, 2, image, 355), first_link, 4);
+    image_is("frame 3 closed", frames_write(48, frames + 1, 1, range + 1, 1, third, 2, image, 355), with_closed, 14);
+    is_refused("into a buffer of six", frames_write(48, frames, 2, range, 2, closed, 2, image, 6), 20);
+    is_refused("no buffer", frames_write(48, frames, 2, range, 2, closed, 2, NULL, 0), 20);
+    is_refused("33 links", frames_write(48, many, 33, many, 33, none, 33, image, 355), 2);
+    is_refused("K 0 and no buffer", frames_write(48, many, 1, range, 1, closed, 1, NULL, 0), 7);
+    is_refused("no K", frames_write(48, NULL, 0, range, 2, closed, 2, image, 355), 2);
+    is_refused("no Z", frames_write(48, frames, 2, NULL, 0, closed, 2, image, 355), 2);
+    is_refused("no closed frames", frames_write(48, frames, 2, range, 2, NULL, 0, image, 355), 2);
+    try_refused_values();
+    end();
+}
+
+int main(void)
+{
+    try_report();
+    try_lookup();
+    try_free_frames();
+    try_image();
+    try_write();
+    return 0;
+}
