@@ -1,0 +1,111 @@
+"""The functions of the library on the worked example of document 01; the first difference ends the program with status 1.
+
+    FRAMES_LIBRARY=target/staticlib/libframes.so python3 python/example.py
+"""
+
+import sys
+
+import frames
+
+# T = 48; links 0 and 1 have K 8 and Z 2
+NET = bytes.fromhex("30 00 02 03 08 02 03 08 02")
+
+HELD = bytes.fromhex("01 05 00 02 00 01")                # set-up 5 over 0 1: frames 7 0, which is a delay of 6 ticks
+HELD_STILL = HELD + HELD                                 # set-up 5 again: refused with 16
+RELEASED = HELD_STILL + bytes.fromhex("03 05 00")        # release 5
+CALLS = RELEASED + bytes.fromhex("02 01 00 03 05 00")    # quote over 0; release 5: refused with 19
+
+TEXT = """\
+1 S ok 6 16 7 0
+2 S no 16
+3 R ok
+4 Q ok 0 0 0
+5 R no 19
+live 0
+"""
+
+
+def demand(name, got, expected):
+    if got != expected:
+        sys.exit("%s: %r, expected %r" % (name, got, expected))
+
+
+def outcome(call, arguments):
+    """What a call gives; ("refused", number) or ("too large",) where it gives nothing."""
+    try:
+        return call(*arguments)
+    except frames.Refused as refused:
+        return "refused", refused.number
+    except OverflowError:
+        return ("too large",)
+
+
+def compare(call, cases):
+    """Makes a call with the arguments of each case, and compares what it gives."""
+    for *arguments, expected in cases:
+        demand("%s%r" % (call.__qualname__, tuple(arguments)), outcome(call, arguments), expected)
+    print("%s: %d calls as expected" % (call.__qualname__, len(cases)))
+
+
+def plain_calls(library):
+    """The calls as a program makes them."""
+    text = library.report(NET, CALLS)
+    session = library.lookup(NET, HELD, 5)
+    count = library.free_frames(NET, HELD, 0)
+    image = library.image(NET)
+    file = library.write(48, [(16, 4, 0), (8, 2, 0)])
+    demand("text", text, TEXT)
+    demand("session", (session.delay, session.links, session.frames), (6, [0, 1], [7, 0]))
+    demand("count", count, 7)
+    demand("image", image, NET)
+    demand("file", file, bytes.fromhex("30 00 02 00 03 08 02"))
+
+
+def main():
+    library = frames.Library()
+    plain_calls(library)
+    compare(library.report, [
+        (NET, CALLS, TEXT),
+        (NET, HELD, "1 S ok 6 16 7 0\nlive 1\n"),
+        (NET, HELD_STILL[:8], "1 S ok 6 16 7 0\n2 ? no 11\nlive 1\n"),    # the second record is cut off
+        (NET, b"", "live 0\n"),
+        (b"", CALLS, "net no 1\n"),
+        (NET, bytes(65537), "1 ? no 11\nlive 0\n"),                       # no record is of kind 0
+    ])
+    session = frames.Session(delay=6, links=[0, 1], frames=[7, 0])
+    compare(library.lookup, [
+        (NET, HELD, 5, session),
+        (NET, HELD_STILL, 5, session),
+        (NET, RELEASED, 5, ("refused", 19)),
+        (NET, HELD, 6, ("refused", 19)),
+        (NET[:2], HELD, 5, ("refused", 1)),
+        (NET, HELD, 65536 + 5, ("too large",)),
+    ])
+    compare(library.free_frames, [
+        (NET, HELD, 0, 7),         # frame 7 of link 0 is held
+        (NET, HELD, 1, 7),         # frame 0 of link 1 is held
+        (NET, RELEASED, 0, 8),
+        (NET, HELD, 2, ("refused", 13)),
+        (NET[:2], HELD, 0, ("refused", 1)),
+        (NET, HELD, 256, ("too large",)),
+    ])
+    compare(library.image, [
+        (NET, NET),
+        (NET[:8], ("refused", 4)),             # the last record has no Z
+        (NET + bytes(1), ("refused", 10)),
+    ])
+    # link 0 has the absent values alone, K 16 and Z 4; link 1 has K 8 and Z 2
+    compare(library.write, [
+        (48, [(16, 4, 0), (8, 2, 0)], bytes.fromhex("30 00 02 00 03 08 02")),
+        (48, [(8, 2, 1 << 3)], bytes.fromhex("30 00 01 07 08 02 08 00 00 00 00 00 00 00")),
+        (48, [], ("refused", 2)),
+        (48, [(8, 2, 0)] * 33, ("refused", 2)),
+        (961, [(8, 2, 0)], ("refused", 3)),
+        (48, [(5, 2, 0)], ("refused", 7)),
+        (48, [(8, 9, 0)], ("refused", 8)),
+        (48, [(8, 2, 1 << 8)], ("refused", 9)),
+        (48, [(65536 + 8, 2, 0)], ("too large",)),
+    ])
+
+
+main()

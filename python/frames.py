@@ -1,0 +1,107 @@
+"""Reservation of time frames by the rules of document 01, for Python: the functions of the library by ctypes, with no package.
+
+The shared library is made of the static one, which `rt staticlib exports` builds; its code may stand at any address:
+
+    gcc -shared -o target/staticlib/libframes.so -Wl,--whole-archive target/staticlib/libexports.a -Wl,--no-whole-archive
+
+c/frames.h says of each function what it does and in which order it refuses.
+"""
+
+import ctypes
+import os
+from typing import NamedTuple
+
+REFUSED = 1000000     # an answer from here on is a refusal: this and the refusal's number
+CALLS_MOST = 65536    # call bytes that count
+SESSION_MOST = 18     # numbers that serve for every session
+IMAGE_MOST = 355      # bytes that serve for every network file
+
+# a slice is a pointer and then a length
+BYTES = [ctypes.c_char_p, ctypes.c_size_t]
+BYTES_OUT = [ctypes.POINTER(ctypes.c_uint8), ctypes.c_size_t]
+NUMBERS_16 = [ctypes.POINTER(ctypes.c_uint16), ctypes.c_size_t]
+NUMBERS_64 = [ctypes.POINTER(ctypes.c_uint64), ctypes.c_size_t]
+
+ARGUMENTS = {
+    "frames_report": BYTES + BYTES + BYTES_OUT,
+    "frames_lookup": BYTES + BYTES + [ctypes.c_uint16] + NUMBERS_16,
+    "frames_free_frames": BYTES + BYTES + [ctypes.c_uint8],
+    "frames_image": BYTES + BYTES_OUT,
+    "frames_write": [ctypes.c_uint16] + NUMBERS_16 + NUMBERS_16 + NUMBERS_64 + BYTES_OUT,
+}
+
+
+class Refused(Exception):
+    """A refused call, with the number that document 01 has for the refusal."""
+
+    def __init__(self, number):
+        super().__init__("refused with %d" % number)
+        self.number = number
+
+
+class Session(NamedTuple):
+    """A live session: its delay in ticks, and the link and the frame of each hop."""
+
+    delay: int
+    links: list
+    frames: list
+
+
+class Library:
+    """The library at a path, or at the path that FRAMES_LIBRARY has. What is refused raises Refused."""
+
+    def __init__(self, path=None):
+        self.functions = ctypes.CDLL(os.path.abspath(path or os.environ["FRAMES_LIBRARY"]))
+        for name, arguments in ARGUMENTS.items():
+            function = getattr(self.functions, name)
+            function.argtypes = arguments
+            function.restype = ctypes.c_uint64
+
+    def report(self, file, calls):
+        """The text of the program frames on the bytes of a network file and of call records."""
+        out = (ctypes.c_uint8 * (22 + 11 * min(len(calls), CALLS_MOST)))()
+        length = given(self.functions.frames_report(file, len(file), calls, len(calls), out, len(out)))
+        return ctypes.string_at(out, length).decode("ascii")
+
+    def lookup(self, file, calls, number):
+        """The session that is live under a number after the calls."""
+        out = (ctypes.c_uint16 * SESSION_MOST)()
+        number = fitting(number, 16)
+        given(self.functions.frames_lookup(file, len(file), calls, len(calls), number, out, len(out)))
+        hops = out[0]
+        return Session(out[1], out[2:2 + hops], out[2 + hops:2 + 2 * hops])
+
+    def free_frames(self, file, calls, link):
+        """How many frames of a link are free after the calls."""
+        return given(self.functions.frames_free_frames(file, len(file), calls, len(calls), fitting(link, 8)))
+
+    def image(self, file):
+        """The bytes of a network file, read and written again."""
+        out = (ctypes.c_uint8 * IMAGE_MOST)()
+        length = given(self.functions.frames_image(file, len(file), out, len(out)))
+        return ctypes.string_at(out, length)
+
+    def write(self, ticks, links):
+        """The bytes of the file of a network: T, and for each link its K, its Z and the word of its closed frames."""
+        count = len(links)
+        frames = (ctypes.c_uint16 * count)(*(fitting(k, 16) for k, z, closed in links))
+        ranges = (ctypes.c_uint16 * count)(*(fitting(z, 16) for k, z, closed in links))
+        closings = (ctypes.c_uint64 * count)(*(fitting(closed, 64) for k, z, closed in links))
+        out = (ctypes.c_uint8 * IMAGE_MOST)()
+        ticks = fitting(ticks, 16)
+        length = given(self.functions.frames_write(ticks, frames, count, ranges, count, closings, count, out, len(out)))
+        return ctypes.string_at(out, length)
+
+
+def given(answer):
+    """The length or the count that an answer is, if it isn't a refusal."""
+    if answer >= REFUSED:
+        raise Refused(answer - REFUSED)
+    return answer
+
+
+def fitting(number, bits):
+    """The number, if it has so many bits: ctypes would drop the others."""
+    if not 0 <= number < 1 << bits:
+        raise OverflowError("%d is no number of %d bits" % (number, bits))
+    return number
