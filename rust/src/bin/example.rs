@@ -1,0 +1,134 @@
+//! The exported functions on the worked example of document 01, by the wrappers of `frames_check::library`.
+
+use frames_check::library;
+use std::fmt::Debug;
+
+/// T = 48; links 0 and 1 have K 8 and Z 2.
+const NET: [u8; 9] = [0x30, 0x00, 0x02, 0x03, 0x08, 0x02, 0x03, 0x08, 0x02];
+
+const CALLS: [u8; 21] = [
+    0x01, 0x05, 0x00, 0x02, 0x00, 0x01, // set-up 5 over 0 1: frames 7 0, delay 6
+    0x01, 0x05, 0x00, 0x02, 0x00, 0x01, // set-up 5 again: refused with 16
+    0x03, 0x05, 0x00, // release 5
+    0x02, 0x01, 0x00, // quote over 0
+    0x03, 0x05, 0x00, // release 5: refused with 19
+];
+
+/// So many bytes of the calls leave session 5 live, and so many release it.
+const LIVE: usize = 6;
+const LIVE_STILL: usize = 12;
+const RELEASED: usize = 15;
+
+const TEXT: &str = "1 S ok 6 16 7 0\n2 S no 16\n3 R ok\n4 Q ok 0 0 0\n5 R no 19\nlive 0\n";
+
+/// The bytes that `report` demands for its text on the calls: 22, and 11 for each call byte.
+const TEXT_BOUND: usize = 253;
+
+/// Numbers that serve for every session, and bytes that serve for every network file.
+const SESSION_MOST: usize = 18;
+const IMAGE_MOST: usize = 355;
+
+fn main() {
+    try_report();
+    try_lookup();
+    try_free_frames();
+    try_image();
+    try_write();
+}
+
+/// What a call writes into a buffer of so many places, or its refusal. All other places must stay as they were.
+fn written<T: Copy + Debug + PartialEq + From<u8>>(
+    room: usize,
+    call: impl FnOnce(&mut [T]) -> Result<usize, u64>,
+) -> Result<Vec<T>, u64> {
+    let untouched = T::from(0xa5);
+    let mut places = vec![untouched; room + 8];
+    let answer = call(&mut places[..room]);
+    let rest = places.split_off(answer.unwrap_or(0));
+    assert_eq!(rest, vec![untouched; rest.len()]);
+    answer.map(|_| places)
+}
+
+fn try_report() {
+    let mut text = [0; TEXT_BOUND];
+    let length = library::report(&NET, &CALLS, &mut text).expect("the buffer serves");
+    assert_eq!(&text[..length], TEXT.as_bytes());
+
+    let report = |calls, room| written(room, |out| library::report(&NET, calls, out));
+    assert_eq!(report(&CALLS, TEXT_BOUND), Ok(TEXT.into()));
+    assert_eq!(report(&CALLS, TEXT_BOUND - 1), Err(20));
+    assert_eq!(report(&[], 22), Ok("live 0\n".into()));
+    assert_eq!(report(&[], 21), Err(20));
+    println!("library::report: as expected");
+}
+
+fn try_lookup() {
+    let mut session = [0; SESSION_MOST];
+    let length = library::lookup(&NET, &CALLS[..LIVE], 5, &mut session).expect("5 is live");
+    // two hops, a delay of 6 ticks, links 0 1, frames 7 0
+    let shown = [2, 6, 0, 1, 7, 0];
+    assert_eq!(session[..length], shown);
+
+    let lookup = |length, number, room| {
+        written(room, |out| {
+            library::lookup(&NET, &CALLS[..length], number, out)
+        })
+    };
+    assert_eq!(lookup(LIVE, 5, SESSION_MOST), Ok(shown.into()));
+    assert_eq!(lookup(LIVE_STILL, 5, 6), Ok(shown.into()));
+    assert_eq!(lookup(LIVE, 5, 5), Err(20));
+    assert_eq!(lookup(RELEASED, 5, SESSION_MOST), Err(19));
+    assert_eq!(lookup(LIVE, 6, 0), Err(19));
+    println!("library::lookup: as expected");
+}
+
+fn try_free_frames() {
+    let count = library::free_frames(&NET, &CALLS[..LIVE], 0);
+    // frame 7 of link 0 is held
+    assert_eq!(count, Ok(7));
+
+    let free_frames = |length, link| library::free_frames(&NET, &CALLS[..length], link);
+    assert_eq!(free_frames(LIVE, 1), Ok(7));
+    assert_eq!(free_frames(RELEASED, 0), Ok(8));
+    assert_eq!(free_frames(LIVE, 2), Err(13));
+    println!("library::free_frames: as expected");
+}
+
+fn try_image() {
+    let mut image = [0; IMAGE_MOST];
+    let length = library::image(&NET, &mut image).expect("the file passes");
+    assert_eq!(image[..length], NET);
+
+    let image = |file, room| written(room, |out| library::image(file, out));
+    assert_eq!(image(&NET, 9), Ok(NET.into()));
+    assert_eq!(image(&NET, 8), Err(20));
+    // the last record has no Z
+    assert_eq!(image(&NET[..8], 8), Err(4));
+    assert_eq!(image(&[], 0), Err(1));
+    println!("library::image: as expected");
+}
+
+fn try_write() {
+    let mut image = [0; IMAGE_MOST];
+    let length = library::write(48, &[16, 8], &[4, 2], &[0, 0], &mut image).expect("they pass");
+    // link 0 has the absent values alone, K 16 and Z 4; link 1 has K 8 and Z 2
+    let expected = [0x30, 0x00, 0x02, 0x00, 0x03, 0x08, 0x02];
+    assert_eq!(image[..length], expected);
+
+    let write = |ticks, frames, range, closed, room| {
+        written(room, |out| {
+            library::write(ticks, frames, range, closed, out)
+        })
+    };
+    assert_eq!(
+        write(48, &[16, 8], &[4, 2], &[0, 0], 7),
+        Ok(expected.into())
+    );
+    assert_eq!(write(48, &[16, 8], &[4, 2], &[0, 0], 6), Err(20));
+    assert_eq!(write(48, &[16, 8], &[4, 2], &[], IMAGE_MOST), Err(2));
+    assert_eq!(write(961, &[8], &[2], &[0], IMAGE_MOST), Err(3));
+    assert_eq!(write(48, &[5], &[2], &[0], IMAGE_MOST), Err(7));
+    assert_eq!(write(48, &[8], &[9], &[0], IMAGE_MOST), Err(8));
+    assert_eq!(write(48, &[8], &[2], &[1 << 8], 0), Err(9));
+    println!("library::write: as expected");
+}
