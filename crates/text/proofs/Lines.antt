@@ -9,9 +9,9 @@ use Rattle.places.proofs.Firsts.{firsts-take}
 use Rattle.forwarding.specs.declared.Held.{Held}
 use Rattle.ledger.specs.Held.{Holding, holdingOf}
 use Rattle.ledger.specs.Calls.{schedule, freed, refusal}
-use Rattle.text.specs.Characters.{space, newline, okWord, noWord, liveWord, netNoWords}
+use Rattle.text.specs.Characters.{space, newline, okWord, noWord}
 use Rattle.text.specs.Digits.{dec, spaced, spacedAll}
-use Rattle.text.specs.Lines.{countText, groupsOf, groupsText, scheduleText, lineHead, line, liveLine, networkLine}
+use Rattle.text.specs.Lines.{countText, groupsOf, groupsText, scheduleText, lineHead, line}
 use Rattle.text.proofs.Chains.{joined}
 
 pub spaced-is : (n : ℕ) → spaced n ≡ joined ((space ∷ []) ∷ dec n ∷ [])
@@ -67,11 +67,3 @@ refused-is place letter number count = refl
 pub words-is : (words : List ℕ) (n : ℕ) → words ++ (spaced n ++ (newline ∷ [])) ≡ joined (words ∷ spaced n ∷ (newline ∷ []) ∷ [])
 unfolding joined
 words-is words n = refl
-
-pub live-is : (n : ℕ) → liveLine n ≡ joined (liveWord ∷ spaced n ∷ (newline ∷ []) ∷ [])
-unfolding liveLine
-live-is n = words-is liveWord n
-
-pub network-is : (n : ℕ) → networkLine n ≡ joined (netNoWords ∷ spaced n ∷ (newline ∷ []) ∷ [])
-unfolding networkLine
-network-is n = words-is netNoWords n

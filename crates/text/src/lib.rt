@@ -6,6 +6,7 @@ ghost use Prim.Native.Nat.{_+_, _≤_};
 ghost use lib.ListN.{length};
 ghost use Rattle.ledger.specs.Held.{holdingOf};
 ghost use Rattle.ledger.specs.Calls.{schedule, freed, refusal};
+ghost use Rattle.text.specs.Characters.{newline};
 ghost use Rattle.text.specs.Digits.{dec, spaced, spacedAll};
 ghost use Rattle.text.specs.Lines.{countText, scheduleText, lineHead, line, liveLine, networkLine};
 ghost use Rattle.text.specs.Inner.{Puts};
@@ -158,14 +159,22 @@ pub fn put_refused(
     put_byte(out, r, b'\n')
 }
 
+// A line of some words and a number.
+fn put_words(out: &mut [u8], at: usize, words: &[u8], number: u32) -> usize
+    requires { ⌜ at + length (now words ++ (spaced number ++ (newline ∷ []))) ≤ length (now out) ⌝ }
+    ensures { λ r. ⌜ Puts at (now (words .entry) ++ (spaced number ++ (newline ∷ []))) (now (out .entry)) (now (out .exit)) r ⌝ }
+{
+    let p = put_bytes(out, at, words);
+    let q = put_spaced(out, p, number);
+    put_byte(out, q, b'\n')
+}
+
 // The last line.
 pub fn put_live(out: &mut [u8], at: usize, live: u32) -> usize
     requires { ⌜ at + length (liveLine live) ≤ length (now out) ⌝ }
     ensures { λ r. ⌜ Puts at (liveLine live) (now (out .entry)) (now (out .exit)) r ⌝ }
 {
-    let p = put_bytes(out, at, b"live");
-    let q = put_spaced(out, p, live);
-    put_byte(out, q, b'\n')
+    put_words(out, at, b"live", live)
 }
 
 // The single line of a network file that is refused.
@@ -173,7 +182,5 @@ pub fn put_network(out: &mut [u8], at: usize, number: u8) -> usize
     requires { ⌜ at + length (networkLine number) ≤ length (now out) ⌝ }
     ensures { λ r. ⌜ Puts at (networkLine number) (now (out .entry)) (now (out .exit)) r ⌝ }
 {
-    let p = put_bytes(out, at, b"net no");
-    let q = put_spaced(out, p, number as u32);
-    put_byte(out, q, b'\n')
+    put_words(out, at, b"net no", number as u32)
 }

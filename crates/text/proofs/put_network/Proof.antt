@@ -1,43 +1,22 @@
 -- `text::put_network` meets its contract. Assumes nothing.
 use borrow.Author.Needs.{needs}
-use Rattle.text.proofs.Chains.{none-yet, piece-fits, piece-put, all-put}
-use Rattle.text.proofs.Lines.{network-is}
+use Rattle.text.specs.Lines.{networkLine}
 use Rattle.text.proofs.put_network.Statement.{statement}
 use Rattle.text.proofs.put_network.Tie as tie
 
-slice-aggregate-put-bytes : tie.Need-slice-aggregate-put-bytes
-slice-aggregate-put-bytes c = search needs
+slice-aggregate-put-words : tie.Need-slice-aggregate-put-words
+slice-aggregate-put-words c = search needs
 
-put-bytes-requires : tie.Need-put-bytes-requires
-put-bytes-requires c κs =
-    let s = c .before .before .before in
-    piece-fits (none-yet (s .args .out .now) (network-is (s .args .number)) (s .pre))
-
-put-spaced-requires : tie.Need-put-spaced-requires
-put-spaced-requires c κs =
-    let s = c .before .before .before .before .before .before .before in
-    piece-fits (piece-put (none-yet (s .args .out .now) (network-is (s .args .number)) (s .pre)) (c .before .before .before .put-bytes .ensures))
-
-put-byte-requires : tie.Need-put-byte-requires
-put-byte-requires c κs =
-    let s = c .before .before .before .before .before .before .before .before .before .before .before in
-    piece-fits (piece-put (piece-put (none-yet (s .args .out .now) (network-is (s .args .number)) (s .pre)) (c .before .before .before .before .before .before .before .put-bytes .ensures)) (c .before .before .before .put-spaced .ensures))
+put-words-requires : tie.Need-put-words-requires
+unfolding networkLine
+put-words-requires c κs = c .before .before .before .pre
 
 same-length : tie.Need-same-length
 same-length c = search needs
 
 returns : tie.Need-returns
-returns c =
-    let s = c .before .before .before .before .before .before .before .before .before .before .before .before .before .before in
-    all-put (piece-put (piece-put (piece-put (none-yet (s .args .out .now) (network-is (s .args .number)) (s .pre)) (c .before .before .before .before .before .before .before .before .before .before .put-bytes .ensures)) (c .before .before .before .before .before .before .put-spaced .ensures)) (c .before .before .put-byte .ensures))
+unfolding networkLine
+returns c = c .before .before .put-words .ensures
 
 pub put-network-spec : {M : Type 1} → statement M
-put-network-spec =
-    tie.close
-    (tie.spec
-    slice-aggregate-put-bytes
-    put-bytes-requires
-    put-spaced-requires
-    put-byte-requires
-    same-length
-    returns)
+put-network-spec = tie.close (tie.spec slice-aggregate-put-words put-words-requires same-length returns)
