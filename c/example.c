@@ -249,7 +249,7 @@ static void try_refused_values(void)
 static void try_write(void)
 {
     static const uint16_t frames[] = {16, 8}, range[] = {4, 2}, many[33] = {0};
-    static const uint64_t closed[] = {0, 0}, third[] = {0x08, 0}, none[33] = {0};
+    static const uint64_t closed[] = {0, 0}, frame_3[] = {0x08}, none[33] = {0};
     /* link 0 has the absent values alone; link 1 has K 8 and Z 2 */
     static const uint8_t expected[] = {0x30, 0x00, 0x02, 0x00, 0x03, 0x08, 0x02};
     static const uint8_t first_link[] = {0x30, 0x00, 0x01, 0x00};
@@ -260,7 +260,7 @@ static void try_write(void)
     image_is("two links", length, expected, sizeof expected);
     image_is("into a buffer of seven", frames_write(48, frames, 2, range, 2, closed, 2, image, 7), expected, sizeof expected);
     image_is("the shortest slice counts", frames_write(48, frames, 2, range, 1, closed, 2, image, 355), first_link, 4);
-    image_is("frame 3 closed", frames_write(48, frames + 1, 1, range + 1, 1, third, 2, image, 355), with_closed, 14);
+    image_is("frame 3 closed", frames_write(48, frames + 1, 1, range + 1, 1, frame_3, 1, image, 355), with_closed, 14);
     is_refused("into a buffer of six", frames_write(48, frames, 2, range, 2, closed, 2, image, 6), 20);
     is_refused("no buffer", frames_write(48, frames, 2, range, 2, closed, 2, NULL, 0), 20);
     is_refused("33 links", frames_write(48, many, 33, many, 33, none, 33, image, 355), 2);
