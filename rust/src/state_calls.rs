@@ -14,7 +14,7 @@ use crate::wrong_state;
 
 /// Every lookup and every count replays its list. After a list of more bytes than this, not every live session is looked
 /// up and not every link counted, but so many of them.
-const LONG_LIST: usize = 600;
+const LONG_LIST: usize = 2_000;
 const SAMPLE: usize = 8;
 
 /// The numbers that a lookup can put, at most.
