@@ -18,12 +18,13 @@ use Rattle.ledger.proofs.Scheduled.{linksOf}
 use Rattle.call_records.specs.declared.Kind.{Kind}
 use Rattle.call_records.specs.declared.Kind.the-variants.{SetUp, Quote, Release}
 use Rattle.call_records.specs.declared.Record.{Record}
-use Rattle.call_records.specs.Records.{Said, unreadable, withRoute, setUpSaid, quoteSaid, releaseSaid, firstCall, callsBy, callsIn, NoCalls, FirstThenRest, counted, CountedPart}
-use Rattle.call_records.specs.Inner.{noRecord, recordWithin, routedRecord, readRecord, routeIn, callAs, callIn, RecordSays, InBytes}
-use Rattle.call_records.proofs.Cases.{in-bytes, some-byte}
+use Rattle.call_records.specs.Records.{CallSaid, unreadable, withRoute, setUpSaid, quoteSaid, releaseSaid, firstCall, callsBy, callsIn, NoCalls, FirstThenRest, counted, CountedPart}
+use Rattle.call_records.specs.Reading.{routeIn, callAs, callIn, noRecord, Reads}
+use Rattle.call_records.specs.Inner.{recordWithin, routedRecord, readRecord, InBytes}
+use Rattle.call_records.proofs.Cases.{in-bytes, some-byte, unreadable-shape}
 
 -- ---- the reader's words say what the bytes say
-abbrev saidBy : Record → List ℕ → Said
+abbrev saidBy : Record → List ℕ → CallSaid
 saidBy r s = record { call = callIn r s; rest = drop (r .end) s }
 
 none-says : (s : List ℕ) → saidBy (noRecord (length s)) s ≡ unreadable
@@ -86,11 +87,15 @@ by-kind false true r kind s = quote-says kind s
 by-kind false false true kind s = release-says kind s
 by-kind false false false kind s = none-says (kind ∷ s)
 
--- THE READER'S WORDS SAY WHAT THE BYTES SAY
-pub record-says : RecordSays
+-- the reader's words say what the bytes say
+pub record-says : (s : List ℕ) → saidBy (readRecord s) s ≡ firstCall s
 unfolding readRecord firstCall routeIn
 record-says [] = refl
 record-says (kind ∷ s) = by-kind (eqb kind 1) (eqb kind 2) (eqb kind 3) kind s
+
+-- THE READER'S RECORD SAYS WHAT THE BYTES SAY
+pub reads-said : (s : List ℕ) (r : Record) → r ≡ readRecord s → (r ≡ readRecord s) × Reads s r
+reads-said s r e = (e, rw e record { says = record-says s; shape = unreadable-shape s })
 
 -- ---- how long a record is
 -- a call's record has its route and two bytes more at least; one that can't be read is refused with 11 and leaves no bytes
@@ -98,7 +103,7 @@ abbrev pub TookBy : Outcome Call → List ℕ → ℕ → Type 0
 TookBy (given call) rest m = 2 + length (linksOf call) + length rest ≤ m
 TookBy (refused k) rest m = (k ≡ 11) × (rest ≡ [])
 
-abbrev pub Took : Said → ℕ → Type 0
+abbrev pub Took : CallSaid → ℕ → Type 0
 Took x m = TookBy (x .call) (x .rest) m
 
 route-took : (call : List ℕ → Call) (n m : ℕ) (s : List ℕ) → ((route : List ℕ) → linksOf (call route) ≡ route) → 2 + length s ≤ m → Took (withRoute call n s) m
@@ -206,10 +211,10 @@ module _ (bytes : List ℕ) (from : ℕ) where
     call-from =
         let s : List ℕ = drop from bytes in
         let c : s ≡ getD bytes from 0 ∷ drop (suc from) bytes = drop-cons bytes from 0 h in
-        let said : Said = firstCall s in
+        let said : CallSaid = firstCall s in
         let says : record { call = callIn r s; rest = drop (r .end) s } ≡ said = rw reads (record-says s) in
         let first : callsIn s ≡ said .call ∷ callsIn (said .rest) = rw c (first-then-rest (getD bytes from 0) (drop (suc from) bytes)) in
-        first ∙ ap (λ (x : Said). x .call ∷ callsIn (x .rest)) (sym says) ∙ ap (λ (x : List ℕ). callIn r s ∷ callsIn x) (drop-drop (r .end) from bytes)
+        first ∙ ap (λ (x : CallSaid). x .call ∷ callsIn (x .rest)) (sym says) ∙ ap (λ (x : List ℕ). callIn r s ∷ callsIn x) (drop-drop (r .end) from bytes)
 
 -- ---- the bytes that count
 take-least : (s : List ℕ) (m : ℕ) → take (min (length s) m) s ≡ take m s

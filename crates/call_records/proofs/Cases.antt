@@ -17,7 +17,8 @@ use Rattle.ledger.specs.Calls as calls
 use Rattle.call_records.specs.declared.Kind.{Kind}
 use Rattle.call_records.specs.declared.Kind.the-variants.{SetUp, Quote, Release, Unreadable}
 use Rattle.call_records.specs.declared.Record.{Record}
-use Rattle.call_records.specs.Inner.{noRecord, recordWithin, routedRecord, readRecord, routeIn, callAs, callIn, UnreadableShape, InBytes}
+use Rattle.call_records.specs.Reading.{routeIn, callAs, callIn, noRecord}
+use Rattle.call_records.specs.Inner.{recordWithin, routedRecord, readRecord, InBytes}
 
 -- a byte past the end counts as 0
 pub links-past : (s : List ℕ) (at : ℕ) → length s ≤ at → (0 ≡ getD s at 0) × (0 < 256)
@@ -126,7 +127,7 @@ unread-routed : (kind : Kind) (width : ℕ) (s : List ℕ) → (kind ≡ Unreada
 unfolding routedRecord
 unread-routed kind width s not e = unread-within kind width (2 + width) (2 + width + getD s (1 + width) 0) s not e
 
-pub unreadable-shape : UnreadableShape
+pub unreadable-shape : (s : List ℕ) → readRecord s .kind ≡ Unreadable → readRecord s ≡ noRecord (length s)
 unfolding readRecord
 unreadable-shape s = go (eqb (getD s 0 0) 1) (eqb (getD s 0 0) 2) (eqb (getD s 0 0) 3)
   where

@@ -9,38 +9,38 @@ use Rattle.refusals.specs.Refusals.{Outcome, given, refused}
 use Rattle.ledger.specs.Calls.{Call, SetUp, Quote, Release}
 
 -- what the record at the start of some bytes says, and the bytes after it
-pub record Said : Type 0 where
+pub record CallSaid : Type 0 where
   pub call : Outcome Call
   pub rest : List ℕ
 
 -- 11: "A call record's kind isn't 1 to 3, or the record runs past the end"; it "ends the calls"
-abbrev pub unreadable : Said
+abbrev pub unreadable : CallSaid
 unreadable = record { call = refused 11; rest = [] }
 
 -- "route length, route": n links, and the bytes after them
-unfoldable pub withRoute : (List ℕ → Call) → ℕ → List ℕ → Said
+unfoldable pub withRoute : (List ℕ → Call) → ℕ → List ℕ → CallSaid
 withRoute call n s = cond (ltb (length s) n) unreadable (record { call = given (call (take n s)); rest = drop n s })
 
 -- "01 set-up (number in two bytes low first, route length, route)", from the number on
-unfoldable pub setUpSaid : List ℕ → Said
+unfoldable pub setUpSaid : List ℕ → CallSaid
 setUpSaid [] = unreadable
 setUpSaid (low ∷ []) = unreadable
 setUpSaid (low ∷ high ∷ []) = unreadable
 setUpSaid (low ∷ high ∷ n ∷ s) = withRoute (SetUp (low + 256 * high)) n s
 
 -- "02 quote (route length, route)", from the route's length on
-unfoldable pub quoteSaid : List ℕ → Said
+unfoldable pub quoteSaid : List ℕ → CallSaid
 quoteSaid [] = unreadable
 quoteSaid (n ∷ s) = withRoute Quote n s
 
 -- "03 release (number)", from the number on
-unfoldable pub releaseSaid : List ℕ → Said
+unfoldable pub releaseSaid : List ℕ → CallSaid
 releaseSaid [] = unreadable
 releaseSaid (low ∷ []) = unreadable
 releaseSaid (low ∷ high ∷ s) = record { call = given (Release (low + 256 * high)); rest = s }
 
 -- WHAT THE RECORD AT THE START OF SOME CALL BYTES SAYS, by its kind; a kind that is added later stands here
-unfoldable pub firstCall : List ℕ → Said
+unfoldable pub firstCall : List ℕ → CallSaid
 firstCall [] = unreadable
 firstCall (kind ∷ s) =
     cond (eqb kind 1) (setUpSaid s)

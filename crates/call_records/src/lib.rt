@@ -2,7 +2,8 @@
 ghost use mathlib.Core.Path.{_≡_};
 ghost use Prim.Native.Nat.{_+_, _≤_, _<_, min};
 ghost use lib.ListN.{length, getD};
-ghost use Rattle.call_records.specs.Inner.{noRecord, recordWithin, routedRecord, readRecord, routeIn, InBytes};
+ghost use Rattle.call_records.specs.Reading.{routeIn, noRecord, Reads};
+ghost use Rattle.call_records.specs.Inner.{recordWithin, routedRecord, readRecord, InBytes};
 
 // Which call a record is for.
 pub enum Kind {
@@ -81,7 +82,7 @@ fn with_route(rest: &[u8], kind: Kind, width: usize) -> Record
 
 // The record at the start of `rest`.
 pub fn read_record(rest: &[u8]) -> Record
-    ensures { λ r. ⌜ r ≡ readRecord (now (rest .entry)) ⌝ }
+    ensures { λ r. ⌜ (r ≡ readRecord (now (rest .entry))) × Reads (now (rest .entry)) r ⌝ }
 {
     if rest.len() == 0 {
         return unreadable(0);

@@ -18,8 +18,9 @@ use Rattle.refusals.specs.declared.Verdict.{Verdict}
 use Rattle.refusals.specs.declared.Verdict.the-variants.{Passed, Refused}
 use Rattle.refusals.specs.Refusals.{refused, refusalNumber}
 use Rattle.sessions.specs.declared.Shown.{Shown}
+use Rattle.report.specs.Inner.{InPlaces}
 use Rattle.exports.specs.Exported.{Exports}
-use Rattle.exports.specs.Inner.{placeNumbers, shownNumbers, Fits}
+use Rattle.exports.specs.Inner.{placeNumbers, shownNumbers}
 
 -- ---- a list of bytes: those before i stand in the buffer
 abbrev pub Stand : List ℕ → ℕ → List ℕ → List ℕ → ℕ → Type 0
@@ -61,9 +62,6 @@ module _ (hops : ℕ) (route : List ℕ) (held : Held) (few : hops ≤ 8) (links
         grow 0 out (hops ∷ []) (set out 0 hops) 1 one-grown (held .delay .0 ∷ []) two 2 (omega (arith, room))
         (put-set 1 (held .delay .0) (set out 0 hops) (omega (arith, room, length-set out 0 hops))) refl
 
-    pub first-room : 0 < length out
-    first-room = omega (arith, room)
-
     pub second-room : 1 < length (set out 0 hops)
     second-room = omega (arith, room, length-set out 0 hops)
 
@@ -92,14 +90,14 @@ module _ (hops : ℕ) (route : List ℕ) (held : Held) (few : hops ≤ 8) (links
         session-put = four .holds ∙ put-zero (placeNumbers hops route held) out
 
 -- ---- what a lookup shows, by its verdict
-pub shown-few : (v : Verdict) (hops : ℕ) → v ≡ Passed → Fits v hops → hops ≤ 8
+pub shown-few : (v : Verdict) (hops : ℕ) → v ≡ Passed → InPlaces v hops → hops ≤ 8
 shown-few v hops e f = rw e at f
 
 module _ (q : Shown) where
   pub refused-shown : (r : Refusal) → q .verdict ≡ Refused r → (room : ℕ) → shownNumbers (q .verdict) (q .hops) (q .route) (q .held) room ≡ refused (refusalNumber r)
   refused-shown r e room = rw e
 
-  module _ (links : length (q .route) ≡ 8) (frames : length (q .held .frames) ≡ 8) (e : q .verdict ≡ Passed) (fits : Fits (q .verdict) (q .hops)) (before : List ℕ) where
+  module _ (links : length (q .route) ≡ 8) (frames : length (q .held .frames) ≡ 8) (e : q .verdict ≡ Passed) (fits : InPlaces (q .verdict) (q .hops)) (before : List ℕ) where
     long : length (placeNumbers (q .hops) (q .route) (q .held)) ≡ 2 + 2 * q .hops
     long = numbers-long (q .hops) (q .route) (q .held) (shown-few (q .verdict) (q .hops) e fits) links frames
 

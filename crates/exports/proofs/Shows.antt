@@ -19,7 +19,7 @@ use Rattle.ledger.specs.Sessions.{Session, View, hopsOf, hopOf}
 use Rattle.ledger.specs.Calls.{lookup, freeCount}
 use Rattle.ledger.specs.Demand.{fresh}
 use Rattle.ledger.proofs.Held.{schedule-length, frames-in}
-use Rattle.ledger.proofs.Intact.{intact-is, session-good}
+use Rattle.ledger.proofs.Intact.{intact-is, GoodSession, session-good}
 use Rattle.ledger.proofs.Lists.{all-member}
 use Rattle.ledger.proofs.Shown.{lookup-given, looked-up}
 use Rattle.ledger.specs.Sound.{goodSession}
@@ -34,22 +34,23 @@ use Rattle.sessions.specs.declared.Counted.{Counted}
 use Rattle.sessions.specs.declared.Tallied.{Tallied}
 use Rattle.sessions.specs.Calls.{Tells, shownOf, notShown, Looks, countedOf, notCounted, Tallies}
 use Rattle.replay.specs.Replayed.{Becomes}
+use Rattle.report.specs.Inner.{InPlaces}
 use Rattle.exports.specs.Exported.{asNumber, Exports, stateAfter, sessionNumbers, lookupAfter, freeAfter}
-use Rattle.exports.specs.Inner.{placeNumbers, shownNumbers, Fits, countRead}
+use Rattle.exports.specs.Inner.{placeNumbers, shownNumbers, countRead}
 use Rattle.exports.proofs.Answers.{file-refused, file-passed}
 
 -- ---- a session that a lookup gives has a route that passed, and a frame for each of its links
 module _ (v : View) (n : ℕ) (s : Session) (e : lookup v n ≡ given s) where
-  pub few-hops : length (s .route) ≤ 8
-  few-hops =
+  good : GoodSession (v .network) s
+  good =
       let g = lookup-given v n s e in
-      let good = session-good (v .network) s (all-member (goodSession (v .network)) (v .live) (intact-is v (g .0) .sessions) (looked-up n (v .live) s (g .1) .0)) in
-      route-long (v .network) (s .route) (good .route) .1
+      session-good (v .network) s (all-member (goodSession (v .network)) (v .live) (intact-is v (g .0) .sessions) (looked-up n (v .live) s (g .1) .0))
+
+  pub few-hops : length (s .route) ≤ 8
+  few-hops = route-long (v .network) (s .route) (good .route) .1
 
   pub frame-each : length (s .held .frames) ≡ length (s .route)
   frame-each =
-      let g = lookup-given v n s e in
-      let good = session-good (v .network) s (all-member (goodSession (v .network)) (v .live) (intact-is v (g .0) .sessions) (looked-up n (v .live) s (g .1) .0)) in
       let hops = hopsOf (v .network) [] (s .route) in
       ap (λ (fs : List ℕ). length fs) (sym (frames-in hops (s .held))) ∙ schedule-length hops _ (good .schedule) ∙ length-map (s .route) (hopOf (v .network) [])
 
@@ -59,10 +60,10 @@ module _ (v : View) (n : ℕ) (s : Session) (e : lookup v n ≡ given s) where
       rw (firsts-back 8 (s .route) 0 few-hops, f)
 
 module _ (v : View) (n : ℕ) (q : Shown) (tells : Tells shownOf notShown (lookup v n) q) where
-  pub shown-fits : Fits (q .verdict) (q .hops)
+  pub shown-fits : InPlaces (q .verdict) (q .hops)
   shown-fits = go (lookup v n) refl tells
     where
-      go : (o : Outcome Session) → lookup v n ≡ o → Tells shownOf notShown o q → Fits (q .verdict) (q .hops)
+      go : (o : Outcome Session) → lookup v n ≡ o → Tells shownOf notShown o q → InPlaces (q .verdict) (q .hops)
       go (given s) e t = rw t (few-hops v n s e)
       go (refused k) e t = rw (t .2) tt
 
@@ -90,7 +91,7 @@ module _ (file calls : List ℕ) (l : Loaded) (reads : Reads (readNetwork file) 
     after-is = file-passed file l reads bytes e (λ net. given (viewAfterAll (fresh net) (callsIn (counted calls)))) ∙ ap given (sym (b .view))
 
     module _ (number : ℕ) (r : Looked) (looks : Looks st number r) where
-      pub looked-fits : Fits (r .shown .verdict) (r .shown .hops)
+      pub looked-fits : InPlaces (r .shown .verdict) (r .shown .hops)
       looked-fits = shown-fits (viewOf st) number (r .shown) (looks .shown)
 
       pub looked-numbers : (before after : List ℕ) (k : ℕ) → Exports (shownNumbers (r .shown .verdict) (r .shown .hops) (r .shown .route) (r .shown .held) (length before)) before after k

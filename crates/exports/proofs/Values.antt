@@ -1,6 +1,6 @@
 -- A network given as values. Assumes nothing.
 use mathlib.Core.Path.{_≡_, refl, sym, ap, _∙_}
-use mathlib.Core.Bool.{Bool, true, false, _||_}
+use mathlib.Core.Bool.{or-true}
 use mathlib.Core.List.{List, [], _∷_, _++_}
 use Prim.Native.Nat.{ℕ, zero, suc, _+_, _<_, _≤_, min}
 use native.Mathlib.Nat.{not-suc-le-zero, le-of-suc-le-suc}
@@ -21,10 +21,6 @@ use Rattle.network_file.specs.Lent.{lengthRead, Writes}
 use Rattle.network_file.specs.Writing.{writeNetwork}
 use Rattle.exports.specs.Exported.{asNumber, Exports, linksFrom, writtenOf}
 use Rattle.exports.proofs.Answers.{written-number}
-
-or-right : (a : Bool) → a || true ≡ true
-or-right true = refl
-or-right false = refl
 
 pub count-from : (ks zs cs : List ℕ) → length (linksFrom ks zs cs) ≡ min (length ks) (min (length zs) (length cs))
 unfolding linksFrom
@@ -70,7 +66,7 @@ module _ (ks zs cs : List ℕ) (count : ℕ) (is : count ≡ min (length ks) (mi
   -- too many links are refused with 2, and others are written
   pub too-many : 32 < count → (T room : ℕ) → writtenOf T ks zs cs room ≡ refused 2
   unfolding writtenOf writeNetwork networkCheck badCount
-  too-many h T room = rw (many, lt-ltb 32 count h, or-right (eqb count 0))
+  too-many h T room = rw (many, lt-ltb 32 count h, or-true (eqb count 0))
 
   pub values-number : count ≤ 32 → (T : ℕ) (links : List Link) → links ≡ firsts 32 (linksFrom ks zs cs) noLink → (before after : List ℕ) (w : Written)
       → Writes (writeNetwork (topologyOf (record { ticks = T; count = count; links = links })) (length before)) before after w → (k : ℕ) → k ≡ asNumber (lengthRead w)

@@ -1,11 +1,12 @@
 -- What the functions for other languages answer and leave in the buffers that they are lent. Assumes nothing.
 use mathlib.Core.Path.{_≡_}
 use mathlib.Core.Bool.{true}
-use mathlib.Core.List.{List, [], _∷_, _++_}
+use mathlib.Core.List.{List, [], _∷_, _++_, map}
 use Prim.Native.Nat.{ℕ, _+_, _≤_}
 use lib.ListN.{length}
 use Rattle.refusals.specs.Refusals.{Outcome, given, refused, onGiven}
 use Rattle.numbers.specs.Numbers.{IsBytes}
+use Rattle.network.specs.Network.{Topology}
 use Rattle.network.specs.declared.Link.{Link}
 use Rattle.network_file.specs.Reading.{readNetwork}
 use Rattle.network_file.specs.Lent.{inRoom, lengthOf, bufferAfter}
@@ -13,12 +14,15 @@ use Rattle.network_file.specs.Writing.{writeNetwork}
 use Rattle.ledger.specs.Sessions.{Session, View}
 use Rattle.ledger.specs.Sound.{intact}
 use Rattle.ledger.specs.Calls.{lookup, freeCount}
-use Rattle.ledger.specs.Demand.{fresh}
+use Rattle.ledger.specs.Ledger.{AnsweredCall, callOf}
+use Rattle.ledger.specs.Demand.{fresh, Demand3}
 use Rattle.call_records.specs.Records.{callsIn, counted}
 use Rattle.call_records.specs.Served.{viewAfterAll}
+use Rattle.report.specs.Transcript.{transcript}
 use Rattle.report.specs.Reports.{reported}
+use Rattle.report.specs.Transcribed.{madeIn}
 
--- an answer as one number: a length or a count, or 1,000,000 and the refusal; no length or count is as large (`AnswersBelow`, `ValuesBelow`)
+-- an answer as one number: a length or a count, or 1,000,000 and the refusal; no length or count is as large (`AnswersSized`, `ValuesSized`)
 abbrev pub asNumber : Outcome ℕ → ℕ
 asNumber (given n) = n
 asNumber (refused n) = 1000000 + n
@@ -35,6 +39,16 @@ stateAfter file calls = onGiven (readNetwork file) (λ net. given (viewAfterAll 
 -- IT IS NEVER BROKEN, so that no call on it is refused with 0: "0 can only meet a caller that builds a state by hand"
 abbrev pub AfterIntact : Type 0
 AfterIntact = (file calls : List ℕ) → IsBytes file → (v : View) → stateAfter file calls ≡ given v → intact v ≡ true
+
+-- it is that of a list of calls: those that the records say, each with its answer, which keep demand 3
+pub record Replayed (calls : List ℕ) (net : Topology) (v : View) : Type 0 where
+  pub steps : List AnsweredCall
+  pub made : map callOf steps ≡ madeIn (callsIn (counted calls))
+  pub demand : Demand3 net v steps
+
+-- THE STATE AFTER CALL RECORDS KEEPS DEMAND 3: what lookup shows of it are the entries of the ledger, and a frame is held exactly when one of them has it
+abbrev pub AfterDemand3 : Type 0
+AfterDemand3 = (file calls : List ℕ) (net : Topology) (v : View) → IsBytes file → readNetwork file ≡ given net → stateAfter file calls ≡ given v → Replayed calls net v
 
 -- a session as numbers: how many hops it has, its delay, the link of each hop and the frame of each hop
 abbrev pub sessionNumbers : Session → List ℕ
@@ -64,17 +78,20 @@ linksFrom (k ∷ ks) (z ∷ zs) (c ∷ cs) = record { frames = k; range = z; clo
 unfoldable pub writtenOf : ℕ → List ℕ → List ℕ → List ℕ → ℕ → Outcome (List ℕ)
 writtenOf T ks zs cs room = writeNetwork (record { ticks = T; links = linksFrom ks zs cs }) room
 
--- what is written on a file and call bytes is at most so long, and a count so large
-pub record Below (file calls : List ℕ) : Type 0 where
+-- how long what is written on a file and call bytes is at most, and how large a count; and how many places always serve
+pub record AnswerSizes (file calls : List ℕ) : Type 0 where
   pub text : (room : ℕ) (x : List ℕ) → reported file calls room ≡ given x → length x ≤ 720918
+  pub textServed : (room : ℕ) → 720918 ≤ room → reported file calls room ≡ given (transcript file calls)
   pub session : (number room : ℕ) (x : List ℕ) → lookupAfter file calls number room ≡ given x → length x ≤ 18
+  pub sessionServed : (number room : ℕ) → 18 ≤ room → lookupAfter file calls number room ≡ refused 20 → ⊥
   pub free : (link n : ℕ) → freeAfter file calls link ≡ given n → n ≤ 64
   pub again : (room : ℕ) (x : List ℕ) → writtenAgain file room ≡ given x → length x ≤ 355
+  pub againServed : (room : ℕ) → 355 ≤ room → writtenAgain file room ≡ refused 20 → ⊥
 
--- EVERY ANSWER BELOW 1,000,000 IS A LENGTH OR A COUNT, and every other a refusal; and buffers of 720,918, 18 and 355 places always serve
-abbrev pub AnswersBelow : Type 0
-AnswersBelow = (file calls : List ℕ) → IsBytes file → Below file calls
+-- EVERY ANSWER BELOW 1,000,000 IS A LENGTH OR A COUNT, and every other a refusal; and 720,918 bytes, 18 numbers and 355 bytes always serve
+abbrev pub AnswersSized : Type 0
+AnswersSized = (file calls : List ℕ) → IsBytes file → AnswerSizes file calls
 
 -- the same of a network given as values
-abbrev pub ValuesBelow : Type 0
-ValuesBelow = (T : ℕ) (ks zs cs : List ℕ) (room : ℕ) (x : List ℕ) → writtenOf T ks zs cs room ≡ given x → length x ≤ 355
+abbrev pub ValuesSized : Type 0
+ValuesSized = (T : ℕ) (ks zs cs : List ℕ) (room : ℕ) → ((x : List ℕ) → writtenOf T ks zs cs room ≡ given x → length x ≤ 355) × (355 ≤ room → writtenOf T ks zs cs room ≡ refused 20 → ⊥)

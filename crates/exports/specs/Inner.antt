@@ -19,11 +19,6 @@ abbrev pub shownNumbers : Verdict → ℕ → List ℕ → Held → ℕ → Outc
 shownNumbers Passed hops route held room = inRoom (length (placeNumbers hops route held)) room (placeNumbers hops route held)
 shownNumbers (Refused r) hops route held room = refused (refusalNumber r)
 
--- what is shown stands in eight places
-abbrev pub Fits : Verdict → ℕ → Type 0
-Fits Passed hops = hops ≤ 8
-Fits (Refused r) hops = Unit {0}
-
 -- a number of free frames, by its verdict
 abbrev pub countBy : Verdict → ℕ → Outcome ℕ
 countBy Passed n = given n

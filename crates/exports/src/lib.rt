@@ -19,8 +19,9 @@ ghost use Rattle.network.specs.Network.{noLink};
 ghost use Rattle.network_file.specs.Lent.{lengthRead};
 ghost use Rattle.report.specs.Transcript.{transcript};
 ghost use Rattle.report.specs.Reports.{textBound, reported};
+ghost use Rattle.report.specs.Inner.{InPlaces};
 ghost use Rattle.exports.specs.Exported.{asNumber, Exports, lookupAfter, freeAfter, writtenAgain, linksFrom, writtenOf};
-ghost use Rattle.exports.specs.Inner.{placeNumbers, shownNumbers, Fits, countRead};
+ghost use Rattle.exports.specs.Inner.{placeNumbers, shownNumbers, countRead};
 
 // A refusal as one number.
 fn refused(refusal: Refusal) -> u64
@@ -90,7 +91,7 @@ fn put_session(out: &mut [u16], hops: usize, route: [u8; 8], held: Held)
 
 // What a lookup shows: how many numbers, or the refusal, 20 where the buffer is shorter.
 fn show(shown: Shown, out: &mut [u16]) -> u64
-    requires { ⌜ Fits (shown .verdict) (shown .hops) ⌝ }
+    requires { ⌜ InPlaces (shown .verdict) (shown .hops) ⌝ }
     ensures { λ r. ⌜ Exports (shownNumbers (shown .verdict) (shown .hops) (shown .route) (shown .held) (length (now (out .entry)))) (now (out .entry)) (now (out .exit)) r ⌝ }
 {
     let verdict = shown.verdict;

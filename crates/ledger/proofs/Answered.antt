@@ -16,7 +16,7 @@ use Rattle.ledger.specs.Sessions.{Session, View, isLive, hopsOf}
 use Rattle.ledger.specs.Routes.{routeCheck}
 use Rattle.ledger.specs.Sound.{intact}
 use Rattle.ledger.specs.Calls.{Call, SetUp, Quote, Release, Reply, replyOf, answerOver, unless, full, callCheck, granted, reply}
-use Rattle.ledger.specs.Demand.{LeastOrBlocked, least, none, Due}
+use Rattle.ledger.specs.Demand.{LeastOrBlocked, least, noSchedule, Due}
 
 -- the answer of a call where 0 doesn't refuse
 abbrev pub answerOn : Topology → List Session → Call → Reply
@@ -47,7 +47,7 @@ least-or-blocked T hops = go (routeAnswer T hops) refl
     go (found d n w) e = least d n w e (found-given T hops d n w e)
     go (blocked n) e =
         let b : RouteAnswer T hops (blocked n) = subst (RouteAnswer T hops) e (answer-rules T hops) in
-        none n e (b .1) (b .0)
+        noSchedule n e (b .1) (b .0)
 
 -- WHAT IS GRANTED IS DUE: a least schedule over the frames then free, or blocked where there is none
 pub call-due : (net : Topology) (ss : List Session) (call : Call) → Due net ss call (granted net ss call)

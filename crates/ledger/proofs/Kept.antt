@@ -17,7 +17,7 @@ use Rattle.ledger.specs.Sessions.{Session, slotsOf, holds, heldIn, isLiv
 use Rattle.ledger.specs.Routes.{routeCheck}
 use Rattle.ledger.specs.Sound.{numberTwice, sameNumber, goodSession, shareSlot, frameTwice}
 use Rattle.ledger.specs.Calls.{Call, SetUp, Quote, Release, Reply, unless, full, callCheck, granted, effect, otherThan, liveAfter, left, next, NextIntact}
-use Rattle.ledger.specs.Demand.{LeastOrBlocked, least, none}
+use Rattle.ledger.specs.Demand.{LeastOrBlocked, least, noSchedule}
 use Rattle.ledger.proofs.Lists.{neither-or, eqb-flip, any-cong, all-snoc, anyTwo-snoc, any-swap, all-keep, anyTwo-keep, length-keep}
 use Rattle.ledger.proofs.Held.{held-free}
 use Rattle.ledger.proofs.Intact.{Intact, GoodSession, good-session, intact-is, is-intact}
@@ -60,7 +60,7 @@ module _ (net : Topology) (ss : List Session) (h : Intact net ss) where
         sessions = all-snoc (goodSession net) ss u ∙ tests.both-and (allOf (goodSession net) ss) (goodSession net u) (h .sessions) good;
         frames = anyTwo-snoc shareSlot ss u ∙ neither-or (anyTwo shareSlot ss) (anyOf (λ s. shareSlot s u) ss) (h .frames) (unheld-unshared ss u (over-unheld net ss route d w (g .schedule)));
       }
-  set-up-intact n route a (none count e counted nowhere) = h
+  set-up-intact n route a (noSchedule count e counted nowhere) = h
 
   -- ---- an accepted release
   release-intact : (n : ℕ) → Intact net (keep (otherThan n) ss)

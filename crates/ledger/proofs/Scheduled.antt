@@ -14,7 +14,7 @@ use Rattle.ledger.specs.Sessions.{Session, View, hopOf, hopsOf}
 use Rattle.ledger.specs.Routes.{routeCheck}
 use Rattle.ledger.specs.Sound.{intact}
 use Rattle.ledger.specs.Calls.{Call, SetUp, Quote, Release, Reply, schedule, freed, refusal, unless, callCheck, granted, reply}
-use Rattle.ledger.specs.Demand.{LeastOrBlocked, least, none}
+use Rattle.ledger.specs.Demand.{LeastOrBlocked, least, noSchedule}
 use Rattle.ledger.proofs.Held.{held-stored}
 use Rattle.ledger.proofs.Answered.{answerOn, reply-intact, admitted, call-due}
 use Rattle.ledger.proofs.Quoted.{unbroken}
@@ -42,7 +42,7 @@ record Gives (hops : List Hop) (held : Holding) : Type 0 where
 
 least-gives : (T : ℕ) (hops : List Hop) {r : Reply} → LeastOrBlocked T hops r → (held : Holding) (count : ℕ) → r ≡ schedule held count → Gives hops held
 least-gives T hops (least d n w e g) held count q = record { delay = d; nodes = w; schedule = g .schedule; gives = cc }
-least-gives T hops (none n e c nowhere) held count q = let z : _≡_ {A = ℕ} 0 1 = cc in absurd (omega arith)
+least-gives T hops (noSchedule n e c nowhere) held count q = let z : _≡_ {A = ℕ} 0 1 = cc in absurd (omega arith)
 
 module _ (net : Topology) (ss : List Session) (held : Holding) (count : ℕ) where
   -- on a state that isn't broken

@@ -10,7 +10,7 @@ use Rattle.ledger.specs.Sessions.{Session, View, Slot, holds}
 use Rattle.ledger.specs.Sound.{shareSlot, frameTwice, intact}
 use Rattle.ledger.specs.Calls.{Call, Reply, liveAfter, left, reply, next, lookup}
 use Rattle.ledger.specs.Ledger.{AnsweredCall, did, effectOf, ledgerFrom, ledger, isRefusal, acceptedSetUp, acceptedRelease, countSteps}
-use Rattle.ledger.specs.Demand.{fresh, HoldsSlot, NamedAndKept, LiveNumbers, Right, Runs, over, then, Demand3Holds, Stepped, EveryListStepped}
+use Rattle.ledger.specs.Demand.{fresh, HoldsSlot, NamedAndKept, LiveNumbers, Right, Runs, over, callThen, Demand3Holds, Stepped, EveryListStepped}
 use Rattle.ledger.proofs.Lists.{anyTwo-at}
 use Rattle.ledger.proofs.Intact.{intact-is, fresh-intact}
 use Rattle.ledger.proofs.Answered.{answerOn, reply-intact}
@@ -26,16 +26,16 @@ use Rattle.ledger.proofs.Balance.{released-live, balance-step}
 pub runs-live : {v last : View} {steps : List AnsweredCall} → Runs v steps last → last .live ≡ ledgerFrom (v .live) steps
 unfolding next left
 runs-live over = refl
-runs-live (then call rest) = runs-live rest
+runs-live (callThen call rest) = runs-live rest
 
 pub runs-network : {v last : View} {steps : List AnsweredCall} → Runs v steps last → last .network ≡ v .network
 unfolding next left
 runs-network over = refl
-runs-network (then call rest) = runs-network rest
+runs-network (callThen call rest) = runs-network rest
 
 pub runs-intact : {v last : View} {steps : List AnsweredCall} → intact v ≡ true → Runs v steps last → intact last ≡ true
 runs-intact i over = i
-runs-intact {v} i (then call rest) = runs-intact (next-intact v call i) rest
+runs-intact {v} i (callThen call rest) = runs-intact (next-intact v call i) rest
 
 reply-right : (v : View) (call : Call) → intact v ≡ true → Right (v .network) (v .live) call (reply v call)
 reply-right v call i = rw (reply-intact v call i) (answer-right (v .network) (v .live) call)
@@ -44,13 +44,13 @@ runs-right : (before : List AnsweredCall) {v last : View} {steps : List Answered
     → steps ≡ before ++ (did call r ∷ later) → Right (v .network) (ledgerFrom (v .live) before) call r
 unfolding next left
 runs-right [] call r later i over e = absurd (nil≢cons e)
-runs-right [] {v} call r later i (then c rest) e =
+runs-right [] {v} call r later i (callThen c rest) e =
     let d : did c (reply v c) ≡ did call r = head-eq-of-cons-eq e in
     let p : c ≡ call = cc in
     let q : reply v c ≡ r = cc in
     subst (λ (x : Reply). Right (v .network) (v .live) call x) q (subst (λ (x : Call). Right (v .network) (v .live) x (reply v c)) p (reply-right v c i))
 runs-right (s ∷ before) call r later i over e = absurd (nil≢cons e)
-runs-right (s ∷ before) {v} call r later i (then c rest) e =
+runs-right (s ∷ before) {v} call r later i (callThen c rest) e =
     subst (λ (x : AnsweredCall). Right (v .network) (ledgerFrom (liveAfter (v .live) (effectOf x)) before) call r) (head-eq-of-cons-eq e)
     (runs-right before call r later (next-intact v c i) rest (tail-eq-of-cons-eq e))
 
@@ -58,7 +58,7 @@ runs-balance : {v last : View} {steps : List AnsweredCall} → intact v ≡ true
     → countSteps acceptedSetUp steps + length (v .live) ≡ length (last .live) + countSteps acceptedRelease steps
 unfolding next left
 runs-balance i over = omega arith
-runs-balance {v} {last} i (then {steps = steps} call rest) =
+runs-balance {v} {last} i (callThen {steps = steps} call rest) =
     balance-step (v .live) call (reply v call) (intact-is v i .numbers)
     (λ n p h. released-live (v .network) (v .live) n (ap isRefusal (ap (answerOn (v .network) (v .live)) (sym p) ∙ sym (reply-intact v call i)) ∙ h))
     (countSteps acceptedSetUp steps) (countSteps acceptedRelease steps) (length (last .live)) (runs-balance (next-intact v call i) rest)
@@ -71,7 +71,7 @@ every-list v (call ∷ calls) =
     record {
       steps = did call (reply v call) ∷ rest .steps;
       last = rest .last;
-      runs = then call (rest .runs);
+      runs = callThen call (rest .runs);
       same = ap (λ (l : List Call). call ∷ l) (rest .same);
     }
 

@@ -54,7 +54,7 @@ pub record LiveNumbers (v : View) (ns : List ℕ) : Type 0 where
 -- exactly when there was none", with the count
 pub data LeastOrBlocked (T : ℕ) (hops : List Hop) : Reply → Type 0 where
   least : (d count : ℕ) (w : List ℕ) → routeAnswer T hops ≡ found d count w → Given T hops d count w → LeastOrBlocked T hops (schedule (heldOver hops d w) count)
-  none : (count : ℕ) → routeAnswer T hops ≡ blocked count → CountOf hops count → ((fs : List ℕ) → IsSchedule hops fs → ⊥) → LeastOrBlocked T hops (refusal 18 count)
+  noSchedule : (count : ℕ) → routeAnswer T hops ≡ blocked count → CountOf hops count → ((fs : List ℕ) → IsSchedule hops fs → ⊥) → LeastOrBlocked T hops (refusal 18 count)
 
 -- what is due to a call that no check refused
 abbrev pub Due : Topology → List Session → Call → Reply → Type 0
@@ -97,7 +97,7 @@ pub record Demand3 (net : Topology) (v : View) (steps : List AnsweredCall) : Typ
 -- the views that calls leave, one after the other, each call answered on the view that the one before it left
 pub data Runs : View → List AnsweredCall → View → Type 0 where
   over : {v : View} → Runs v [] v
-  then : {v last : View} {steps : List AnsweredCall} (call : Call) → Runs (next v call) steps last → Runs v (did call (reply v call) ∷ steps) last
+  callThen : {v last : View} {steps : List AnsweredCall} (call : Call) → Runs (next v call) steps last → Runs v (did call (reply v call) ∷ steps) last
 
 -- DEMAND 3, for every list of set-ups, quotes and releases, refused ones included, from a fresh network
 abbrev pub Demand3Holds : Type 0

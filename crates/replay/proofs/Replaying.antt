@@ -1,33 +1,32 @@
 -- The state after calls, one after the other. Assumes nothing.
-use mathlib.Core.Path.{_≡_, refl, sym, ap, subst, _∙_}
+use mathlib.Core.Path.{_≡_, refl, sym, ap, _∙_}
 use mathlib.Core.Bool.{true}
 use mathlib.Core.List.{List, [], _∷_}
 use Prim.Native.Nat.{ℕ, _+_, _-_, _<_, _≤_, min}
 use native.Mathlib.Omega.{arith}
 use lib.ListN.{length, take, drop}
 use Rattle.places.proofs.Parts.{part-rest}
-use Rattle.refusals.specs.Refusals.{Outcome, given, pass}
+use Rattle.refusals.specs.Refusals.{Outcome, given}
 use Rattle.network.specs.Network.{topologyOf}
-use Rattle.network.specs.Checks.{networkCheck}
 use Rattle.network.specs.declared.Network.{Network}
 use Rattle.ledger.specs.Sessions.{View}
 use Rattle.ledger.specs.Sound.{intact}
 use Rattle.ledger.specs.Calls.{Call, left, next}
 use Rattle.ledger.specs.Calls as calls
 use Rattle.ledger.specs.Demand.{fresh}
-use Rattle.ledger.proofs.Intact.{fresh-intact}
 use Rattle.call_records.specs.declared.Kind.the-variants.{SetUp, Quote, Release, Unreadable}
 use Rattle.call_records.specs.declared.Record.{Record}
 use Rattle.call_records.specs.Records.{callsIn, counted}
 use Rattle.call_records.specs.Served.{viewAfter, viewAfterAll}
-use Rattle.call_records.specs.Inner.{readRecord, routeIn, callIn}
+use Rattle.call_records.specs.Reading.{routeIn, callIn}
+use Rattle.call_records.specs.Inner.{readRecord}
 use Rattle.call_records.proofs.Cases.{says-set-up, says-quote, says-release, says-nothing}
 use Rattle.call_records.proofs.Calls.{none-from, next-within, call-from, counted-part}
 use Rattle.state.specs.declared.State.{State}
 use Rattle.state.specs.declared.Served.{Served}
 use Rattle.state.specs.declared.Released.{Released}
 use Rattle.state.specs.State.{viewOf, freshState, Leaves, Serves, Releases}
-use Rattle.state.proofs.Replies.{left-intact, fresh-shown}
+use Rattle.state.proofs.Replies.{left-intact, first-view}
 use Rattle.replay.specs.Replayed.{Becomes}
 
 -- ---- the state after one call
@@ -91,15 +90,9 @@ module _ (net : Network) (v : View) (bytes : List ℕ) (st : State) (from : ℕ)
   all-run h = record { network = run .network; view = sym (run .whole ∙ ap (viewAfterAll (viewOf st)) (none-from bytes from h) ∙ after-none (viewOf st)); unbroken = run .unbroken }
 
 -- ---- from a network without sessions
-module _ (net : Network) (passed : networkCheck (topologyOf net) ≡ given pass) (st : State) (begun : st ≡ freshState net) where
-  first-view : viewOf st ≡ fresh (topologyOf net)
-  first-view = ap viewOf begun ∙ fresh-shown net
-
-  pub first-intact : intact (viewOf st) ≡ true
-  first-intact = subst (λ (v : View). intact v ≡ true) (sym first-view) (fresh-intact (topologyOf net) passed)
-
+module _ (net : Network) (st : State) (begun : st ≡ freshState net) where
   pub counted-run : (s : List ℕ) (n : ℕ) → n ≡ min (length s) 65536 → (r : State) → Becomes (st .network) (viewAfterAll (viewOf st) (callsIn (take n s))) r
       → Becomes net (viewAfterAll (fresh (topologyOf net)) (callsIn (counted s))) r
   counted-run s n e r b =
-      let w = rw (first-view, counted-part s n e .0) at b in
+      let w = rw (first-view net st begun, counted-part s n e .0) at b in
       record { network = w .network ∙ ap (λ (x : State). x .network) begun; view = w .view; unbroken = w .unbroken }

@@ -14,7 +14,8 @@ ghost use Rattle.ledger.specs.Sound.{intact};
 ghost use Rattle.ledger.specs.Demand.{fresh};
 ghost use Rattle.call_records.specs.Records.{callsIn, counted};
 ghost use Rattle.call_records.specs.Served.{viewAfter, viewAfterAll};
-ghost use Rattle.call_records.specs.Inner.{callIn, InBytes};
+ghost use Rattle.call_records.specs.Reading.{callIn};
+ghost use Rattle.call_records.specs.Inner.{InBytes};
 ghost use Rattle.state.specs.State.{viewOf};
 ghost use Rattle.replay.specs.Replayed.{Becomes};
 

@@ -26,7 +26,7 @@ use Rattle.ledger.specs.Sessions.{Session, View, hopsOf, hopOf}
 use Rattle.ledger.specs.Routes.{routeCheck}
 use Rattle.ledger.specs.Sound.{intact}
 use Rattle.ledger.specs.Calls.{Call, SetUp, Quote, Release, Reply, schedule, freed, refusal, unless, callCheck, granted, reply, next}
-use Rattle.ledger.specs.Demand.{fresh, LeastOrBlocked, least, none}
+use Rattle.ledger.specs.Demand.{fresh, LeastOrBlocked, least, noSchedule}
 use Rattle.ledger.proofs.Held.{schedule-length, frames-over, delay-over}
 use Rattle.ledger.proofs.Intact.{intact-is, fresh-intact}
 use Rattle.ledger.proofs.Answered.{reply-intact, admitted, call-due}
@@ -92,7 +92,7 @@ module _ (net : Topology) (ss : List Session) (ok : networkCheck net ≡ given p
       let c = count-most (net .ticks) hops count (omega (arith, hops-long route, ready .few-hops)) p (g .count-is) in
       let frames : (i : ℕ) → getD (heldOver hops d w .frames) i 0 < 100 = rw (frames-over hops d w) (schedule-small (net .ticks) hops w p (g .schedule)) in
       omega (arith, scheduled-long place letter (heldOver hops d w) count h (omega (arith, most, g .delay-is, delay-over hops d w)) c frames, schedule-length hops w (g .schedule), ap (λ (fs : List ℕ). length fs) (frames-over hops d w), hops-long route)
-  route-line place letter h route e r (none count q is nowhere) =
+  route-line place letter h route e r (noSchedule count q is nowhere) =
       let ready = route-ready net ss route ok e in
       let c = count-most (net .ticks) (hopsOf net ss route) count (omega (arith, hops-long route, ready .few-hops)) (hops-ready route e) is in
       omega (arith, blocked-long place letter count h c)

@@ -8,9 +8,10 @@ use Rattle.network_file.proofs.RoundTrip.{read-passes}
 use Rattle.ledger.specs.Sessions.{View}
 use Rattle.ledger.specs.Calls.{Call, refusal, reply, next}
 use Rattle.ledger.specs.Ledger.{AnsweredCall, did, callOf}
-use Rattle.ledger.specs.Demand.{fresh, Runs, over, then}
+use Rattle.ledger.specs.Demand.{fresh, Runs, over, callThen}
 use Rattle.ledger.proofs.Whole.{demand3}
 use Rattle.call_records.specs.Records.{firstCall, callsIn, counted}
+use Rattle.call_records.specs.Served.{viewAfterAll}
 use Rattle.call_records.proofs.Calls.{TookBy, first-took, by-records, no-calls, first-then-rest}
 use Rattle.text.specs.Characters.{questionMark}
 use Rattle.text.specs.Lines.{letterOf, line, liveLine}
@@ -37,19 +38,21 @@ record Told (place : ℕ) (v : View) (os : List (Outcome Call)) : Type 0 where
   last : View
   runs : Runs v steps last
   made : map callOf steps ≡ madeIn os
+  after : last ≡ viewAfterAll v os
   text : linesOf place v os ≡ stepLines place steps ++ (unreadLine place os ++ liveLine (length (last .live)))
 
 told : (os : List (Outcome Call)) (place : ℕ) (v : View) → Ends os → Told place v os
-unfolding linesOf
-told [] place v h = record { steps = []; last = v; runs = over; made = refl; text = refl }
+unfolding linesOf viewAfterAll
+told [] place v h = record { steps = []; last = v; runs = over; made = refl; after = refl; text = refl }
 told (given call ∷ os) place v h =
     let t : Told (suc place) (next v call) os = told os (suc place) (next v call) h in
     let x : List ℕ = line place (letterOf call) (reply v call) in
     record {
       steps = did call (reply v call) ∷ t .steps;
       last = t .last;
-      runs = then call (t .runs);
+      runs = callThen call (t .runs);
       made = ap (λ (cs : List Call). call ∷ cs) (t .made);
+      after = t .after;
       text = ap (λ (y : List ℕ). x ++ y) (t .text) ∙ sym (append-assoc x (stepLines (suc place) (t .steps)) (unreadLine (suc place) os ++ liveLine (length (t .last .live))));
     }
 told (refused n ∷ os) place v h =
@@ -58,6 +61,7 @@ told (refused n ∷ os) place v h =
       last = v;
       runs = over;
       made = ap madeIn (sym h);
+      after = ap (viewAfterAll v) (sym h);
       text = ap (λ (r : List (Outcome Call)). line place questionMark (refusal n 0) ++ linesOf (suc place) v r) h;
     }
 
@@ -70,6 +74,7 @@ transcript-demand3 file calls net bytes e =
       steps = t .steps;
       last = t .last;
       made = t .made;
+      after = t .after;
       text = rw e (t .text);
       demand = demand3 net (read-passes file net bytes e) (t .steps) (t .last) (t .runs);
     }

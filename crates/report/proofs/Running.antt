@@ -15,7 +15,8 @@ use Rattle.ledger.specs.Calls.{Call}
 use Rattle.call_records.specs.declared.Record.{Record}
 use Rattle.call_records.specs.Records.{callsIn}
 use Rattle.call_records.specs.Served.{viewAfter}
-use Rattle.call_records.specs.Inner.{readRecord, callIn}
+use Rattle.call_records.specs.Reading.{callIn}
+use Rattle.call_records.specs.Inner.{readRecord}
 use Rattle.call_records.proofs.Calls.{none-from, next-within, call-from}
 use Rattle.state.specs.declared.State.{State}
 use Rattle.state.specs.State.{viewOf}

@@ -1,5 +1,5 @@
 -- The whole text, and the buffer that it is put into. Assumes nothing.
-use mathlib.Core.Path.{_≡_, sym, ap, subst, _∙_}
+use mathlib.Core.Path.{_≡_, ap, _∙_}
 use mathlib.Core.Bool.{true}
 use mathlib.Core.List.{List}
 use Prim.Native.Nat.{ℕ, _+_, _*_, _<_, _≤_, min}
@@ -16,14 +16,12 @@ use Rattle.network_file.specs.declared.Loaded.{Loaded}
 use Rattle.network_file.specs.declared.Written.the-variants as written
 use Rattle.network_file.specs.Reading.{readNetwork, Reads}
 use Rattle.network_file.proofs.Lent.{short-written, long-written}
-use Rattle.network_file.proofs.RoundTrip.{refused-says, passed-says, read-passes, read-stands}
-use Rattle.ledger.specs.Sessions.{View}
+use Rattle.network_file.proofs.RoundTrip.{refused-says, passed-says, read-stands, loaded-passes}
 use Rattle.ledger.specs.Sound.{intact}
 use Rattle.ledger.specs.Demand.{fresh}
-use Rattle.ledger.proofs.Intact.{fresh-intact}
 use Rattle.state.specs.declared.State.{State}
 use Rattle.state.specs.State.{viewOf, freshState}
-use Rattle.state.proofs.Replies.{fresh-shown}
+use Rattle.state.proofs.Replies.{first-view, first-intact}
 use Rattle.call_records.specs.Records.{callsIn}
 use Rattle.call_records.proofs.Calls.{counted-part}
 use Rattle.text.specs.Lines.{networkLine}
@@ -62,19 +60,16 @@ module _ (file calls : List ℕ) (bytes : IsBytes file) (l : Loaded) (reads : Re
     says = passed-says file l reads e .1
 
     module _ (st : State) (begun : st ≡ freshState (l .network)) where
-      first-view : viewOf st ≡ fresh said
-      first-view = ap viewOf begun ∙ fresh-shown (l .network) ∙ ap fresh (read-stands file said l bytes says reads)
-
-      first-intact : intact (viewOf st) ≡ true
-      first-intact = subst (λ (v : View). intact v ≡ true) (sym first-view) (fresh-intact said (read-passes file said bytes says))
+      said-view : viewOf st ≡ fresh said
+      said-view = first-view (l .network) st begun ∙ ap fresh (read-stands file said l bytes says reads)
 
       read-text : (n : ℕ) → n ≡ min (length calls) 65536 → transcript file calls ≡ linesOf 1 (viewOf st) (callsIn (take n calls))
       unfolding transcript
-      read-text n q = rw (says, first-view, counted-part calls n q .0)
+      read-text n q = rw (says, said-view, counted-part calls n q .0)
 
       pub read-room : (n : ℕ) → n ≡ min (length calls) 65536 → (m : ℕ) → length (transcript file calls) ≤ m
           → (intact (viewOf st) ≡ true) × (length (take n calls) ≤ 65536) × (length (linesOf 1 (viewOf st) (callsIn (take n calls))) ≤ m)
-      read-room n q m h = (first-intact, counted-part calls n q .1, rw (read-text n q) at h)
+      read-room n q m h = (first-intact (l .network) st begun (loaded-passes file l bytes reads e), counted-part calls n q .1, rw (read-text n q) at h)
 
       pub read-put : (n : ℕ) → n ≡ min (length calls) 65536 → (before after : List ℕ) (k : ℕ) → Puts 0 (linesOf 1 (viewOf st) (callsIn (take n calls))) before after k
           → Puts 0 (transcript file calls) before after k

@@ -10,8 +10,9 @@ use Rattle.network_file.specs.Reading.{readNetwork}
 use Rattle.ledger.specs.Sessions.{View}
 use Rattle.ledger.specs.Calls.{Call, refusal}
 use Rattle.ledger.specs.Ledger.{AnsweredCall, did, callOf}
-use Rattle.ledger.specs.Demand.{Demand3}
+use Rattle.ledger.specs.Demand.{fresh, Demand3}
 use Rattle.call_records.specs.Records.{callsIn, counted}
+use Rattle.call_records.specs.Served.{viewAfterAll}
 use Rattle.text.specs.Characters.{questionMark}
 use Rattle.text.specs.Lines.{letterOf, line, liveLine}
 use Rattle.report.specs.Transcript.{transcript}
@@ -40,6 +41,7 @@ pub record Transcribed (file calls : List ℕ) (net : Topology) : Type 0 where
   pub last : View
   pub made : map callOf steps ≡ madeIn (callsIn (counted calls))
   pub text : transcript file calls ≡ stepLines 1 steps ++ (unreadLine 1 (callsIn (counted calls)) ++ liveLine (length (last .live)))
+  pub after : last ≡ viewAfterAll (fresh net) (callsIn (counted calls))
   pub demand : Demand3 net last steps
 
 -- THE TEXT OF A RUN SHOWS THE ANSWERS OF A LIST OF CALLS THAT KEEPS DEMAND 3

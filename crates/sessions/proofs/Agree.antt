@@ -7,7 +7,7 @@ use Rattle.refusals.proofs.Refusals.{refusal-only}
 use Rattle.ledger.specs.Sessions.{View}
 use Rattle.ledger.specs.Calls.{Call, Quote, Reply, schedule, freed, refusal, reply, next, lookup, freeCount}
 use Rattle.ledger.specs.Ledger.{AnsweredCall, did, callOf}
-use Rattle.ledger.specs.Demand.{Runs, over, then}
+use Rattle.ledger.specs.Demand.{Runs, over, callThen}
 use Rattle.ledger.proofs.Quoted.{quote-depends}
 use Rattle.state.specs.declared.Quoted.{Quoted}
 use Rattle.state.specs.State.{viewOf, notQuoted, Quotes}
@@ -31,9 +31,9 @@ quotes-same (refusal k count) a b p q = p .3 ∙ ap notQuoted (refusal-only (p .
 runs-same : {v last end : View} {steps others : List AnsweredCall} → Runs v steps last → Runs v others end → map callOf steps ≡ map callOf others
     → (steps ≡ others) × (last ≡ end)
 runs-same over over e = (refl, refl)
-runs-same over (then call rest) e = absurd (nil≢cons e)
-runs-same (then call rest) over e = absurd (nil≢cons (sym e))
-runs-same {v} {last} {end} (then call rest) (then {steps = others} call′ rest′) e =
+runs-same over (callThen call rest) e = absurd (nil≢cons e)
+runs-same (callThen call rest) over e = absurd (nil≢cons (sym e))
+runs-same {v} {last} {end} (callThen call rest) (callThen {steps = others} call′ rest′) e =
     let c : call′ ≡ call = sym (head-eq-of-cons-eq e) in
     let more = runs-same rest (subst (λ (x : Call). Runs (next v x) others end) c rest′) (tail-eq-of-cons-eq e) in
     (ap₂ _∷_ (ap (λ (x : Call). did x (reply v x)) (sym c)) (more .0), more .1)

@@ -18,7 +18,7 @@ use Rattle.ledger.specs.Sessions.{Session, View, heldIn}
 use Rattle.ledger.specs.Sound.{intact}
 use Rattle.ledger.specs.Calls.{Call, SetUp, Quote, Release, Reply, reply, next, lookup}
 use Rattle.ledger.specs.Ledger.{AnsweredCall, did}
-use Rattle.ledger.specs.Demand.{fresh, Demand3, Runs, over, then}
+use Rattle.ledger.specs.Demand.{fresh, Demand3, Runs, over, callThen}
 use Rattle.ledger.proofs.Intact.{fresh-intact}
 use Rattle.ledger.proofs.Freeing.{release-frees}
 use Rattle.ledger.proofs.Whole.{runs-intact, demand3}
@@ -36,7 +36,7 @@ use Rattle.sessions.proofs.Beginning.{shut-passed}
 -- one step of the stored states is one of the rules
 step : {v left last : View} {steps : List AnsweredCall} (call : Call) (r : Reply) → r ≡ reply v call → left ≡ next v call → Runs left steps last → Runs v (did call r ∷ steps) last
 step {v} {left} {last} {steps} call r e l runs =
-    subst (λ (x : Reply). Runs v (did call x ∷ steps) last) (sym e) (then call (subst (λ (u : View). Runs u steps last) l runs))
+    subst (λ (x : Reply). Runs v (did call x ∷ steps) last) (sym e) (callThen call (subst (λ (u : View). Runs u steps last) l runs))
 
 -- WHAT STORED STATES SHOW GOES BY THE RULES, call by call
 pub stored-by-rules : StoredByRules

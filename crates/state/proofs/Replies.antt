@@ -7,11 +7,15 @@ use lib.ListN.{length}
 use Rattle.refusals.specs.Refusals.{given, pass}
 use Rattle.refusals.specs.Refusals as outcome
 use Rattle.network.specs.Network.{Topology, topologyOf}
+use Rattle.network.specs.declared.Network.{Network}
+use Rattle.network.specs.Checks.{networkCheck}
 use Rattle.ledger.specs.Held.{Holding}
 use Rattle.ledger.specs.Sessions.{Session, View, isLive}
 use Rattle.ledger.specs.Routes.{routeCheck}
 use Rattle.ledger.specs.Sound.{intact}
 use Rattle.ledger.specs.Calls.{Call, SetUp, Quote, Release, Reply, schedule, freed, refusal, unless, full, callCheck, granted, reply, Effect, leaves, effect, liveAfter, left, next}
+use Rattle.ledger.specs.Demand.{fresh}
+use Rattle.ledger.proofs.Intact.{fresh-intact}
 use Rattle.ledger.proofs.Answered.{reply-intact}
 use Rattle.ledger.proofs.Kept.{next-intact}
 use Rattle.ledger.proofs.Scheduled.{linksOf, Scheduled, scheduled, scheduled-back}
@@ -21,7 +25,7 @@ use Rattle.table.specs.Table.{liveOf}
 use Rattle.table.proofs.Live.{in-none}
 use Rattle.state.specs.declared.State.{State}
 use Rattle.state.specs.declared.Quoted.{Quoted}
-use Rattle.state.specs.State.{viewOf, FreshShown, Quotes, quotedIn, Leaves, LeftIntact}
+use Rattle.state.specs.State.{viewOf, freshState, FreshShown, Quotes, quotedIn, Leaves, LeftIntact}
 
 -- ---- the checks of a call after 0, one after the other
 module _ (net : Topology) (ss : List Session) (n : ℕ) (route : List ℕ) where
@@ -90,6 +94,14 @@ moves st call f e other t l =
 -- A STATE WITHOUT SESSIONS SHOWS A FRESH NETWORK
 pub fresh-shown : FreshShown
 fresh-shown net = ap (λ (ss : List Session). record { network = topologyOf net; live = ss }) (in-none _)
+
+-- the state that a list begins with shows a fresh network, and isn't broken
+module _ (net : Network) (st : State) (begun : st ≡ freshState net) where
+  pub first-view : viewOf st ≡ fresh (topologyOf net)
+  first-view = ap viewOf begun ∙ fresh-shown net
+
+  pub first-intact : networkCheck (topologyOf net) ≡ given pass → intact (viewOf st) ≡ true
+  first-intact passed = subst (λ (v : View). intact v ≡ true) (sym first-view) (fresh-intact (topologyOf net) passed)
 
 -- A CALL ON A STATE THAT ISN'T BROKEN LEAVES ONE THAT ISN'T BROKEN
 pub left-intact : LeftIntact

@@ -1,6 +1,7 @@
 -- `call_records::read_record` meets its contract. Assumes nothing.
 use borrow.Author.Needs.{needs}
 use Rattle.call_records.proofs.Cases.{none-left, set-up-read, quote-read, release-read, none-read}
+use Rattle.call_records.proofs.Calls.{reads-said}
 use Rattle.call_records.proofs.read_record.Statement.{statement}
 use Rattle.call_records.proofs.read_record.Tie as tie
 
@@ -8,7 +9,7 @@ unreadable-requires : tie.Need-unreadable-requires
 unreadable-requires c κs = search needs
 
 returns : tie.Need-returns
-returns c = none-left _ _ (c .before .if1 .taken) (c .unreadable .ensures)
+returns c = reads-said _ _ (none-left _ _ (c .before .if1 .taken) (c .unreadable .ensures))
 
 shared-slice-read-kind : tie.Need-shared-slice-read-kind
 shared-slice-read-kind c = search needs
@@ -26,16 +27,16 @@ unreadable-requires-2 : tie.Need-unreadable-requires-2
 unreadable-requires-2 c κs = search needs
 
 returns-2 : tie.Need-returns-2
-returns-2 c = set-up-read _ _ (c .before .match .keys1) (c .with-route .ensures)
+returns-2 c = reads-said _ _ (set-up-read _ _ (c .before .match .keys1) (c .with-route .ensures))
 
 returns-3 : tie.Need-returns-3
-returns-3 c = quote-read _ _ (c .before .match .keys2) (c .with-route2 .ensures)
+returns-3 c = reads-said _ _ (quote-read _ _ (c .before .match .keys2) (c .with-route2 .ensures))
 
 returns-4 : tie.Need-returns-4
-returns-4 c = release-read _ _ (c .before .match .keys3) (c .within .ensures)
+returns-4 c = reads-said _ _ (release-read _ _ (c .before .match .keys3) (c .within .ensures))
 
 returns-5 : tie.Need-returns-5
-returns-5 c = none-read _ _ (c .before .match .rest .0 .0 .1) (c .before .match .rest .0 .1) (c .before .match .rest .1) (c .unreadable2 .ensures)
+returns-5 c = reads-said _ _ (none-read _ _ (c .before .match .rest .0 .0 .1) (c .before .match .rest .0 .1) (c .before .match .rest .1) (c .unreadable2 .ensures))
 
 pub read-record-spec : {M : Type 1} → statement M
 read-record-spec =

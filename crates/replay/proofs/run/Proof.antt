@@ -45,20 +45,20 @@ made-requires : tie.Need-made-requires Inv-loop μ-loop
 made-requires c κs =
     let start = c .before .before .before .before .before .before in
     let loop = c .before .before .before .before .loop in
-    (loop .inv .unbroken, record-within (start .args .calls .now) (loop .from) (c .before .before .before .loop-test .taken) _ (c .before .read-record .ensures))
+    (loop .inv .unbroken, record-within (start .args .calls .now) (loop .from) (c .before .before .before .loop-test .taken) _ (c .before .read-record .ensures .0))
 
 add-from : tie.Need-add-from Inv-loop μ-loop
 add-from c =
     let start = c .before .before .before .before .before .before .before .before in
     let loop = c .before .before .before .before .before .before .loop in
-    let n = next-within (start .args .calls .now) (loop .from) (c .before .before .before .before .before .loop-test .taken) _ (c .before .before .before .read-record .ensures) in
+    let n = next-within (start .args .calls .now) (loop .from) (c .before .before .before .before .before .loop-test .taken) _ (c .before .before .before .read-record .ensures .0) in
     omega (arith, n)
 
 loop-less : tie.Need-loop-less Inv-loop μ-loop
 loop-less c =
     let start = c .before .before .before .before .before .before .before .before in
     let loop = c .before .before .before .before .before .before .loop in
-    let n = next-within (start .args .calls .now) (loop .from) (c .before .before .before .before .before .loop-test .taken) _ (c .before .before .before .read-record .ensures) in
+    let n = next-within (start .args .calls .now) (loop .from) (c .before .before .before .before .before .loop-test .taken) _ (c .before .before .before .read-record .ensures .0) in
     omega (arith, n)
 
 loop-again : tie.Need-loop-again Inv-loop μ-loop
@@ -66,7 +66,7 @@ loop-again c =
     let start = c .before .before .before .before .before .before .before .before in
     let loop = c .before .before .before .before .before .before .loop in
     one-run _ (viewAfterAll (viewOf (start .args .first)) (callsIn (start .args .calls .now))) (start .args .calls .now) (loop .st) (loop .from) (loop .inv)
-    (c .before .before .before .before .before .loop-test .taken) _ (c .before .before .before .read-record .ensures) _ (c .before .made .ensures)
+    (c .before .before .before .before .before .loop-test .taken) _ (c .before .before .before .read-record .ensures .0) _ (c .before .made .ensures)
 
 returns : tie.Need-returns Inv-loop μ-loop
 returns c =

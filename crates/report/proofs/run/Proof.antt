@@ -49,7 +49,7 @@ serve-requires c κs =
     let start = c .before .before .before .before .before .before .before .before in
     let loop = c .before .before .before .before .before .loop in
     let more = c .before .before .before .before .loop-test .taken in
-    let read = c .before .before .read-record .ensures in (
+    let read = c .before .before .read-record .ensures .0 in (
       loop .inv .unbroken,
       record-within (start .args .calls .now) (loop .from) more _ read,
       line-room (start .pre .2) (loop .inv) more _ read,
@@ -58,7 +58,7 @@ serve-requires c κs =
 add-from : tie.Need-add-from Inv-loop μ-loop
 add-from c =
     let start = c .before .before .before .before .before .before .before .before .before .before .before .before .before in
-    let n = next-within (start .args .calls .now) (c .before .before .before .before .before .before .before .before .before .before .loop .from) (c .before .before .before .before .before .before .before .before .before .loop-test .taken) _ (c .before .before .before .before .before .before .before .read-record .ensures) in
+    let n = next-within (start .args .calls .now) (c .before .before .before .before .before .before .before .before .before .before .loop .from) (c .before .before .before .before .before .before .before .before .before .loop-test .taken) _ (c .before .before .before .before .before .before .before .read-record .ensures .0) in
     omega (arith, n, start .pre .1)
 
 add-place : tie.Need-add-place Inv-loop μ-loop
@@ -70,13 +70,13 @@ add-place c =
 loop-less : tie.Need-loop-less Inv-loop μ-loop
 loop-less c =
     let start = c .before .before .before .before .before .before .before .before .before .before .before .before .before in
-    let n = next-within (start .args .calls .now) (c .before .before .before .before .before .before .before .before .before .before .loop .from) (c .before .before .before .before .before .before .before .before .before .loop-test .taken) _ (c .before .before .before .before .before .before .before .read-record .ensures) in
+    let n = next-within (start .args .calls .now) (c .before .before .before .before .before .before .before .before .before .before .loop .from) (c .before .before .before .before .before .before .before .before .before .loop-test .taken) _ (c .before .before .before .before .before .before .before .read-record .ensures .0) in
     omega (arith, n)
 
 loop-again : tie.Need-loop-again Inv-loop μ-loop
 loop-again c =
     let start = c .before .before .before .before .before .before .before .before .before .before .before .before .before in
-    one-run (start .pre .2) (c .before .before .before .before .before .before .before .before .before .before .loop .inv) (c .before .before .before .before .before .before .before .before .before .loop-test .taken) _ (c .before .before .before .before .before .before .before .read-record .ensures) _ _ (c .before .before .before .before .serve .ensures)
+    one-run (start .pre .2) (c .before .before .before .before .before .before .before .before .before .before .loop .inv) (c .before .before .before .before .before .before .before .before .before .loop-test .taken) _ (c .before .before .before .before .before .before .before .read-record .ensures .0) _ _ (c .before .before .before .before .serve .ensures)
 
 cast-put-live : tie.Need-cast-put-live Inv-loop μ-loop
 cast-put-live c = let f = few-live (c .before .before .loop .st) (c .before .before .loop .inv .unbroken) in omega (arith, f)
