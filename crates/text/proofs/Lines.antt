@@ -1,6 +1,6 @@
 -- Each text as the pieces that are put for it. Assumes nothing.
 use mathlib.Core.Path.{_≡_, refl}
-use mathlib.Core.List.{List, [], _∷_, _++_, map, append-nil}
+use mathlib.Core.List.{List, [], _∷_, _++_, append-nil}
 use Prim.Native.Nat.{ℕ, _≤_}
 use native.Mathlib.Omega.{arith}
 use lib.ListN.{length, take}
@@ -9,9 +9,9 @@ use Rattle.places.proofs.Firsts.{firsts-take}
 use Rattle.forwarding.specs.declared.Held.{Held}
 use Rattle.ledger.specs.Held.{Holding, holdingOf}
 use Rattle.ledger.specs.Calls.{schedule, freed, refusal}
-use Rattle.text.specs.Characters.{space, newline, okWord, noWord}
+use Rattle.text.specs.Characters.{space, newline, slash, okWord, noWord}
 use Rattle.text.specs.Digits.{dec, spaced, spacedAll}
-use Rattle.text.specs.Lines.{countText, groupsOf, groupsText, scheduleText, lineHead, line}
+use Rattle.text.specs.Lines.{countText, groupsOf, moreGroups, groupsText, scheduleText, lineHead, line}
 use Rattle.text.proofs.Chains.{joined}
 
 pub spaced-is : (n : ℕ) → spaced n ≡ joined ((space ∷ []) ∷ dec n ∷ [])
@@ -22,13 +22,26 @@ pub head-is : (place letter : ℕ) → lineHead place letter ≡ joined (dec pla
 unfolding lineHead joined
 head-is place letter = refl
 
--- each group is a piece
-groups-is : (gs : List (List ℕ)) → groupsText gs ≡ joined (map spacedAll gs)
+-- ---- each group is a piece, and so is the mark before each but the first
+abbrev pub morePieces : List (List ℕ) → List (List ℕ)
+morePieces [] = []
+morePieces (g ∷ gs) = (space ∷ slash ∷ []) ∷ spacedAll g ∷ morePieces gs
+
+abbrev pub groupPieces : List (List ℕ) → List (List ℕ)
+groupPieces [] = []
+groupPieces (g ∷ gs) = spacedAll g ∷ morePieces gs
+
+more-is : (gs : List (List ℕ)) → moreGroups gs ≡ joined (morePieces gs)
+unfolding moreGroups joined
+more-is [] = refl
+more-is (g ∷ gs) = rw (more-is gs)
+
+pub groups-is : (gs : List (List ℕ)) → groupsText gs ≡ joined (groupPieces gs)
 unfolding groupsText joined
 groups-is [] = refl
-groups-is (g ∷ gs) = rw (groups-is gs)
+groups-is (g ∷ gs) = rw (more-is gs)
 
-pub schedule-is : (held : Holding) (count : ℕ) → scheduleText held count ≡ joined (spaced (held .delay) ∷ spaced count ∷ map spacedAll (groupsOf held))
+schedule-is : (held : Holding) (count : ℕ) → scheduleText held count ≡ joined (spaced (held .delay) ∷ spaced count ∷ groupPieces (groupsOf held))
 unfolding scheduleText joined
 schedule-is held count = rw (groups-is (groupsOf held))
 

@@ -3,7 +3,7 @@ use mathlib.Core.Path.{_≡_, refl, ap, _∙_}
 use mathlib.Core.Bool.{Bool, true, false}
 use mathlib.Core.Logic.{_⊎_, inl, inr, ⊎-elim}
 use mathlib.Core.List.{List, [], _∷_, _++_, map}
-use Prim.Native.Nat.{ℕ, zero, suc, _+_, _*_, _/_, _^_, _≤_, _<_}
+use Prim.Native.Nat.{ℕ, zero, suc, _+_, _-_, _*_, _/_, _^_, _≤_, _<_}
 use native.Mathlib.Nat.{pow-suc}
 use native.Mathlib.Omega.{arith}
 use borrow.Author.Tests.{ltb-true, ltb-false}
@@ -13,10 +13,10 @@ use Rattle.ledger.specs.Held.{Holding}
 use Rattle.ledger.specs.Calls.{schedule, freed, refusal}
 use Rattle.text.specs.Characters.{space, newline, okWord, noWord, liveWord, netNoWords}
 use Rattle.text.specs.Digits.{dec, spaced, spacedAll}
-use Rattle.text.specs.Lines.{countText, groupsOf, scheduleText, lineHead, line, liveLine, networkLine, ScheduledLong, FreedLong, RefusedLong, BlockedLong, LiveLong, NetworkLong}
+use Rattle.text.specs.Lines.{countText, groupsOf, groupsText, scheduleText, lineHead, line, liveLine, networkLine, ScheduledLong, FreedLong, RefusedLong, BlockedLong, LiveLong, NetworkLong}
 use Rattle.text.proofs.Digits.{dec-small, long-more}
 use Rattle.text.proofs.Chains.{joined}
-use Rattle.text.proofs.Lines.{head-is, schedule-is, count-none, count-some, scheduled-is, freed-is, refused-is, words-is}
+use Rattle.text.proofs.Lines.{morePieces, groupPieces, head-is, groups-is, count-none, count-some, scheduled-is, freed-is, refused-is, words-is}
 
 by-ten : (n : ℕ) → (n < 10) ⊎ (10 ≤ n)
 by-ten n = cases (ltb n 10) refl
@@ -65,11 +65,27 @@ head-long place letter h =
     let l : length (dec place) ≤ 5 = dec-long 4 place h in
     omega (arith, long-of (lineHead place letter) (dec place ∷ (space ∷ []) ∷ (letter ∷ []) ∷ []) (head-is place letter))
 
+-- groups are as long as each of them, and two more for the mark before each but the first
+more-long : (gs : List (List ℕ)) → total (morePieces gs) ≡ total (map spacedAll gs) + 2 * length gs
+more-long [] = refl
+more-long (g ∷ gs) = omega (arith, more-long gs)
+
+groups-long : (gs : List (List ℕ)) → length (groupsText gs) ≡ total (map spacedAll gs) + 2 * (length gs - 1)
+groups-long [] = long-of (groupsText []) [] (groups-is [])
+groups-long (g ∷ gs) = omega (arith, long-of (groupsText (g ∷ gs)) (groupPieces (g ∷ gs)) (groups-is (g ∷ gs)), more-long gs)
+
 schedule-long : (held : Holding) (count : ℕ) → held .delay < 10000 → count < 100000 → ((i : ℕ) → getD (held .frames) i 0 < 100) → length (scheduleText held count) ≤ 11 + 3 * length (held .frames)
+unfolding scheduleText
 schedule-long held count d c f =
     let m : length (spaced (held .delay)) ≤ 5 = spaced-long 3 (held .delay) d in
     let n : length (spaced count) ≤ 6 = spaced-long 4 count c in
-    omega (arith, long-of (scheduleText held count) (spaced (held .delay) ∷ spaced count ∷ map spacedAll (groupsOf held)) (schedule-is held count), group-long (held .frames) f)
+    omega (
+      arith,
+      length-append (spaced (held .delay)) (spaced count ++ groupsText (groupsOf held)),
+      length-append (spaced count) (groupsText (groupsOf held)),
+      groups-long (groupsOf held),
+      group-long (held .frames) f,
+    )
 
 -- ---- the lines
 pub scheduled-long : ScheduledLong

@@ -10,6 +10,10 @@ space = 32
 abbrev pub newline : ℕ
 newline = 10
 
+-- parts the groups of numbers of a schedule, of which there is one
+abbrev pub slash : ℕ
+slash = 47
+
 -- the digit 0, which the other digits follow
 abbrev pub digit0 : ℕ
 digit0 = 48

@@ -7,7 +7,7 @@ use lib.ListN.{length, getD}
 use lib.Dec.{eqb}
 use Rattle.ledger.specs.Held.{Holding}
 use Rattle.ledger.specs.Calls.{Call, SetUp, Quote, Release, Reply, schedule, freed, refusal}
-use Rattle.text.specs.Characters.{space, newline, letterS, letterQ, letterR, okWord, noWord, liveWord, netNoWords}
+use Rattle.text.specs.Characters.{space, newline, slash, letterS, letterQ, letterR, okWord, noWord, liveWord, netNoWords}
 use Rattle.text.specs.Digits.{dec, spaced, spacedAll}
 
 -- "S, Q or R"
@@ -24,10 +24,15 @@ countText number count = cond (eqb number 18) (spaced count) []
 abbrev pub groupsOf : Holding → List (List ℕ)
 groupsOf held = held .frames ∷ []
 
--- the groups one after the other
+-- the groups after the first, each after a slash
+unfoldable pub moreGroups : List (List ℕ) → List ℕ
+moreGroups [] = []
+moreGroups (g ∷ gs) = (space ∷ slash ∷ []) ++ (spacedAll g ++ moreGroups gs)
+
+-- the groups one after the other, parted by a slash
 unfoldable pub groupsText : List (List ℕ) → List ℕ
 groupsText [] = []
-groupsText (g ∷ gs) = spacedAll g ++ groupsText gs
+groupsText (g ∷ gs) = spacedAll g ++ moreGroups gs
 
 -- "ok with delay, count and frames"
 unfoldable pub scheduleText : Holding → ℕ → List ℕ
