@@ -4,6 +4,8 @@
  *
  *     cc -Ic program.c target/staticlib/libexports.a
  *
+ * for x86-64. No function needs more than 64 KiB of stack.
+ *
  * A slice is a pointer and then the number of its elements, which for `out` of frames_lookup are numbers of two bytes. Where
  * that number is 0 the pointer may be NULL, at every slice of every function. `out` must not overlap another slice. Nothing is
  * kept from one call to the next, so that several threads may call at the same time, each with an `out` of its own.

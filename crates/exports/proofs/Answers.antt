@@ -6,7 +6,7 @@ use Prim.Native.Nat.{ℕ, _+_}
 use lib.ListN.{length}
 use Rattle.refusals.specs.declared.Refusal.{Refusal}
 use Rattle.refusals.specs.declared.Verdict.the-variants.{Passed, Refused}
-use Rattle.refusals.specs.Refusals.{Outcome, given, refused, onGiven, refusalNumber}
+use Rattle.refusals.specs.Refusals.{Outcome, given, refused, onGiven, givenOr, refusalNumber}
 use Rattle.numbers.specs.Numbers.{IsBytes}
 use Rattle.network.specs.Network.{Topology, topologyOf}
 use Rattle.network_file.specs.declared.Loaded.{Loaded}
@@ -18,12 +18,14 @@ use Rattle.network_file.proofs.RoundTrip.{refused-says, passed-says, read-passe
 use Rattle.ledger.specs.Sessions.{View}
 use Rattle.ledger.specs.Sound.{intact}
 use Rattle.ledger.specs.Calls.{Call}
-use Rattle.ledger.specs.Demand.{fresh}
+use Rattle.ledger.specs.Demand.{fresh, Demand3}
 use Rattle.ledger.proofs.Intact.{fresh-intact}
 use Rattle.ledger.proofs.Kept.{next-intact}
 use Rattle.call_records.specs.Records.{callsIn, counted}
 use Rattle.call_records.specs.Served.{viewAfter, viewAfterAll}
-use Rattle.exports.specs.Exported.{asNumber, Exports, stateAfter, AfterIntact, writtenAgain}
+use Rattle.report.specs.Transcribed.{Transcribed}
+use Rattle.report.proofs.Demands.{transcript-demand3}
+use Rattle.exports.specs.Exported.{asNumber, Exports, stateAfter, AfterIntact, AfterDemand3, writtenAgain}
 
 -- what a writer wrote, and what was refused before anything was written
 pub written-number : (o : Outcome (List ℕ)) (before after : List ℕ) (r : Written) → Writes o before after r → (k : ℕ) → k ≡ asNumber (lengthRead r) → Exports o before after k
@@ -72,3 +74,12 @@ after-intact file calls bytes v e = go (readNetwork file) refl e
         let is : viewAfterAll (fresh net) (callsIn (counted calls)) ≡ v = cc in
         subst (λ (x : View). intact x ≡ true) is (all-intact (callsIn (counted calls)) (fresh net) (fresh-intact net (read-passes file net bytes q)))
     go (refused n) q w = let z : _≡_ {A = ℕ} 0 1 = cc in cc
+
+-- THE STATE AFTER CALL RECORDS KEEPS DEMAND 3
+pub after-demand3 : AfterDemand3
+unfolding stateAfter
+after-demand3 file calls net v bytes e q =
+    let t : Transcribed file calls net = transcript-demand3 file calls net bytes e in
+    let is : given (t .last) ≡ given v = ap given (t .after) ∙ sym (ap (λ (o : Outcome Topology). onGiven o (λ n. given (viewAfterAll (fresh n) (callsIn (counted calls))))) e) ∙ q in
+    let same : t .last ≡ v = ap (givenOr v) is in
+    record { steps = t .steps; made = t .made; demand = subst (λ (x : View). Demand3 net x (t .steps)) same (t .demand) }

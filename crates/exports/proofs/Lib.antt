@@ -1,5 +1,5 @@
 pub mod Answers
 pub mod Shows
-pub mod Below
+pub mod Sizes
 pub mod Numbers
 pub mod Values

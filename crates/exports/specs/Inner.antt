@@ -1,6 +1,6 @@
 -- Words of the contracts of inner functions. They are no part of what is promised: the exported functions promise in the words of `specs/Exported`. Assumes nothing.
 use mathlib.Core.List.{List, _∷_, _++_}
-use Prim.Native.Nat.{ℕ, _≤_}
+use Prim.Native.Nat.{ℕ}
 use lib.ListN.{length}
 use Rattle.places.specs.Places.{firsts}
 use Rattle.refusals.specs.Refusals.{Outcome, given, refused, refusalNumber}

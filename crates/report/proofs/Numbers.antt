@@ -1,7 +1,7 @@
 -- The numbers of refusals that a line can show. Assumes nothing.
 use mathlib.Core.Path.{_≡_}
-use mathlib.Core.Bool.{Bool, true, false, not}
-use mathlib.Core.List.{List, _∷_}
+use mathlib.Core.Bool.{Bool, true, false, not, cond}
+use mathlib.Core.List.{List, [], _∷_}
 use Prim.Native.Nat.{ℕ, zero, suc, _+_, _≤_}
 use native.Mathlib.Omega.{arith}
 use lib.ListN.{length, getD, drop}
@@ -10,14 +10,15 @@ use Rattle.refusals.specs.Refusals.{Outcome, given, refused, Ruling, refuseIf, 
 use Rattle.numbers.specs.Numbers.{numberIn}
 use Rattle.network.specs.Network.{Topology}
 use Rattle.network.specs.declared.Link.{Link}
-use Rattle.network.specs.Checks.{badFrames, badRange, badClosed, badCount, badCycle, linkCheck}
+use Rattle.network.specs.Checks.{badFrames, badRange, badClosed, badCount, badCycle, linkCheck, linksCheck, networkCheck}
 use Rattle.records.specs.declared.Field.{Field}
 use Rattle.records.specs.Reading.{needed, valuesIn, strayBits, restated, readMapped, readRecord}
 use Rattle.network_file.specs.Fields.{linkLayout, linkOf}
 use Rattle.network_file.specs.Reading.{readLink, readLinks, readNetwork}
-use Rattle.ledger.specs.Sessions.{Session, isLive}
+use Rattle.ledger.specs.Sessions.{Session, View, isLive}
 use Rattle.ledger.specs.Routes.{badLength, unknownLink, linkTwice, ratesApart, ratesOf, routeCheck}
-use Rattle.ledger.specs.Calls.{Call, SetUp, Quote, Release, full, callCheck}
+use Rattle.ledger.specs.Sound.{intact}
+use Rattle.ledger.specs.Calls.{Call, SetUp, Quote, Release, full, callCheck, lookIn, lookup}
 
 -- a call that is refused is refused with m at most
 abbrev Most : {A : Type 0} → ℕ → Outcome A → Type 0
@@ -35,6 +36,10 @@ most-or m (refused n) o h g = h
 most-on : {A B : Type 0} (m : ℕ) (o : Outcome A) (f : A → Outcome B) → Most m o → ((a : A) → Most m (f a)) → Most m (onGiven o f)
 most-on m (given a) f h g = g a
 most-on m (refused n) f h g = h
+
+most-cond : {A : Type 0} (m : ℕ) (b : Bool) (o p : Outcome A) → Most m o → Most m p → Most m (cond b o p)
+most-cond m true o p h g = h
+most-cond m false o p h g = g
 
 -- one more check before others
 most-check : {A : Type 0} (m : ℕ) (b : Bool) (n : ℕ) (o : Outcome A) → n ≤ m → Most m o → Most m (refusedOr (refuseIf b n) o)
@@ -106,3 +111,27 @@ call-most net ss (Release n) = most-if 19 (not (isLive n ss)) 19 (omega arith)
 
 pub call-number : (net : Topology) (ss : List Session) (call : Call) (k : ℕ) → callCheck net ss call ≡ refused k → k ≤ 19
 call-number net ss call k e = refused-most 19 (callCheck net ss call) k (call-most net ss call) e
+
+-- ---- a network given as values: 2, 3, 7, 8 and 9
+links-check-most : (T : ℕ) (ls : List Link) → Most 10 (linksCheck T ls)
+unfolding linksCheck
+links-check-most T [] = tt
+links-check-most T (l ∷ ls) = most-or 10 (linkCheck T l) (linksCheck T ls) (link-most T l) (links-check-most T ls)
+
+network-most : (t : Topology) → Most 10 (networkCheck t)
+unfolding networkCheck
+network-most t =
+    most-check 10 (badCount (length (t .links))) 2 _ (omega arith)
+    (most-check 10 (badCycle (t .ticks)) 3 _ (omega arith) (links-check-most (t .ticks) (t .links)))
+
+pub network-number : (t : Topology) (n : ℕ) → networkCheck t ≡ refused n → n ≤ 10
+network-number t n e = refused-most 10 (networkCheck t) n (network-most t) e
+
+-- ---- lookup: 0 and 19
+look-most : (n : ℕ) (ss : List Session) → Most 19 (lookIn n ss)
+look-most n [] = omega arith
+look-most n (s ∷ ss) = most-cond 19 (eqb (s .number) n) (given s) (lookIn n ss) tt (look-most n ss)
+
+pub lookup-number : (v : View) (number k : ℕ) → lookup v number ≡ refused k → k ≤ 19
+unfolding lookup
+lookup-number v number k e = refused-most 19 (lookup v number) k (most-check 19 (not (intact v)) 0 (lookIn number (v .live)) (omega arith) (look-most number (v .live))) e
