@@ -1,7 +1,7 @@
 //! The routes compared with the listing: how many of each sort there were, and how many there have to be.
 
 use crate::listing::Listed;
-use crate::route::{Hop, MAX_HOPS};
+use crate::route::{Answer, Hop, MAX_HOPS};
 use crate::sorts::{add_each, print_lines, sort, sorts_of_hops, too_few_in, Line, Sort};
 use std::collections::HashSet;
 use std::hash::{DefaultHasher, Hash, Hasher};
@@ -57,8 +57,32 @@ impl Default for Compared {
 }
 
 impl Compared {
-    /// Counts a route whose answer by the library was compared with the listing's.
-    pub fn add(&mut self, listed: &Listed) {
+    /// Compares the answers that a text shows with those of the listing, and counts their routes; what differs, in words.
+    /// The searches are those of the model for these answers in turn, nothing where a route wasn't listed.
+    pub fn compare(&mut self, text: &str, searches: &[Option<Listed>]) -> Result<(), String> {
+        let answers: Vec<Answer> = text.lines().filter_map(answer).collect();
+        if answers.len() != searches.len() {
+            return Err(
+                "the text doesn't have one answer for each search of the model".to_string(),
+            );
+        }
+        for (answer, search) in answers.iter().zip(searches) {
+            let Some(listed) = search else {
+                continue;
+            };
+            if listed.answer != *answer {
+                let listing = &listed.answer;
+                return Err(format!(
+                    "the text's answer isn't the listing's\ntext: {answer:?}\nlisting: {listing:?}"
+                ));
+            }
+            self.add(listed);
+        }
+        Ok(())
+    }
+
+    /// Counts a route whose answer was compared with the listing's.
+    fn add(&mut self, listed: &Listed) {
         self.answers += 1;
         let is_new = self.routes.insert(fingerprint(listed));
         if is_new {
@@ -107,6 +131,25 @@ impl Compared {
     }
 }
 
+/// The answer that a line of a text shows, if it shows one: a schedule, or that there is none.
+fn answer(line: &str) -> Option<Answer> {
+    let words: Vec<&str> = line.split(' ').collect();
+    match words[..] {
+        [_, _, "ok", delay, count, ref frames @ ..] => Some(Answer::Found {
+            delay: delay.parse().ok()?,
+            count: count.parse().ok()?,
+            frames: frames
+                .iter()
+                .map(|frame| frame.parse().ok())
+                .collect::<Option<_>>()?,
+        }),
+        [_, _, "no", "18", count] => Some(Answer::Blocked {
+            count: count.parse().ok()?,
+        }),
+        _ => None,
+    }
+}
+
 /// A number that tells different routes apart; should two share one, only the first is counted.
 fn fingerprint(listed: &Listed) -> u64 {
     let mut hasher = DefaultHasher::new();
@@ -133,8 +176,13 @@ fn has_factor_above_3(mut number: u32) -> bool {
 #[cfg(test)]
 mod tests {
     use super::*;
-    use crate::listing;
+    use crate::inputs::{self, Input};
+    use crate::listing::{self, MOST_PATHS};
+    use crate::question_four::eight;
+    use crate::random::Random;
     use crate::route::ones;
+    use crate::{dijkstra, model, wrong};
+    use std::cell::RefCell;
 
     /// The routes compared in turn: T, and the K of each hop; Z is K, and every frame is free.
     fn compared(routes: &[(u32, &[u32])]) -> Compared {
@@ -149,6 +197,55 @@ mod tests {
             compared.add(&listing::list(*ticks, &hops));
         }
         compared
+    }
+
+    /// The model's text, and the listing of each of its searches whose route is short enough.
+    fn listed_run(input: &Input) -> (Vec<u8>, Vec<Option<Listed>>) {
+        let searches = RefCell::new(Vec::new());
+        let least = |ticks, hops: &[Hop]| {
+            let is_short = listing::paths(hops.iter().map(|hop| hop.frames)) <= MOST_PATHS;
+            let listed = is_short.then(|| listing::list(ticks, hops));
+            searches.borrow_mut().push(listed);
+            dijkstra::least(ticks, hops)
+        };
+        let text = model::transcript(&input.file, &input.calls, least);
+        (text, searches.take())
+    }
+
+    /// What the listing alone finds in the text.
+    fn found(compared: &mut Compared, text: &[u8], searches: &[Option<Listed>]) -> Option<String> {
+        let text = std::str::from_utf8(text).expect("the text is plain");
+        compared.compare(text, searches).err()
+    }
+
+    #[test]
+    fn another_answer_in_a_text_is_found() {
+        for wrong in wrong::wrong_searches() {
+            let mut compared = Compared::default();
+            let mut random = Random::new(13);
+            let is_found = (0..2_000).any(|_| {
+                let input = inputs::input(&mut random);
+                let (right, searches) = listed_run(&input);
+                assert_eq!(found(&mut compared, &right, &searches), None);
+                let text = (wrong.does)(&input.file, &input.calls);
+                let words = found(&mut compared, &text, &searches);
+                words.is_some_and(|words| words.starts_with("the text's answer isn't"))
+            });
+            assert!(is_found, "{}", wrong.name);
+        }
+    }
+
+    #[test]
+    fn an_answer_too_few_or_unreadable_is_found() {
+        let searches = || vec![Some(listing::list(24, &[eight(&[3, 5])]))];
+        let found = |text| Compared::default().compare(text, &searches()).is_err();
+        assert!(!found("1 Q ok 0 0 3\n2 R ok\nlive 0\n"));
+        assert!(found("1 Q ok 0 0 5\nlive 0\n"));
+        assert!(found("1 Q ok 0 0 3 0\nlive 0\n"));
+        assert!(found("1 Q no 18 0\nlive 0\n"));
+        assert!(found("1 Q ok 0 0 x\nlive 0\n"));
+        assert!(found("1 R ok\nlive 0\n"));
+        assert!(found("1 Q ok 0 0 3\n2 Q ok 0 0 3\nlive 0\n"));
     }
 
     fn seen(sorts: &[Sort]) -> Vec<usize> {

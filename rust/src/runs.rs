@@ -46,24 +46,28 @@ impl Runs {
         }
     }
 
-    /// Compares the run with the model's in rooms that are enough and in rooms that aren't; what differs, in words.
-    pub fn compare(&mut self, case: Case<'_>) -> Result<(), String> {
-        let Input { file, calls } = case.input;
+    /// Compares the run with the model's in rooms that are enough and in rooms that aren't. Answers the bytes that the
+    /// function under test wrote, or what differs, in words.
+    pub fn compare(&mut self, case: Case<'_>) -> Result<Vec<u8>, String> {
+        let calls = &case.input.calls;
         if case.run.text.len() > room_for_run(calls) {
             return Err("the text is longer than the room that serves for every text".to_string());
         }
+        let mut written = Vec::new();
         for room in self.rooms_for(calls) {
-            let right = expected(case, room);
-            let mut fault =
-                |report: &Report| self.lent.fault(room, right, |out| report(file, calls, out));
-            if let Some(fault) = fault(&self.report) {
+            let lent = &mut self.lent;
+            if let Some(fault) = fault(lent, &self.report, case, room) {
                 return Err(format!("run: {fault}"));
             }
-            self.wrong
-                .try_on(case.inputs, |wrong| fault(wrong).is_some());
+            if let Ok(text) = expected(case, room) {
+                written = lent.written(text.len()).to_vec();
+            }
+            self.wrong.try_on(case.inputs, |wrong| {
+                fault(lent, wrong, case, room).is_some()
+            });
             self.tally(case, room);
         }
-        Ok(())
+        Ok(written)
     }
 
     /// A room that is enough and one that isn't; where the list is near the limit, one of each sort.
@@ -115,6 +119,12 @@ impl Runs {
     }
 }
 
+/// What is wrong with a run in so much room, in words.
+fn fault(lent: &mut Lent<u8>, report: &Report, case: Case<'_>, room: usize) -> Option<String> {
+    let Input { file, calls } = case.input;
+    lent.fault(room, expected(case, room), |out| report(file, calls, out))
+}
+
 /// The text, or 20 where the room isn't enough for every text of so many call bytes.
 fn expected<'a>(case: Case<'a>, room: usize) -> Result<&'a [u8], Refusal> {
     if room < room_for_run(&case.input.calls) {
@@ -139,11 +149,12 @@ mod tests {
                 _ => inputs::input(&mut random),
             };
             let run = &model::run(&input.file, &input.calls, dijkstra::least);
-            runs.compare(Case {
+            let written = runs.compare(Case {
                 input: &input,
                 inputs,
                 run,
             })?;
+            assert_eq!(written, run.text);
         }
         Ok(runs)
     }

@@ -74,7 +74,7 @@ fn going_back(way: &Way) -> Vec<u32> {
     key
 }
 
-fn wrong_searches() -> Vec<Wrong<Text>> {
+pub(crate) fn wrong_searches() -> Vec<Wrong<Text>> {
     let student = |name, student: Student| by_rules(name, student);
     vec![
         student(

@@ -213,15 +213,19 @@ impl Check {
         self.times = times;
     }
 
-    /// Compares the library's run with the model's, and counts what it answered.
+    /// Compares the library's run with the model's, and the text that it wrote with the listing; counts what it answered.
     fn compare_runs(&mut self, input: &Input, run: &Run) {
         let inputs = self.inputs;
-        if let Err(fault) = self.runs.compare(Case { input, inputs, run }) {
+        let written = match self.runs.compare(Case { input, inputs, run }) {
+            Ok(written) => written,
+            Err(fault) => self.show_and_fail(input, run, &fault),
+        };
+        let text = std::str::from_utf8(&written).expect("the text is plain");
+        self.tally(text);
+        let searches = self.searches.unread.take();
+        if let Err(fault) = self.listed.compare(text, &searches) {
             self.show_and_fail(input, run, &fault);
         }
-        let text = std::str::from_utf8(&run.text).expect("the text is plain");
-        self.tally(text);
-        self.compare_with_listing(text);
     }
 
     /// Runs the wrong models that haven't differed yet.
@@ -251,7 +255,7 @@ impl Check {
         }
     }
 
-    /// Counts what the lines of the text show, which is the library's and the model's.
+    /// Counts what the lines of the library's text show.
     fn tally(&mut self, text: &str) {
         for line in text.lines() {
             let words: Vec<&str> = line.split(' ').collect();
@@ -269,25 +273,6 @@ impl Check {
             self.calls += 1;
         }
         self.blocked = self.refusals[18];
-    }
-
-    /// Compares the answers that the text shows with those of the listing, and counts their routes.
-    fn compare_with_listing(&mut self, text: &str) {
-        let answers: Vec<Answer> = text.lines().filter_map(answer).collect();
-        let searches = self.searches.unread.take();
-        if answers.len() != searches.len() {
-            fail("the text doesn't have one answer for each search of the model");
-        }
-        for (answer, search) in answers.iter().zip(searches) {
-            let Some(listed) = search else {
-                continue;
-            };
-            if listed.answer != *answer {
-                println!("library: {answer:?}\nlisting: {:?}", listed.answer);
-                fail("the library's answer isn't the listing's");
-            }
-            self.listed.add(&listed);
-        }
     }
 
     /// Prints the input in hexadecimal and both texts, and ends the check as failed.
@@ -381,30 +366,6 @@ fn number(word: &str) -> usize {
     match word.parse() {
         Ok(refusal) if (1..=REFUSALS).contains(&refusal) => refusal,
         _ => fail(&format!("no refusal number: {word}")),
-    }
-}
-
-/// The answer that a line of the text shows, if it shows one: a schedule, or that there is none.
-fn answer(line: &str) -> Option<Answer> {
-    let words: Vec<&str> = line.split(' ').collect();
-    match words[..] {
-        [_, _, "ok", delay, count, ref frames @ ..] => Some(Answer::Found {
-            delay: value(delay),
-            count: value(count),
-            frames: frames.iter().copied().map(value).collect(),
-        }),
-        [_, _, "no", "18", count] => Some(Answer::Blocked {
-            count: value(count),
-        }),
-        _ => None,
-    }
-}
-
-/// A number of the text.
-fn value<T: std::str::FromStr>(word: &str) -> T {
-    match word.parse() {
-        Ok(value) => value,
-        Err(_) => fail(&format!("no number: {word}")),
     }
 }
 
