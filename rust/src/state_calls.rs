@@ -12,11 +12,6 @@ use crate::stand_in::{FreeFrames, Lookup};
 use crate::tried::Tried;
 use crate::wrong_state;
 
-/// Every lookup and every count replays its list. After a list of more bytes than this, not every live session is looked
-/// up and not every link counted, but so many of them.
-const LONG_LIST: usize = 2_000;
-const SAMPLE: usize = 8;
-
 /// The numbers that a lookup can put, at most.
 const MOST_NUMBERS: usize = 2 + 2 * MAX_HOPS;
 
@@ -39,7 +34,6 @@ pub struct StateCalls {
     free_frames: Box<FreeFrames>,
     random: Random,
     lent: Lent<u16>,
-    long_lists: usize,
     /// Shown; refused with 19, with 20, and by the file.
     lookups: [Sort; 4],
     /// Shown, by the number of hops; refused with 19, by what is known of the number.
@@ -62,7 +56,6 @@ impl StateCalls {
             free_frames,
             random,
             lent: Lent::new(pattern),
-            long_lists: 0,
             lookups: [
                 sort("shown", 80_000),
                 sort("refused with 19:", 200_000),
@@ -91,14 +84,13 @@ impl StateCalls {
 
     /// Compares lookups and counts after the calls of an input; what differs, in words.
     pub fn compare(&mut self, case: Case<'_>) -> Result<(), String> {
-        self.long_lists += usize::from(is_long(case));
         for (origin, number) in self.numbers(case) {
             for room in self.rooms(&case.run.state, number) {
                 let expected = self.compare_lookup(case, number, room)?;
                 self.tally_lookup(origin, &expected);
             }
         }
-        for link in self.links(case) {
+        for link in self.links(&case.run.state) {
             self.compare_count(case, link)?;
         }
         Ok(())
@@ -190,8 +182,7 @@ impl StateCalls {
             let live = random.pick(&live);
             numbers.push((Origin::NearLive, near(random, live)));
         }
-        let live = self.some_of(case, live).into_iter();
-        numbers.extend(live.map(|number| (Origin::Live, number)));
+        numbers.extend(live.into_iter().map(|number| (Origin::Live, number)));
         numbers
     }
 
@@ -209,22 +200,14 @@ impl StateCalls {
     }
 
     /// The links to count: those that are there; the first number that is none's, and another such number.
-    fn links(&mut self, case: Case<'_>) -> Vec<u8> {
-        let number = match &case.run.state {
+    fn links(&mut self, stored: &Stored) -> Vec<u8> {
+        let number = match stored {
             Ok(state) => state.network.links.len(),
             Err(_) => 0,
         };
         let mut links = vec![number as u8, self.random.between(number, 255) as u8];
-        links.extend(self.some_of(case, (0..number as u8).collect()));
+        links.extend(0..number as u8);
         links
-    }
-
-    /// All of them, or a sample where the list is long.
-    fn some_of<T>(&mut self, case: Case<'_>, mut all: Vec<T>) -> Vec<T> {
-        while is_long(case) && all.len() > SAMPLE {
-            all.swap_remove(self.random.below(all.len()));
-        }
-        all
     }
 
     // ---- What was seen ----
@@ -248,10 +231,6 @@ impl StateCalls {
         print_lines(&self.lookup_lines());
         println!("free frames: {counts} compared, 0 differed");
         print_lines(&self.count_lines());
-        println!(
-            "  of every live session and every link; after {} lists of over {LONG_LIST} bytes, of {SAMPLE} of each at most",
-            self.long_lists
-        );
     }
 
     /// The first sort of which too few were seen, in words.
@@ -260,11 +239,6 @@ impl StateCalls {
         let counts = || too_few_in(&self.count_lines()).map(|few| format!("free frames: {few}"));
         lookups.or_else(counts)
     }
-}
-
-/// Is the list one after which a sample has to do?
-fn is_long(case: Case<'_>) -> bool {
-    case.input.calls.len() > LONG_LIST
 }
 
 /// The numbers of the live sessions.
