@@ -149,12 +149,10 @@ fn full_ledger(random: &mut Random) -> Input {
 pub fn over_the_limit(random: &mut Random) -> Input {
     let network = network(random, 8);
     let numbers = random.pick(&[2, 8, 100]);
-    let mut calls = Vec::with_capacity(INPUT_LIMIT + 512);
-    while calls.len() < INPUT_LIMIT - 512 {
-        good_call(random, &network, numbers, &mut calls);
-    }
     let last_start = INPUT_LIMIT - random.below(7);
-    pad(&mut calls, last_start);
+    let mut calls = filled(last_start, LONGEST_RECORD, |calls| {
+        good_call(random, &network, numbers, calls)
+    });
     match random.below(5) {
         0 => {}
         1 | 2 => push_release(&mut calls, session_number(random, numbers)),
@@ -171,6 +169,19 @@ pub fn over_the_limit(random: &mut Random) -> Input {
         file: image(&network),
         calls,
     }
+}
+
+/// The longest record is that of a set-up over 255 links.
+const LONGEST_RECORD: usize = 4 + 255;
+
+/// Whole records of so many bytes together: calls of at most `longest` bytes each, and short ones where no such call fits.
+fn filled(length: usize, longest: usize, mut call: impl FnMut(&mut Vec<u8>)) -> Vec<u8> {
+    let mut calls = Vec::with_capacity(length);
+    while calls.len() + longest + 2 <= length {
+        call(&mut calls);
+    }
+    pad(&mut calls, length);
+    calls
 }
 
 /// Fills up to the length with short whole records, two or three bytes each.
@@ -203,6 +214,20 @@ fn mixed_calls(random: &mut Random, network: &Network, number: usize, numbers: u
         good_call(random, network, numbers, &mut calls);
     }
     calls
+}
+
+/// So many bytes of calls with 150 session numbers, over routes of any of so many links.
+pub fn calls_of_length(random: &mut Random, links: usize, length: usize) -> Vec<u8> {
+    filled(length, 4 + MAX_HOPS, |calls| {
+        let number = random.below(150) as u16;
+        let hops = random.between(1, MAX_HOPS);
+        let route = any_route(random, links, hops);
+        match random.below(5) {
+            0 | 1 => push_set_up(calls, number, &route),
+            2 => push_quote(calls, &route),
+            _ => push_release(calls, number),
+        }
+    })
 }
 
 /// One whole record.
@@ -262,6 +287,11 @@ fn good_route(random: &mut Random, network: &Network) -> Vec<u8> {
     route
 }
 
+/// A route of any of so many links; one may stand in it twice.
+fn any_route(random: &mut Random, links: usize, length: usize) -> Vec<u8> {
+    (0..length).map(|_| random.below(links) as u8).collect()
+}
+
 /// A route with a fault: empty, too long, an unknown link, a link twice, or any links at all.
 fn bad_route(random: &mut Random, network: &Network) -> Vec<u8> {
     let links = network.links.len();
@@ -283,7 +313,7 @@ fn bad_route(random: &mut Random, network: &Network) -> Vec<u8> {
         }
         _ => {
             let length = random.between(2, MAX_HOPS);
-            route = (0..length).map(|_| random.below(links) as u8).collect();
+            route = any_route(random, links, length);
             if random.chance(70) {
                 route = without_repeats(&route);
             }
@@ -324,6 +354,7 @@ fn spoil(random: &mut Random, calls: &mut Vec<u8>) {
 #[cfg(test)]
 mod tests {
     use super::*;
+    use crate::call_records::read_call;
     use crate::listing;
     use crate::network_file::read_network;
 
@@ -334,6 +365,20 @@ mod tests {
             let network = network(&mut random, 64);
             let route = good_route(&mut random, &network);
             assert_eq!(crate::model::check_route(&network, &route), Ok(()));
+        }
+    }
+
+    #[test]
+    fn calls_are_whole_records_of_their_length() {
+        let mut random = Random::new(5);
+        for length in 2..1_000 {
+            let calls = calls_of_length(&mut random, 32, length);
+            assert_eq!(calls.len(), length);
+            let mut rest = &calls[..];
+            while !rest.is_empty() {
+                let (_, used) = read_call(rest).expect("a whole record");
+                rest = &rest[used..];
+            }
         }
     }
 

@@ -11,14 +11,32 @@ pub enum Closing {
     None,
     Some,
     Half,
+    ExactlyHalf,
     NearlyAll,
 }
 
+/// The closings of networks for the cross-check.
 const CLOSINGS: [Closing; 4] = [
     Closing::None,
     Closing::Some,
     Closing::Half,
     Closing::NearlyAll,
+];
+
+/// What the forwarding ranges of links are: the whole cycle, narrow, any, or the value of the absent field.
+#[derive(Clone, Copy)]
+enum Ranges {
+    WholeCycle,
+    Narrow,
+    Any,
+    Absent,
+}
+
+const RANGES: [Ranges; 4] = [
+    Ranges::WholeCycle,
+    Ranges::Narrow,
+    Ranges::Any,
+    Ranges::Absent,
 ];
 
 /// A network whose links have up to `most_frames` frames.
@@ -36,22 +54,31 @@ pub fn network(random: &mut Random, most_frames: u32) -> Network {
     } else {
         vec![random.pick(&CLOSINGS)]
     };
+    let ranges = random.pick(&RANGES);
     Network {
         ticks,
-        links: links(random, &rates, &closings),
+        links: links(random, &rates, ranges, &closings),
+    }
+}
+
+/// A network of 32 links with 8, 16, 32 or 64 frames, any range and some frames closed.
+pub fn large_network(random: &mut Random) -> Network {
+    let rates: Vec<u32> = (0..32).map(|_| 8 << random.below(4)).collect();
+    Network {
+        ticks: 960,
+        links: links(random, &rates, Ranges::Any, &[Closing::Some]),
     }
 }
 
 /// Links with these frames per cycle in turn, and ranges of one kind.
-fn links(random: &mut Random, rates: &[u32], closings: &[Closing]) -> Vec<Link> {
-    let width = random.below(4);
+fn links(random: &mut Random, rates: &[u32], ranges: Ranges, closings: &[Closing]) -> Vec<Link> {
     rates
         .iter()
         .map(|&frames| {
             let closing = random.pick(closings);
             Link {
                 frames,
-                range: range(random, frames, width),
+                range: range(random, frames, ranges),
                 closed: closed_frames(random, frames, closing),
             }
         })
@@ -100,13 +127,13 @@ fn chain(random: &mut Random, top: u32) -> Vec<u32> {
     chain
 }
 
-/// A forwarding range: whole cycle, narrow, any, or the value of the absent field.
-fn range(random: &mut Random, frames: u32, width: usize) -> u32 {
-    match width {
-        0 => frames,
-        1 => random.between(1, 2).min(frames as usize) as u32,
-        2 => random.between(1, frames as usize) as u32,
-        _ => ABSENT.range.min(frames),
+/// A forwarding range.
+fn range(random: &mut Random, frames: u32, ranges: Ranges) -> u32 {
+    match ranges {
+        Ranges::WholeCycle => frames,
+        Ranges::Narrow => random.between(1, 2).min(frames as usize) as u32,
+        Ranges::Any => random.between(1, frames as usize) as u32,
+        Ranges::Absent => ABSENT.range.min(frames),
     }
 }
 
@@ -117,6 +144,13 @@ pub fn closed_frames(random: &mut Random, frames: u32, closing: Closing) -> u64 
         Closing::None => 0,
         Closing::Some => random.word() & random.word() & random.word() & all,
         Closing::Half => random.word() & all,
+        Closing::ExactlyHalf => {
+            let mut closed = 0u64;
+            while closed.count_ones() < frames / 2 {
+                closed |= 1 << random.below(frames as usize);
+            }
+            closed
+        }
         Closing::NearlyAll => {
             let mut closed = all;
             for _ in 0..random.below(4) {
@@ -131,14 +165,8 @@ pub fn closed_frames(random: &mut Random, frames: u32, closing: Closing) -> u64 
 pub fn roomy_network(random: &mut Random) -> Network {
     let frames: u32 = random.pick(&[32, 48, 64]);
     let ticks = frames * random.between(1, (960 / frames) as usize) as u32;
-    let mut links = Vec::new();
-    for _ in 0..random.between(4, 31) {
-        links.push(Link {
-            frames,
-            range: random.between(1, frames as usize) as u32,
-            closed: 0,
-        });
-    }
+    let rates = vec![frames; random.between(4, 31)];
+    let mut links = links(random, &rates, Ranges::Any, &[Closing::None]);
     links.push(Link {
         frames,
         range: 1,
@@ -177,9 +205,10 @@ pub fn listed_network(random: &mut Random) -> Network {
     } else {
         &CLOSINGS
     };
+    let ranges = random.pick(&RANGES);
     Network {
         ticks,
-        links: links(random, &rates, closings),
+        links: links(random, &rates, ranges, closings),
     }
 }
 
@@ -421,6 +450,21 @@ mod tests {
         for _ in 0..10_000 {
             let network = network(&mut random, 64);
             assert_eq!(read_network(&image(&network)), Ok(network));
+        }
+        for _ in 0..100 {
+            for network in [large_network(&mut random), roomy_network(&mut random)] {
+                assert_eq!(read_network(&image(&network)), Ok(network));
+            }
+        }
+    }
+
+    #[test]
+    fn exactly_half_of_the_frames_are_closed() {
+        let mut random = Random::new(4);
+        for frames in [1, 2, 7, 16, 63, 64] {
+            let closed = closed_frames(&mut random, frames, Closing::ExactlyHalf);
+            assert_eq!(closed & !route::ones(frames), 0);
+            assert_eq!(closed.count_ones(), frames / 2);
         }
     }
 }

@@ -6,9 +6,10 @@ use std::time::{Duration, Instant};
 
 use frames_check::call_records::{push_quote, push_release, push_set_up};
 use frames_check::network_file::{image, Link, Network};
+use frames_check::networks::{closed_frames, large_network, Closing};
 use frames_check::random::Random;
-use frames_check::route::{self, Answer, Hop};
-use frames_check::{dijkstra, library, model, survivors};
+use frames_check::route::{Answer, Hop};
+use frames_check::{dijkstra, inputs, library, model, survivors};
 
 /// The bytes of call records that the program reads.
 const CALLS: usize = 65_536;
@@ -19,29 +20,17 @@ const FEW: usize = 100;
 /// The lent buffer.
 const BUFFER: usize = 1 << 20;
 
-/// The cycle of every network here, in ticks: 64 divides it.
-const TICKS: u32 = 960;
-
-/// The bytes of net.bin.
-fn network(links: Vec<Link>) -> Vec<u8> {
+/// The bytes of net.bin: in a cycle of 960 ticks, links with 64 frames and one range.
+fn file_of(range: u32, closed: impl Iterator<Item = u64>) -> Vec<u8> {
+    let link = |closed| Link {
+        frames: 64,
+        range,
+        closed,
+    };
     image(&Network {
-        ticks: TICKS,
-        links,
+        ticks: 960,
+        links: closed.map(link).collect(),
     })
-}
-
-/// A word with 32 of its 64 bits.
-fn half_of_64(random: &mut Random) -> u64 {
-    let mut word = 0u64;
-    while word.count_ones() < 32 {
-        word |= 1 << random.below(64);
-    }
-    word
-}
-
-/// A route of so many links out of 32; a link may appear twice.
-fn any_route(random: &mut Random, length: usize) -> Vec<u8> {
-    (0..length).map(|_| random.below(32) as u8).collect()
 }
 
 /// A search in plain Rust.
@@ -62,6 +51,12 @@ impl Work {
 
     fn survivors(&self) -> Vec<u8> {
         model::transcript(&self.file, &self.calls, self.rival)
+    }
+
+    /// The text has a line for each call, and one more.
+    fn number_of_calls(&self) -> usize {
+        let text = self.survivors();
+        text.iter().filter(|&&byte| byte == b'\n').count() - 1
     }
 
     fn dijkstra(&self) -> Vec<u8> {
@@ -175,16 +170,12 @@ fn per_quote(few: &Work, all: &Work, number: usize, rival: Search, out: &mut [u8
 fn quotes(out: &mut [u8], random: &mut Random) {
     let route = [0, 1, 2, 3, 4, 5, 6, 7];
     let number = CALLS / (2 + route.len());
-    for half in [false, true] {
+    for (frames, closing) in [
+        ("all free", Closing::None),
+        ("half free", Closing::ExactlyHalf),
+    ] {
         for range in [4, 16, 64] {
-            let links: Vec<Link> = (0..8)
-                .map(|_| Link {
-                    frames: 64,
-                    range,
-                    closed: if half { half_of_64(random) } else { 0 },
-                })
-                .collect();
-            let file = network(links);
+            let file = file_of(range, (0..8).map(|_| closed_frames(random, 64, closing)));
             let few = Work {
                 file: file.clone(),
                 calls: list_of_quotes(&route, FEW),
@@ -196,7 +187,6 @@ fn quotes(out: &mut [u8], random: &mut Random) {
                 rival: survivors::least,
             };
             let dijkstra = few.time_of_dijkstra(out, Duration::from_millis(500)) / FEW as f64;
-            let frames = if half { "half free" } else { "all free" };
             line(
                 &format!("quote, 8 hops of 64 frames, Z {range}, {frames}"),
                 per_quote(&few, &all, number, survivors::least, out),
@@ -215,14 +205,7 @@ fn quotes(out: &mut [u8], random: &mut Random) {
 /// The time of the list that only makes those sessions live is taken off.
 fn pairs(out: &mut [u8]) {
     let route = [0, 1];
-    let links: Vec<Link> = (0..32)
-        .map(|_| Link {
-            frames: 64,
-            range: 4,
-            closed: 0,
-        })
-        .collect();
-    let file = network(links);
+    let file = file_of(4, [0; 32].into_iter());
     for live in [10u16, 50, 90] {
         let mut prefix = Vec::new();
         for number in 0..live {
@@ -261,46 +244,15 @@ fn pairs(out: &mut [u8]) {
     }
 }
 
-/// A list of mixed calls that fills the calls' bytes, and how many calls it has.
-fn mixed(random: &mut Random) -> (Vec<u8>, usize) {
-    let mut calls = Vec::new();
-    let mut number = 0;
-    while calls.len() < CALLS {
-        let left = CALLS - calls.len();
-        let length = random.between(1, 8);
-        let session = random.below(150) as u16;
-        let route = any_route(random, length);
-        match random.below(5) {
-            _ if left <= 10 => push_quote(&mut calls, &any_route(random, left - 2)),
-            _ if left <= 20 => push_release(&mut calls, session),
-            0 | 1 => push_set_up(&mut calls, session, &route),
-            2 => push_quote(&mut calls, &route),
-            _ => push_release(&mut calls, session),
-        }
-        number += 1;
-    }
-    assert!(calls.len() == CALLS);
-    (calls, number)
-}
-
 /// (c) Whole runs of mixed calls on 32 links of 8 to 64 frames, some of them closed.
 fn runs(out: &mut [u8], random: &mut Random) {
-    let links: Vec<Link> = (0..32)
-        .map(|_| {
-            let frames = 8 << random.below(4);
-            Link {
-                frames,
-                range: random.between(1, frames as usize) as u32,
-                closed: random.word() & random.word() & random.word() & route::ones(frames),
-            }
-        })
-        .collect();
-    let (calls, number) = mixed(random);
+    let network = large_network(random);
     let work = Work {
-        file: network(links),
-        calls,
+        file: image(&network),
+        calls: inputs::calls_of_length(random, network.links.len(), CALLS),
         rival: survivors::least,
     };
+    let number = work.number_of_calls();
     let dijkstra = work.time_of_dijkstra(out, Duration::from_secs(1));
     let [run] = times(&[work], out, Duration::from_secs(1));
     line(
