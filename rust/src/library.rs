@@ -43,6 +43,32 @@ extern "C" {
     ) -> u64;
 }
 
+// ---- Lengths ----
+
+/// Call bytes that count; those that follow them are ignored.
+pub const CALLS_MOST: usize = 65_536;
+
+/// Bytes that serve for every text, however many call bytes there are.
+pub const TEXT_MOST: usize = 720_918;
+
+/// Numbers that serve for every session.
+pub const SESSION_MOST: usize = 18;
+
+/// Bytes that serve for every network file.
+pub const IMAGE_MOST: usize = 355;
+
+/// Bytes that `report` demands for its text on so many call bytes.
+pub const fn text_bound(call_bytes: usize) -> usize {
+    let counted = if call_bytes < CALLS_MOST {
+        call_bytes
+    } else {
+        CALLS_MOST
+    };
+    22 + 11 * counted
+}
+
+// ---- Answers ----
+
 /// An answer from here on is a refusal: this number and the refusal's own.
 const REFUSED: u64 = 1_000_000;
 
@@ -60,7 +86,11 @@ fn length_or_refusal(answer: u64) -> Result<usize, u64> {
     number_or_refusal(answer).map(|length| length as usize)
 }
 
-/// Puts the program's text at the start of `out` and answers its length, or answers the refusal number.
+// ---- The functions ----
+
+/// Puts the program's text at the start of `out` and answers its length. A refused file and refused calls show in the
+/// text; the one refusal is 20, where `out` is shorter than `text_bound(calls.len())`, however short the text would be.
+/// `out` stays as it was behind the text, and as a whole where it is refused.
 pub fn report(file: &[u8], calls: &[u8], out: &mut [u8]) -> Result<usize, u64> {
     // SAFETY: each pointer comes with the length of the slice it was taken from.
     length_or_refusal(unsafe {
@@ -76,7 +106,8 @@ pub fn report(file: &[u8], calls: &[u8], out: &mut [u8]) -> Result<usize, u64> {
 }
 
 /// Looks a session up after the calls: puts hops, delay, the links and the frames at the start of `out` and answers
-/// how many numbers these are, or answers the refusal number.
+/// how many numbers these are, at most `SESSION_MOST`, or answers the refusal number. `out` stays as it was behind
+/// them, and as a whole where the lookup is refused.
 pub fn lookup(file: &[u8], calls: &[u8], number: u16, out: &mut [u16]) -> Result<usize, u64> {
     // SAFETY: each pointer comes with the length of the slice it was taken from.
     length_or_refusal(unsafe {
@@ -100,7 +131,8 @@ pub fn free_frames(file: &[u8], calls: &[u8], link: u8) -> Result<u64, u64> {
     })
 }
 
-/// Reads a network file, puts the network's file at the start of `out` and answers its length, or answers the refusal number.
+/// Reads a network file, puts the network's file at the start of `out` and answers its length, at most `IMAGE_MOST`, or
+/// answers the refusal number. `out` stays as it was behind what is put there, and as a whole at a refusal.
 pub fn image(file: &[u8], out: &mut [u8]) -> Result<usize, u64> {
     // SAFETY: each pointer comes with the length of the slice it was taken from.
     length_or_refusal(unsafe {
@@ -109,7 +141,8 @@ pub fn image(file: &[u8], out: &mut [u8]) -> Result<usize, u64> {
 }
 
 /// Puts the file of a network given as values, T and the links' K, Z and closed frames, at the start of `out` and answers
-/// its length, or answers the refusal number.
+/// its length, at most `IMAGE_MOST`, or answers the refusal number. `out` stays as it was behind the file, and as a
+/// whole at a refusal.
 pub fn write(
     ticks: u16,
     frames: &[u16],
@@ -131,4 +164,19 @@ pub fn write(
             out.len(),
         )
     })
+}
+
+#[cfg(test)]
+mod tests {
+    use super::*;
+
+    #[test]
+    fn bytes_that_serve_for_a_text() {
+        assert_eq!(text_bound(0), 22);
+        assert_eq!(text_bound(21), 253);
+        assert_eq!(text_bound(65_535), 720_907);
+        for call_bytes in [65_536, 65_537, usize::MAX] {
+            assert_eq!(text_bound(call_bytes), TEXT_MOST);
+        }
+    }
 }

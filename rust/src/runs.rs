@@ -137,7 +137,7 @@ fn expected<'a>(case: Case<'a>, room: usize) -> Result<&'a [u8], Refusal> {
 #[cfg(test)]
 mod tests {
     use super::*;
-    use crate::{dijkstra, inputs, model, stand_in};
+    use crate::{dijkstra, inputs, library, model, stand_in};
 
     /// Compares a function with the model on some inputs, most of them short.
     fn compared(report: Box<Report>) -> Result<Runs, String> {
@@ -157,6 +157,14 @@ mod tests {
             assert_eq!(written, run.text);
         }
         Ok(runs)
+    }
+
+    #[test]
+    fn callers_are_given_the_bound_of_the_model() {
+        for length in [0, 1, 2, 1_000, 65_535, 65_536, 65_537, 100_000] {
+            let room = room_for_run(&vec![0; length]);
+            assert_eq!(library::text_bound(length), room);
+        }
     }
 
     #[test]

@@ -5,20 +5,15 @@ use std::hint::black_box;
 use std::time::{Duration, Instant};
 
 use frames_check::call_records::{push_quote, push_release, push_set_up};
+use frames_check::library::{self, CALLS_MOST, TEXT_MOST};
 use frames_check::network_file::{image, Link, Network};
 use frames_check::networks::{closed_frames, large_network, Closing};
 use frames_check::random::Random;
 use frames_check::route::{Answer, Hop};
-use frames_check::{dijkstra, inputs, library, model, survivors};
-
-/// The bytes of call records that the program reads.
-const CALLS: usize = 65_536;
+use frames_check::{dijkstra, inputs, model, survivors};
 
 /// The quotes over 8 hops of a short list.
 const FEW: usize = 100;
-
-/// The lent buffer.
-const BUFFER: usize = 1 << 20;
 
 /// The bytes of net.bin: in a cycle of 960 ticks, links with 64 frames and one range.
 fn file_of(range: u32, closed: impl Iterator<Item = u64>) -> Vec<u8> {
@@ -169,7 +164,7 @@ fn per_quote(few: &Work, all: &Work, number: usize, rival: Search, out: &mut [u8
 /// often; for Dijkstra's search, which takes longer, the short list alone.
 fn quotes(out: &mut [u8], random: &mut Random) {
     let route = [0, 1, 2, 3, 4, 5, 6, 7];
-    let number = CALLS / (2 + route.len());
+    let number = CALLS_MOST / (2 + route.len());
     for (frames, closing) in [
         ("all free", Closing::None),
         ("half free", Closing::ExactlyHalf),
@@ -215,7 +210,7 @@ fn pairs(out: &mut [u8]) {
         let mut with_pairs = prefix.clone();
         let mut with_quotes = prefix.clone();
         let mut number = 0;
-        while with_pairs.len() + 9 <= CALLS {
+        while with_pairs.len() + 9 <= CALLS_MOST {
             push_set_up(&mut with_pairs, live, &route);
             push_release(&mut with_pairs, live);
             push_quote(&mut with_quotes, &route);
@@ -249,14 +244,14 @@ fn runs(out: &mut [u8], random: &mut Random) {
     let network = large_network(random);
     let work = Work {
         file: image(&network),
-        calls: inputs::calls_of_length(random, network.links.len(), CALLS),
+        calls: inputs::calls_of_length(random, network.links.len(), CALLS_MOST),
         rival: survivors::least,
     };
     let number = work.number_of_calls();
     let dijkstra = work.time_of_dijkstra(out, Duration::from_secs(1));
     let [run] = times(&[work], out, Duration::from_secs(1));
     line(
-        &format!("run of {CALLS} bytes, {number} mixed calls"),
+        &format!("run of {CALLS_MOST} bytes, {number} mixed calls"),
         run,
         Some(dijkstra),
     );
@@ -268,11 +263,13 @@ fn runs(out: &mut [u8], random: &mut Random) {
 }
 
 fn main() {
-    let mut out = vec![0u8; BUFFER];
+    let mut out = vec![0u8; TEXT_MOST];
     let mut random = Random::new(0x2545_f491_4f6c_dd1d);
     println!("Best of several repetitions after a warm-up, the sides in turn, in one process; all are release builds.");
-    println!("The lent buffer of 1 MiB is allocated once and is not cleared between runs.");
-    println!("Quotes over 8 hops: the better of lists of {FEW} and of as many as {CALLS} bytes hold; Dijkstra's search on {FEW}.");
+    println!(
+        "The lent buffer of {TEXT_MOST} bytes is allocated once and is not cleared between runs."
+    );
+    println!("Quotes over 8 hops: the better of lists of {FEW} and of as many as {CALLS_MOST} bytes hold; Dijkstra's search on {FEW}.");
     heading();
     quotes(&mut out, &mut random);
     pairs(&mut out);

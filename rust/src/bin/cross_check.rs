@@ -277,7 +277,7 @@ impl Check {
 
     /// Prints the input in hexadecimal and both texts, and ends the check as failed.
     fn show_and_fail(&self, input: &Input, run: &Run, fault: &str) -> ! {
-        let mut room = vec![0; 1_000_000];
+        let mut room = vec![0; library::TEXT_MOST];
         let length = library::report(&input.file, &input.calls, &mut room).unwrap_or(0);
         let text = &room[..length.min(room.len())];
         println!("net.bin: {}", hex(&input.file));

@@ -1,6 +1,6 @@
 //! The exported functions on the worked example of document 01, by the wrappers of `frames_check::library`.
 
-use frames_check::library;
+use frames_check::library::{self, text_bound, IMAGE_MOST, SESSION_MOST};
 use std::fmt::Debug;
 
 /// T = 48; links 0 and 1 have K 8 and Z 2.
@@ -21,12 +21,8 @@ const RELEASED: usize = 15;
 
 const TEXT: &str = "1 S ok 6 16 7 0\n2 S no 16\n3 R ok\n4 Q ok 0 0 0\n5 R no 19\nlive 0\n";
 
-/// The bytes that `report` demands for its text on the calls: 22, and 11 for each call byte.
-const TEXT_BOUND: usize = 253;
-
-/// Numbers that serve for every session, and bytes that serve for every network file.
-const SESSION_MOST: usize = 18;
-const IMAGE_MOST: usize = 355;
+/// The bytes that `report` demands for its text on the calls.
+const TEXT_BOUND: usize = text_bound(CALLS.len());
 
 fn main() {
     try_report();
@@ -55,6 +51,7 @@ fn try_report() {
     assert_eq!(&text[..length], TEXT.as_bytes());
 
     let report = |calls, room| written(room, |out| library::report(&NET, calls, out));
+    assert_eq!(TEXT_BOUND, 22 + 11 * 21);
     assert_eq!(report(&CALLS, TEXT_BOUND), Ok(TEXT.into()));
     assert_eq!(report(&CALLS, TEXT_BOUND - 1), Err(20));
     assert_eq!(report(&[], 22), Ok("live 0\n".into()));
