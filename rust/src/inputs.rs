@@ -29,9 +29,10 @@ pub struct Case<'a> {
 pub fn input(random: &mut Random) -> Input {
     match random.below(10_000) {
         0..=2 => over_the_limit(random),
-        3..=14 => long_list(random),
-        15..=64 => full_ledger(random),
-        65..=2_499 => damaged_input(random),
+        3..=10 => at_the_limit(random),
+        11..=22 => long_list(random),
+        23..=72 => full_ledger(random),
+        73..=2_499 => damaged_input(random),
         2_500..=2_999 => random_bytes(random),
         3_000..=5_499 => short_list(random, 64),
         5_500..=6_499 => nearly_full(random),
@@ -165,6 +166,32 @@ pub fn over_the_limit(random: &mut Random) -> Input {
         let more = random.pick(&[0, 0, 1, 100_000]);
         calls.extend(random.bytes(more));
     }
+    Input {
+        file: image(&network),
+        calls,
+    }
+}
+
+/// A list of as many bytes as count, of one less or of one more. Its last byte ends a record, or begins one that can't be
+/// read. Long records, which are refused, make up most of it, so that it takes little time.
+fn at_the_limit(random: &mut Random) -> Input {
+    let network = network(random, 8);
+    let numbers = random.pick(&[2, 8, 100]);
+    let length = INPUT_LIMIT - 1 + random.below(3);
+    let mut last = Vec::new();
+    match random.below(4) {
+        0 => {}
+        1 => push_release(&mut last, session_number(random, numbers)),
+        2 => push_set_up(&mut last, 65_535, &[0]),
+        _ => last.push(random.below(5) as u8),
+    }
+    let mut calls = filled(length - last.len(), LONGEST_RECORD, |calls| {
+        match random.below(2) {
+            0 => push_quote(calls, &[0; 255]),
+            _ => good_call(random, &network, numbers, calls),
+        }
+    });
+    calls.extend(last);
     Input {
         file: image(&network),
         calls,
@@ -380,6 +407,17 @@ mod tests {
                 rest = &rest[used..];
             }
         }
+    }
+
+    #[test]
+    fn lists_end_at_the_limit_or_a_byte_beside_it() {
+        let mut random = Random::new(6);
+        let mut lengths: Vec<usize> = (0..50)
+            .map(|_| at_the_limit(&mut random).calls.len())
+            .collect();
+        lengths.sort();
+        lengths.dedup();
+        assert_eq!(lengths, [65_535, 65_536, 65_537]);
     }
 
     #[test]

@@ -18,9 +18,11 @@ pub struct Runs {
     report: Box<Report>,
     random: Random,
     lent: Lent<u8>,
-    /// The rooms by the least one that isn't refused; those of lists with more bytes than count.
+    /// The rooms by the least one that isn't refused; those of lists with more bytes than count; those of lists with one
+    /// byte less than count, with as many, and with one more.
     rooms: [Sort; 5],
     over_the_limit: [Sort; 5],
+    at_the_limit: [[Sort; 5]; 3],
     /// Refused, although the text would have fitted.
     fitting: [Sort; 1],
     pub wrong: Tried<Box<Report>>,
@@ -41,6 +43,7 @@ impl Runs {
             lent: Lent::new(pattern),
             rooms: rooms(20_000),
             over_the_limit: rooms(20),
+            at_the_limit: [rooms(20), rooms(20), rooms(20)],
             fitting: [sort("with room for the text", 50_000)],
             wrong: Tried::new("run", wrong_runs::all()),
         }
@@ -96,13 +99,20 @@ impl Runs {
         if calls.len() > INPUT_LIMIT {
             add_each(&mut self.over_the_limit, &is_of);
         }
+        let place = (calls.len() + 1).checked_sub(INPUT_LIMIT);
+        if let Some(rooms) = place.and_then(|place| self.at_the_limit.get_mut(place)) {
+            add_each(rooms, &is_of);
+        }
         self.fitting[0].add(case.run.text.len() <= room && room < exact);
     }
 
-    fn lines(&self) -> [Line<'_>; 3] {
+    fn lines(&self) -> [Line<'_>; 6] {
         [
             ("", &self.rooms),
             ("over 65,536 call bytes: ", &self.over_the_limit),
+            ("65,535 call bytes: ", &self.at_the_limit[0]),
+            ("65,536 call bytes: ", &self.at_the_limit[1]),
+            ("65,537 call bytes: ", &self.at_the_limit[2]),
             ("refused ", &self.fitting),
         ]
     }
@@ -165,6 +175,22 @@ mod tests {
             let room = room_for_run(&vec![0; length]);
             assert_eq!(library::text_bound(length), room);
         }
+    }
+
+    #[test]
+    fn lists_at_the_limit_are_counted_by_their_length() {
+        let mut runs = Runs::new(Box::new(stand_in::report), 14);
+        for length in INPUT_LIMIT - 2..=INPUT_LIMIT + 2 {
+            let (file, calls) = (Vec::new(), vec![0; length]);
+            let input = &Input { file, calls };
+            let run = &model::run(&input.file, &input.calls, dijkstra::least);
+            let inputs = 1;
+            assert!(runs.compare(Case { input, inputs, run }).is_ok());
+        }
+        let seen = |sorts: &[Sort; 5]| sorts.each_ref().map(|sort| sort.seen);
+        assert_eq!(seen(&runs.rooms), [5; 5]);
+        assert_eq!(seen(&runs.over_the_limit), [2; 5]);
+        assert_eq!(runs.at_the_limit.each_ref().map(seen), [[1; 5]; 3]);
     }
 
     #[test]
