@@ -46,12 +46,7 @@ fn short_list(random: &mut Random, most_frames: u32) -> Input {
     let network = network(random, most_frames);
     let numbers = random.between(1, 6);
     let number_of_calls = random.below(13);
-    let mut calls = mixed_calls(random, &network, number_of_calls, numbers);
-    spoil(random, &mut calls);
-    Input {
-        file: image(&network),
-        calls,
-    }
+    mixed_list(random, &network, number_of_calls, numbers)
 }
 
 /// Many calls on one network.
@@ -60,10 +55,15 @@ fn long_list(random: &mut Random) -> Input {
     let network = network(random, most_frames);
     let numbers = random.pick(&[3, 20, 200]);
     let number_of_calls = random.between(200, 600);
-    let mut calls = mixed_calls(random, &network, number_of_calls, numbers);
+    mixed_list(random, &network, number_of_calls, numbers)
+}
+
+/// So many mixed calls on a network, now and then cut off or with an unknown kind among them.
+fn mixed_list(random: &mut Random, network: &Network, number: usize, numbers: usize) -> Input {
+    let mut calls = mixed_calls(random, network, number, numbers);
     spoil(random, &mut calls);
     Input {
-        file: image(&network),
+        file: image(network),
         calls,
     }
 }
