@@ -1,6 +1,7 @@
 pub mod Holds
 pub mod Rates
 pub mod Transitions
+pub mod Cycles
 pub mod Schedules
 pub mod ByHops
 pub mod Counted

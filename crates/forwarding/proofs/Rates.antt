@@ -9,7 +9,7 @@ use Rattle.forwarding.specs.Hops.{HopReady}
 use Rattle.forwarding.specs.Rates.{SameRate, ToFaster, ToSlower, ToFasterLater, NeverEarlier, WholeFrame, NotYetWhole}
 use Rattle.forwarding.proofs.Transitions.{cycle-frames}
 
-next-mul : (k K : ℕ) → (k + 1) * K ≡ k * K + K
+pub next-mul : (k K : ℕ) → (k + 1) * K ≡ k * K + K
 next-mul k K = add-mul k 1 K ∙ ap (λ (x : ℕ). k * K + x) (one-mul K)
 
 -- F-i of source document 002, equal rates: the frame of the same number

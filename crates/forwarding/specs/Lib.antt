@@ -2,6 +2,7 @@ pub mod Forwarding
 pub mod Hops
 pub mod Rates
 pub mod Schedule
+pub mod Cycles
 pub mod Route
 pub mod LeastDelay
 pub mod QuestionFour

@@ -1,8 +1,9 @@
-// Forwarding (document 01, with the reference frame of W-201): holds, delays and reference frames of the hops of a route.
+// Forwarding (document 01, with the reference frame of W-201 and the cycles of W-202): holds, delays, reference frames and cycles of the hops of a route.
 ghost use mathlib.Core.Path.{_≡_};
 ghost use Prim.Native.Nat.{_+_, _*_, _<_, _≤_};
 ghost use Rattle.forwarding.specs.Forwarding.{referenceInto, leastHold, holdInto, choices, frameTime, IsDelay};
 ghost use Rattle.forwarding.specs.Hops.{noHop};
+ghost use Rattle.forwarding.specs.Cycles.{nextCycle};
 
 // A hold counts frames of the outgoing link.
 // Form: a hold and a delay are tuple structs, so holds of unequal links are never summed as delays.
@@ -11,9 +12,10 @@ pub struct Hold(pub u16);
 // A delay counts ticks.
 pub struct Delay(pub u16);
 
-// What an answer, a session and a lookup hold: a frame for each hop, hop 0 first, in eight places, and the delay. A field that is added later stands here.
+// What an answer, a session and a lookup hold: a frame and its cycle for each hop, hop 0 first, in eight places, and the delay. A field that is added later stands here.
 pub struct Held {
     pub frames: [u8; 8],
+    pub cycles: [u8; 8],
     pub delay: Delay,
 }
 
@@ -70,6 +72,20 @@ pub fn hold_into(k: u16, before: Hop, hop: Hop, i: u16) -> Hold
     let least = least_hold(hop);
     let frames = hop.frames;
     Hold((i + 2 * frames - (from + least)) % frames + least)
+}
+
+// The cycle of frame i of a hop, where frame k of the hop before lies in this one.
+// Check 7 bounds both links' frames; k and i are frames of theirs. Check 12: there are at most 8 hops, and no hop's cycle passes its number.
+pub fn next_cycle(k: u16, before: Hop, hop: Hop, i: u16, cycle: u8) -> u8
+    requires { ⌜ (k < before .frames) × (before .frames ≤ 64) × (i < hop .frames) × (hop .frames ≤ 64) × (cycle < 8) ⌝ }
+    ensures { λ r. ⌜ r ≡ nextCycle before hop k i cycle ⌝ }
+{
+    let from = reference_frame(k, before, hop);
+    let hold = hold_into(k, before, hop, i);
+    if from + hold.0 < hop.frames {
+        return cycle;
+    }
+    cycle + 1
 }
 
 // How long a frame of a link lasts: T / K ticks. Check 7: K is not 0.

@@ -1,0 +1,140 @@
+-- The cycles of a schedule: the frame of each hop lies in its cycle, after the one before it, and cycles rise by one at most (W-202). Assumes nothing.
+use mathlib.Core.Path.{_≡_, refl, sym, _∙_, ap}
+use mathlib.Core.Bool.{Bool, true, false, cond}
+use mathlib.Core.List.{List, [], _∷_}
+use Prim.Native.Nat.{ℕ, zero, suc, _+_, _-_, _*_, _%_, _<_, _≤_}
+use native.Mathlib.Nat.{add-mul, one-mul, mul-assoc, mul-comm, mod-eq-of-lt, mod-eq-sub-mod, le-of-suc-le-suc, not-suc-le-zero}
+use native.Mathlib.Decide.{decLt}
+use native.Mathlib.Omega.{arith}
+use lib.Dec.{ltb}
+use lib.ListN.{length, getD}
+use borrow.Author.Tests.{lt-ltb, le-ltb, ltb-true, ltb-false}
+use Rattle.lists.proofs.Count.{and-both}
+use Rattle.forwarding.specs.declared.Hop.{Hop}
+use Rattle.forwarding.specs.Forwarding.{leastHold, hold, referenceInto, holdInto, isFree, mayHold, isAllowed, frameTime}
+use Rattle.forwarding.specs.Hops.{noHop, HopReady, AllReady}
+use Rattle.forwarding.specs.Schedule.{GoesOn, IsSchedule}
+use Rattle.forwarding.specs.Cycles.{nextCycle, onwardCycles, scheduleCycles, CyclePerHop, LaterHop, Lies, CyclesLie, beginsAt, Follows, CyclesFollow, NotBelow, CyclesNeverFall, CyclesBounded}
+use Rattle.forwarding.proofs.Holds.{hold-fits, least-in, reference-in}
+use Rattle.forwarding.proofs.Transitions.{may-hold, cycle-frames}
+use Rattle.forwarding.proofs.Rates.{next-mul, whole-frame}
+
+-- ---- one transition
+module _ (g h : Hop) (k i c : ℕ) where
+  pub same-cycle : (x : ℕ) → x ≡ referenceInto g h k + holdInto g h k i → x < h .frames → c ≡ nextCycle g h k i c
+  unfolding nextCycle
+  same-cycle x e l = rw (lt-ltb (referenceInto g h k + holdInto g h k i) (h .frames) (rw (← e) l))
+
+  pub cycle-after : (x : ℕ) → x ≡ referenceInto g h k + holdInto g h k i → h .frames ≤ x → c + 1 ≡ nextCycle g h k i c
+  unfolding nextCycle
+  cycle-after x e l = rw (le-ltb (referenceInto g h k + holdInto g h k i) (h .frames) (rw (← e) l))
+
+  -- the same cycle or the one after it
+  pub next-or-same : (c ≤ nextCycle g h k i c) × (nextCycle g h k i c ≤ c + 1)
+  unfolding nextCycle
+  next-or-same = go (ltb (referenceInto g h k + holdInto g h k i) (h .frames))
+    where
+      go : (b : Bool) → (c ≤ cond b c (c + 1)) × (cond b c (c + 1) ≤ c + 1)
+      go true = (omega arith, omega arith)
+      go false = (omega arith, omega arith)
+
+  module _ (p : k < g .frames) (l : i < h .frames) where
+    from-in : referenceInto g h k < h .frames
+    from-in = reference-in g h k (omega arith) p
+
+    -- the reference frame and the hold together are small numbers
+    pub reaches : referenceInto g h k + holdInto g h k i < 3 * h .frames
+    unfolding holdInto
+    reaches = omega (arith, from-in, hold-fits (leastHold h) (h .frames) (referenceInto g h k) i l .most, least-in h (omega arith))
+
+    meets : (referenceInto g h k + holdInto g h k i) % h .frames ≡ i
+    unfolding holdInto
+    meets = hold-fits (leastHold h) (h .frames) (referenceInto g h k) i l .meets
+
+    -- a hold of at most a cycle
+    pub lies : holdInto g h k i ≤ h .frames → Lies g h k i c (nextCycle g h k i c)
+    lies few =
+        let K : ℕ = h .frames in
+        let x : ℕ = referenceInto g h k + holdInto g h k i in
+        let r : referenceInto g h k < K = from-in in
+        elim (decLt x K) [
+          | yes b ↦ let e : x ≡ i = sym (mod-eq-of-lt b) ∙ meets in rw (← same-cycle x refl b, e)
+          | no b ↦
+              let e : x - K ≡ i = sym (mod-eq-of-lt (omega arith)) ∙ sym (mod-eq-sub-mod (omega arith)) ∙ meets in
+              rw (← cycle-after x refl (omega arith)) (omega (arith, next-mul c K, e))
+        ]
+
+-- ---- the cycles of a schedule
+-- a frame of cycle c is c cycles and itself
+begins-split : (T : ℕ) (h : Hop) (c i : ℕ) → HopReady T h → beginsAt T h c i ≡ c * T + i * frameTime T (h .frames)
+begins-split T h c i p =
+    add-mul (c * h .frames) i (frameTime T (h .frames))
+    ∙ ap (λ (x : ℕ). x + i * frameTime T (h .frames))
+    (mul-assoc c (h .frames) (frameTime T (h .frames)) ∙ ap (λ (x : ℕ). c * x) (mul-comm (h .frames) (frameTime T (h .frames)) ∙ cycle-frames T (h .frames) (p .divides)))
+
+-- a frame that lies in its cycle begins no earlier than the one before ends
+follows : (T : ℕ) (g h : Hop) (k i c d : ℕ) → HopReady T g → HopReady T h → Lies g h k i c d → Follows T g h k i c d
+follows T g h k i c d pg ph e =
+    let there : beginsAt T h d i ≡ beginsAt T h c (referenceInto g h k + holdInto g h k i) = ap (λ (x : ℕ). x * frameTime T (h .frames)) e in
+    omega (arith, there, begins-split T g c (k + 1) pg, begins-split T h c (referenceInto g h k + holdInto g h k i) ph, whole-frame T g h k pg ph i)
+
+-- what holds of every transition of a schedule and the cycles of its two hops holds of every later hop
+module _ (T : ℕ) (P : Hop → Hop → ℕ → ℕ → ℕ → ℕ → Type 0) where
+  abbrev Each : Type 0
+  Each = (g h : Hop) (k i c : ℕ) → HopReady T g → HopReady T h → k < g .frames → i < h .frames → isAllowed g h k i ≡ true → P g h k i c (nextCycle g h k i c)
+
+  on-each : Each → (g : Hop) (k c : ℕ) (hs : List Hop) (is : List ℕ) → HopReady T g → AllReady T hs → k < g .frames → GoesOn g k hs is → (j : ℕ) → j < length hs
+      → P (getD (g ∷ hs) j noHop) (getD hs j noHop) (getD (k ∷ is) j 0) (getD is j 0) (getD (c ∷ onwardCycles g k c hs is) j 0) (getD (onwardCycles g k c hs is) j 0)
+  on-each f g k c [] is pg ps l o j q = absurd (not-suc-le-zero q)
+  on-each f g k c (h ∷ hs) [] pg ps l o j q = absurd o
+  on-each f g k c (h ∷ hs) (i ∷ is) pg ps l o zero q = f g h k i c pg (ps .0) l (o .0) (o .1)
+  on-each f g k c (h ∷ hs) (i ∷ is) pg ps l o (suc j) q = on-each f h i (nextCycle g h k i c) hs is (ps .0) (ps .1) (o .0) (o .2) j (le-of-suc-le-suc q)
+
+  later-each : Each → (hops : List Hop) (fs : List ℕ) → AllReady T hops → IsSchedule hops fs → LaterHop P hops fs
+  later-each f [] fs ps s j q = absurd s
+  later-each f (h ∷ hs) [] ps s j q = absurd s
+  later-each f (h ∷ hs) (k ∷ is) ps s j q = on-each f h k 0 hs is (ps .0) (ps .1) (s .0) (s .2) j (le-of-suc-le-suc q)
+
+-- an allowed transition
+allowed-lies : (T : ℕ) → Each T Lies
+allowed-lies T g h k i c pg ph p l a =
+    let D : ℕ = holdInto g h k i in
+    let few : D ≤ h .range = may-hold h D (and-both (mayHold h D) (isFree h i) a .0) in
+    lies g h k i c p l (omega (arith, few, ph .in-cycle))
+
+-- THE CYCLE IS THE ONE IN WHICH THE FRAME LIES
+pub cycles-lie : CyclesLie
+cycles-lie T = later-each T Lies (allowed-lies T)
+
+-- AND THE FRAMES IN THEIR CYCLES COME ONE AFTER THE OTHER
+pub cycles-follow : CyclesFollow
+cycles-follow T = later-each T (Follows T) (λ g h k i c pg ph p l a. follows T g h k i c (nextCycle g h k i c) pg ph (allowed-lies T g h k i c pg ph p l a))
+
+-- CYCLES NEVER FALL along a route
+pub cycles-never-fall : CyclesNeverFall
+cycles-never-fall T = later-each T NotBelow (λ g h k i c pg ph p l a. next-or-same g h k i c .0)
+
+-- ---- how many they are, and how large
+on-many : (g : Hop) (k c : ℕ) (hs : List Hop) (is : List ℕ) → GoesOn g k hs is → length (onwardCycles g k c hs is) ≡ length hs
+on-many g k c [] is o = refl
+on-many g k c (h ∷ hs) [] o = absurd o
+on-many g k c (h ∷ hs) (i ∷ is) o = ap suc (on-many h i (nextCycle g h k i c) hs is (o .2))
+
+-- "a cycle number per hop"
+pub cycle-per-hop : CyclePerHop
+cycle-per-hop [] fs s = absurd s
+cycle-per-hop (h ∷ hs) [] s = absurd s
+cycle-per-hop (h ∷ hs) (k ∷ is) s = ap suc (on-many h k 0 hs is (s .2))
+
+on-bounded : (g : Hop) (k c : ℕ) (hs : List Hop) (is : List ℕ) (j : ℕ) → getD (onwardCycles g k c hs is) j 0 ≤ c + suc j
+on-bounded g k c [] is j = omega arith
+on-bounded g k c (h ∷ hs) [] j = omega arith
+on-bounded g k c (h ∷ hs) (i ∷ is) zero = omega (arith, next-or-same g h k i c .1)
+on-bounded g k c (h ∷ hs) (i ∷ is) (suc j) = omega (arith, next-or-same g h k i c .1, on-bounded h i (nextCycle g h k i c) hs is j)
+
+-- AND HOP j'S IS AT MOST j
+pub cycles-bounded : CyclesBounded
+cycles-bounded [] fs j = omega arith
+cycles-bounded (h ∷ hs) [] j = omega arith
+cycles-bounded (h ∷ hs) (k ∷ is) zero = omega arith
+cycles-bounded (h ∷ hs) (k ∷ is) (suc j) = omega (arith, on-bounded h k 0 hs is j)

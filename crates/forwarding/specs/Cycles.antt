@@ -1,0 +1,65 @@
+-- W-202, "Cycle numbers written out": the cycle of each hop of a schedule, and that its frame lies there. Assumes nothing.
+use mathlib.Core.Path.{_≡_}
+use mathlib.Core.Bool.{cond}
+use mathlib.Core.List.{List, [], _∷_}
+use Prim.Native.Nat.{ℕ, suc, _+_, _*_, _<_, _≤_}
+use lib.Dec.{ltb}
+use lib.ListN.{length, getD}
+use Rattle.forwarding.specs.declared.Hop.{Hop}
+use Rattle.forwarding.specs.Forwarding.{referenceInto, holdInto, frameTime}
+use Rattle.forwarding.specs.Hops.{noHop, AllReady}
+use Rattle.forwarding.specs.Schedule.{IsSchedule}
+
+-- "If the hop before lies at frame k of cycle c, the next has cycle c when r + D is below K, else c + 1": from the hop g to frame i of the hop h
+unfoldable pub nextCycle : Hop → Hop → ℕ → ℕ → ℕ → ℕ
+nextCycle g h k i c = cond (ltb (referenceInto g h k + holdInto g h k i) (h .frames)) c (c + 1)
+
+-- the cycles of the later hops, from frame k of the hop g in cycle c on
+abbrev pub onwardCycles : Hop → ℕ → ℕ → List Hop → List ℕ → List ℕ
+onwardCycles g k c [] is = []
+onwardCycles g k c (h ∷ hs) [] = []
+onwardCycles g k c (h ∷ hs) (i ∷ is) = nextCycle g h k i c ∷ onwardCycles h i (nextCycle g h k i c) hs is
+
+-- THE CYCLES OF A SCHEDULE, one for each hop: "Hop 0 has cycle 0"
+abbrev pub scheduleCycles : List Hop → List ℕ → List ℕ
+scheduleCycles [] fs = []
+scheduleCycles (h ∷ hs) [] = []
+scheduleCycles (h ∷ hs) (k ∷ is) = 0 ∷ onwardCycles h k 0 hs is
+
+-- "a cycle number per hop"
+abbrev pub CyclePerHop : Type 0
+CyclePerHop = (hops : List Hop) (fs : List ℕ) → IsSchedule hops fs → length (scheduleCycles hops fs) ≡ length hops
+
+-- ---- what holds of a later hop: g and h are the two hops, k and i their frames, c and d their cycles
+abbrev pub LaterHop : (Hop → Hop → ℕ → ℕ → ℕ → ℕ → Type 0) → List Hop → List ℕ → Type 0
+LaterHop P hops fs = (j : ℕ) → suc j < length hops
+    → P (getD hops j noHop) (getD hops (suc j) noHop) (getD fs j 0) (getD fs (suc j) 0) (getD (scheduleCycles hops fs) j 0) (getD (scheduleCycles hops fs) (suc j) 0)
+
+-- THE CYCLE IS THE ONE IN WHICH THE FRAME LIES: counted in frames of its link, frame i of cycle d comes r + D frames after cycle c begins
+abbrev pub Lies : Hop → Hop → ℕ → ℕ → ℕ → ℕ → Type 0
+Lies g h k i c d = d * h .frames + i ≡ c * h .frames + (referenceInto g h k + holdInto g h k i)
+
+abbrev pub CyclesLie : Type 0
+CyclesLie = (T : ℕ) (hops : List Hop) (fs : List ℕ) → AllReady T hops → IsSchedule hops fs → LaterHop Lies hops fs
+
+-- the tick at which frame i of cycle c of a hop begins, from the beginning of cycle 0 on
+abbrev pub beginsAt : ℕ → Hop → ℕ → ℕ → ℕ
+beginsAt T h c i = (c * h .frames + i) * frameTime T (h .frames)
+
+-- AND THE FRAMES IN THEIR CYCLES COME ONE AFTER THE OTHER: none begins before the one on the hop before has ended (W-201)
+abbrev pub Follows : ℕ → Hop → Hop → ℕ → ℕ → ℕ → ℕ → Type 0
+Follows T g h k i c d = beginsAt T g c (k + 1) ≤ beginsAt T h d i
+
+abbrev pub CyclesFollow : Type 0
+CyclesFollow = (T : ℕ) (hops : List Hop) (fs : List ℕ) → AllReady T hops → IsSchedule hops fs → LaterHop (Follows T) hops fs
+
+-- CYCLES NEVER FALL along a route
+abbrev pub NotBelow : Hop → Hop → ℕ → ℕ → ℕ → ℕ → Type 0
+NotBelow g h k i c d = c ≤ d
+
+abbrev pub CyclesNeverFall : Type 0
+CyclesNeverFall = (T : ℕ) (hops : List Hop) (fs : List ℕ) → AllReady T hops → IsSchedule hops fs → LaterHop NotBelow hops fs
+
+-- AND HOP j'S IS AT MOST j, so that of eight hops each has one digit
+abbrev pub CyclesBounded : Type 0
+CyclesBounded = (hops : List Hop) (fs : List ℕ) (j : ℕ) → getD (scheduleCycles hops fs) j 0 ≤ j
