@@ -1,10 +1,10 @@
 -- What a state that isn't broken shows, rule by rule, of its network, its sessions and their routes; and back. Assumes nothing.
-use mathlib.Core.Path.{_≡_, refl}
+use mathlib.Core.Path.{_≡_, refl, ap, subst, _∙_}
 use mathlib.Core.Bool.{Bool, true, false, not, _&&_, false≢true}
 use mathlib.Core.List.{List, []}
 use Prim.Native.Nat.{ℕ, _≤_}
 use native.Mathlib.Omega.{arith}
-use lib.ListN.{length}
+use lib.ListN.{length, length-map}
 use lib.Dec.{leb}
 use borrow.Author.Tests.{le-leb, leb-true, not-true}
 use Rattle.lists.proofs.Count as tests
@@ -13,14 +13,16 @@ use Rattle.network.specs.Network.{Topology}
 use Rattle.network.specs.Checks.{networkCheck}
 use Rattle.forwarding.specs.declared.Hop.{Hop}
 use Rattle.forwarding.specs.Schedule.{IsSchedule, isSchedule, scheduleDelay}
+use Rattle.forwarding.specs.Cycles.{scheduleCycles}
 use Rattle.forwarding.proofs.Schedules.{told-schedule, schedule-told}
+use Rattle.forwarding.proofs.Cycles.{cycle-per-hop}
 use Rattle.ledger.specs.Lists.{allOf}
-use Rattle.ledger.specs.Held.{heldOver, nodesIn, sameHeld}
-use Rattle.ledger.specs.Sessions.{Session, View, hopsOf}
+use Rattle.ledger.specs.Held.{Holding, heldOver, nodesIn, sameHeld}
+use Rattle.ledger.specs.Sessions.{Session, View, hopOf, hopsOf}
 use Rattle.ledger.specs.Routes.{routeCheck}
 use Rattle.ledger.specs.Sound.{passes, goodNetwork, fewSessions, numberTwice, goodHeld, goodSession, frameTwice, sound, derived, intact}
 use Rattle.ledger.specs.Demand.{fresh, FreshIntact}
-use Rattle.ledger.proofs.Held.{same-is, is-same}
+use Rattle.ledger.proofs.Held.{schedule-length, cycles-over, frames-in, same-is, is-same}
 
 -- the test whether a check passes
 pub passes-given : (r : Ruling) → passes r ≡ true → r ≡ given pass
@@ -61,6 +63,24 @@ good-session net s g =
     let m : Bool = sameHeld (s .held) (heldOver hops (scheduleDelay (net .ticks) hops w) w) in
     tests.both-and (passes (routeCheck net (s .route))) (k && m) (given-passes (routeCheck net (s .route)) (g .route))
     (tests.both-and k m (schedule-told hops w (g .schedule)) (is-same (s .held) (heldOver hops (scheduleDelay (net .ticks) hops w) w) (g .held)))
+
+-- it has a frame and a cycle for each link, and the cycles are those of the frames
+module _ (net : Topology) (s : Session) (g : GoodSession net s) where
+  on-frames : IsSchedule (hopsOf net [] (s .route)) (s .held .frames)
+  on-frames = subst (IsSchedule (hopsOf net [] (s .route))) (frames-in (hopsOf net [] (s .route)) (s .held)) (g .schedule)
+
+  pub frame-each : length (s .held .frames) ≡ length (s .route)
+  frame-each = schedule-length (hopsOf net [] (s .route)) (s .held .frames) on-frames ∙ length-map (s .route) (hopOf net [])
+
+  pub good-cycles : s .held .cycles ≡ scheduleCycles (hopsOf net [] (s .route)) (s .held .frames)
+  good-cycles =
+      ap (λ (h : Holding). h .cycles) (g .held)
+      ∙ cycles-over (hopsOf net [] (s .route)) (scheduleDelay (net .ticks) (hopsOf net [] (s .route)) (nodesIn (hopsOf net [] (s .route)) (s .held))) (nodesIn (hopsOf net [] (s .route)) (s .held))
+      ∙ ap (scheduleCycles (hopsOf net [] (s .route))) (frames-in (hopsOf net [] (s .route)) (s .held))
+
+  pub cycle-each : length (s .held .cycles) ≡ length (s .route)
+  cycle-each =
+      ap (λ (cs : List ℕ). length cs) good-cycles ∙ cycle-per-hop (hopsOf net [] (s .route)) (s .held .frames) on-frames ∙ length-map (s .route) (hopOf net [])
 
 -- ---- a state that isn't broken
 pub record Intact (net : Topology) (ss : List Session) : Type 0 where

@@ -12,11 +12,11 @@ use Rattle.refusals.specs.Refusals.{given, refused}
 use Rattle.refusals.proofs.Refusals.{not-given, past}
 use Rattle.ledger.specs.Lists.{anyOf, anyTwo}
 use Rattle.ledger.specs.Sessions.{Session, View, isLive}
-use Rattle.ledger.specs.Sound.{sameNumber, numberTwice, intact}
+use Rattle.ledger.specs.Sound.{sameNumber, numberTwice, goodSession, intact}
 use Rattle.ledger.specs.Calls.{lookIn, lookup}
 use Rattle.ledger.specs.Demand.{LiveNumbers}
-use Rattle.ledger.proofs.Lists.{clash, none-member}
-use Rattle.ledger.proofs.Intact.{intact-is}
+use Rattle.ledger.proofs.Lists.{clash, none-member, all-member}
+use Rattle.ledger.proofs.Intact.{intact-is, GoodSession, session-good}
 
 pub lookup-intact : (v : View) (n : ℕ) → intact v ≡ true → lookup v n ≡ lookIn n (v .live)
 unfolding lookup
@@ -38,6 +38,12 @@ looked-up n (x ∷ ss) s h = go (eqb (x .number) n) refl h (λ k. looked-up n ss
         let same : s ≡ x = cc in
         (List·Memᴰ·head same, ap (λ (u : Session). u .number) same ∙ eqb-true (x .number) n e)
     go false e k ih = let r = ih k in (List·Memᴰ·tail (r .0), r .1)
+
+-- and one that keeps the rules
+pub shown-good : (v : View) (n : ℕ) (s : Session) → lookup v n ≡ given s → GoodSession (v .network) s
+shown-good v n s h =
+    let g = lookup-given v n s h in
+    session-good (v .network) s (all-member (goodSession (v .network)) (v .live) (intact-is v (g .0) .sessions) (looked-up n (v .live) s (g .1) .0))
 
 -- each session of the list is given for its number
 pub shown : (ss : List Session) (s : Session) → numberTwice ss ≡ false → List·Memᴰ s ss → lookIn (s .number) ss ≡ given s

@@ -6,17 +6,19 @@ use Prim.Native.Nat.{ℕ, _+_, _<_}
 use native.Mathlib.Omega.{arith}
 use lib.ListN.{length, getD, length-map}
 use Rattle.refusals.specs.Refusals.{given}
-use Rattle.ledger.specs.Sessions.{Session, View, Slot, holds}
+use Rattle.network.specs.Network.{Topology}
+use Rattle.forwarding.specs.Cycles.{scheduleCycles}
+use Rattle.ledger.specs.Sessions.{Session, View, Slot, holds, hopsOf}
 use Rattle.ledger.specs.Sound.{shareSlot, frameTwice, intact}
 use Rattle.ledger.specs.Calls.{Call, Reply, liveAfter, left, reply, next, lookup}
 use Rattle.ledger.specs.Ledger.{AnsweredCall, did, effectOf, ledgerFrom, ledger, isRefusal, acceptedSetUp, acceptedRelease, countSteps}
 use Rattle.ledger.specs.Demand.{fresh, HoldsSlot, NamedAndKept, LiveNumbers, Right, Runs, over, callThen, Demand3Holds, Stepped, EveryListStepped}
 use Rattle.ledger.proofs.Lists.{anyTwo-at}
-use Rattle.ledger.proofs.Intact.{intact-is, fresh-intact}
+use Rattle.ledger.proofs.Intact.{intact-is, good-cycles, fresh-intact}
 use Rattle.ledger.proofs.Answered.{answerOn, reply-intact}
 use Rattle.ledger.proofs.Kept.{next-intact}
 use Rattle.ledger.proofs.Entries.{Entered, entry-entered, entered-entry}
-use Rattle.ledger.proofs.Shown.{lookup-intact, lookup-given, looked-up, shown, not-shown, numbersOf, live-numbers}
+use Rattle.ledger.proofs.Shown.{lookup-intact, lookup-given, shown-good, looked-up, shown, not-shown, numbersOf, live-numbers}
 use Rattle.ledger.proofs.Holders.{not-shared, one-holder}
 use Rattle.ledger.proofs.Refused.{answer-right}
 use Rattle.ledger.proofs.Balance.{released-live, balance-step}
@@ -128,6 +130,7 @@ demand3 net p steps v runs =
       answers = λ before call r later e. runs-right before call r later begun runs e;
       entryShown = entry-shown v steps i led;
       noneShown = λ n h. lookup-intact v n i ∙ rw led (not-shown n (ledger steps) h);
+      cyclesShown = λ n s e. subst (λ (t : Topology). s .held .cycles ≡ scheduleCycles (hopsOf t [] (s .route)) (s .held .frames)) (runs-network runs) (good-cycles (v .network) s (shown-good v n s e));
       oneEntry = entry-once v steps i led;
       network = runs-network runs;
     }

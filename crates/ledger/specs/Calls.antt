@@ -109,7 +109,7 @@ next v call = left v (effect call (reply v call))
 abbrev pub NextIntact : Type 0
 NextIntact = (v : View) (call : Call) → intact v ≡ true → intact (next v call) ≡ true
 
--- Lookup (number): "the live session's route, frames and delay", or 19
+-- Lookup (number): "the live session's route, frames and delay" with the cycles, or 19
 abbrev pub lookIn : ℕ → List Session → Outcome Session
 lookIn n [] = refused 19
 lookIn n (s ∷ ss) = cond (eqb (s .number) n) (given s) (lookIn n ss)

@@ -12,6 +12,7 @@ use Rattle.network.specs.Network.{Topology}
 use Rattle.network.specs.Checks.{networkCheck}
 use Rattle.forwarding.specs.declared.Hop.{Hop}
 use Rattle.forwarding.specs.Schedule.{IsSchedule, CountOf}
+use Rattle.forwarding.specs.Cycles.{scheduleCycles}
 use Rattle.forwarding.specs.Route.{routeAnswer}
 use Rattle.forwarding.specs.LeastDelay.{Given}
 use Rattle.ledger.specs.Lists.{anyOf}
@@ -88,6 +89,8 @@ pub record Demand3 (net : Topology) (v : View) (steps : List AnsweredCall) : Typ
   -- "lookup gives each entry's route, frames and delay for its number, and 19 for every number without an entry"
   pub entryShown : (e : Session) → List·Memᴰ e (ledger steps) → lookup v (e .number) ≡ given e
   pub noneShown : (n : ℕ) → isLive n (ledger steps) ≡ false → lookup v n ≡ refused 19
+  -- W-202: "Over a history of calls, what lookup shows as cycles must be those of the frames shown"
+  pub cyclesShown : (n : ℕ) (s : Session) → lookup v n ≡ given s → s .held .cycles ≡ scheduleCycles (hopsOf net [] (s .route)) (s .held .frames)
   -- "No frame stands in two entries"
   pub oneEntry : (x : Slot) (j k : ℕ) (d : Session) → j < k → k < length (ledger steps)
       → holds x (getD (ledger steps) j d) ≡ true → holds x (getD (ledger steps) k d) ≡ true → ⊥

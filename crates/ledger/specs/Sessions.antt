@@ -14,7 +14,7 @@ use Rattle.forwarding.specs.Forwarding.{isFree}
 use Rattle.ledger.specs.Lists.{anyOf}
 use Rattle.ledger.specs.Held.{Holding, heldOver}
 
--- a live session, and an entry of the ledger: "its number, its route and its answer's frames and delay"
+-- a live session, and an entry of the ledger: "its number, its route and its answer's frames and delay", with their cycles
 pub record Session : Type 0 where
   pub number : ℕ
   pub route : List ℕ
