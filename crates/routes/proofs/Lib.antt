@@ -5,3 +5,4 @@ pub mod Routes
 pub mod Hops
 pub mod Steps
 pub mod Walks
+pub mod HopCycles

@@ -1,4 +1,4 @@
-// The checks of a route, 12 to 15; what a route's links are to the search, its hops; and what frames over them are: a schedule with its delay, or none.
+// The checks of a route, 12 to 15; what a route's links are to the search, its hops; and what frames over them are: a schedule with its delay and its cycles, or none.
 use forwarding::Delay;
 use forwarding::Hop;
 use network::Link;
@@ -16,10 +16,11 @@ ghost use Rattle.network.specs.Network.{topologyOf};
 ghost use Rattle.network.specs.Checks.{networkCheck};
 ghost use Rattle.forwarding.specs.Forwarding.{isFree};
 ghost use Rattle.forwarding.specs.Hops.{noHop, HopReady, Ready};
+ghost use Rattle.forwarding.specs.Cycles.{scheduleCycles};
 ghost use Rattle.ledger.specs.Lists.{anyOf};
 ghost use Rattle.ledger.specs.Routes.{badLength, unknown, unknownLink, linkTwice, apart, ratesApart, ratesOf, routeCheck};
 ghost use Rattle.routes.specs.Hops.{hopFrom, hopsFrom, delayIf, walkedDelay};
-ghost use Rattle.routes.specs.Inner.{stepIf};
+ghost use Rattle.routes.specs.Inner.{stepIf, ScheduleLaid};
 
 // What frames over the hops of a route come to: a schedule's delay, or that they are no schedule.
 pub enum Walked {
@@ -208,4 +209,27 @@ pub fn walk(t: u16, hops: [Hop; 8], frames: [u8; 8], n: usize) -> Walked
         j += 1;
     }
     Walked::Delayed(total)
+}
+
+// The cycle of each hop of a schedule; unused places hold 0. Checks 7 and 12 bound the hops.
+pub fn cycles(hops: [Hop; 8], frames: [u8; 8], n: usize) -> [u8; 8]
+    requires { ⌜ ScheduleLaid hops frames n ⌝ }
+    ensures { λ r. ⌜ r ≡ firsts 8 (scheduleCycles (firsts n hops noHop) (firsts n frames 0)) 0 ⌝ }
+{
+    let first = hops[0];
+    let mut before = first;
+    let mut k = places::short(frames[0]);
+    let mut cycles = [0u8; 8];
+    let mut cycle: u8 = 0;
+    let mut j: usize = 1;
+    while j < n {
+        let hop = hops[j];
+        let i = places::short(frames[j]);
+        cycle = forwarding::next_cycle(k, before, hop, i, cycle);
+        cycles[j] = cycle;
+        before = hop;
+        k = i;
+        j += 1;
+    }
+    cycles
 }
