@@ -189,7 +189,7 @@ pub fn number_twice(table: Table) -> bool
     false
 }
 
-// A route, or the frames of its hops, in eight places, the others 0.
+// A route, or the frames or cycles of its hops, in eight places, the others 0.
 pub fn in_eight(route: &[u8]) -> [u8; 8]
     requires { ⌜ length (now route) ≤ 8 ⌝ }
     ensures { λ r. ⌜ r ≡ firsts 8 (now (route .entry)) 0 ⌝ }
@@ -210,8 +210,14 @@ pub fn cleared(held: Held, n: usize) -> Held
 {
     let all = held.frames;
     let frames = in_eight(&all[..n]);
+    let every = held.cycles;
+    let cycles = in_eight(&every[..n]);
     let delay = held.delay;
-    Held { frames, delay }
+    Held {
+        frames,
+        cycles,
+        delay,
+    }
 }
 
 // What a refused call holds.
@@ -220,6 +226,7 @@ pub fn nothing_held() -> Held
 {
     Held {
         frames: [0u8; 8],
+        cycles: [0u8; 8],
         delay: Delay(0),
     }
 }

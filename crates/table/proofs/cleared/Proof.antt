@@ -19,8 +19,24 @@ in-eight-requires : tie.Need-in-eight-requires
 in-eight-requires c κs = let s = c .before .before in
     omega (arith, length-take-le (s .args .n) (s .args .held .frames) (array-share-prefix-all (c .before)), s .pre)
 
+array-share-prefix-every : tie.Need-array-share-prefix-every
+array-share-prefix-every c = let s = c .before .before .before .before in
+    omega (arith, mapped-length 8 _ (s .args .held .cycles) (s .good .0 .1 .1 .1 .0 .1 .0 .1), s .pre)
+
+slice-aggregate-in-eight-2 : tie.Need-slice-aggregate-in-eight-2
+slice-aggregate-in-eight-2 c = sym (length-take-le _ _ (array-share-prefix-every (c .before)))
+
+in-eight-requires-2 : tie.Need-in-eight-requires-2
+in-eight-requires-2 c κs = let s = c .before .before .before .before .before in
+    omega (arith, length-take-le (s .args .n) (s .args .held .cycles) (array-share-prefix-every (c .before)), s .pre)
+
 returns : tie.Need-returns
-returns c = rw (← part-filled _ _ _ (array-share-prefix-all (c .before .before .before)) (c .before .in-eight .ensures))
+returns c =
+    let second = c .before .before .before in
+    let first = second .before .before .before in
+    rw (← part-filled _ _ _ (array-share-prefix-all first) (second .before .in-eight .ensures), ← part-filled _ _ _ (array-share-prefix-every second) (c .before .in-eight2 .ensures))
 
 pub cleared-spec : {M : Type 1} → statement M
-cleared-spec = tie.close (tie.spec array-share-prefix-all slice-aggregate-in-eight in-eight-requires returns)
+cleared-spec =
+    tie.close
+    (tie.spec array-share-prefix-all slice-aggregate-in-eight in-eight-requires array-share-prefix-every slice-aggregate-in-eight-2 in-eight-requires-2 returns)
