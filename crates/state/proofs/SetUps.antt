@@ -19,11 +19,17 @@ use Rattle.refusals.proofs.Refusals.{uncounted}
 use Rattle.refusals.specs.declared.Verdict.{Verdict}
 use Rattle.refusals.specs.declared.Verdict.the-variants as verdict
 use Rattle.network.specs.Network.{Topology, topologyOf}
+use Rattle.network.specs.Checks.{networkCheck}
 use Rattle.network.specs.declared.Network.{Network}
 use Rattle.forwarding.specs.declared.Delay.{Delay}
 use Rattle.forwarding.specs.declared.Held.{Held}
+use Rattle.forwarding.specs.declared.Hop.{Hop}
+use Rattle.forwarding.specs.Hops.{noHop, Ready}
+use Rattle.forwarding.specs.Schedule.{IsSchedule}
+use Rattle.forwarding.specs.Cycles.{scheduleCycles}
 use Rattle.forwarding.specs.Route.{routeAnswer}
-use Rattle.search.specs.Reading.{reading}
+use Rattle.forwarding.proofs.Answers.{found-given}
+use Rattle.search.specs.Reading.{reading, Finds}
 use Rattle.search.specs.declared.Finding.{Finding}
 use Rattle.search.specs.declared.Found.{Found}
 use Rattle.search.specs.declared.Found.the-variants as result
@@ -32,10 +38,12 @@ use Rattle.ledger.specs.Sessions.{Session, isLive, hopsOf}
 use Rattle.ledger.specs.Routes.{routeCheck}
 use Rattle.ledger.specs.Sound.{intact}
 use Rattle.ledger.specs.Calls.{Call, SetUp, Quote, Reply, schedule, refusal, replyOf, answerOver, full, callCheck, granted, reply, enters, leaves, effect}
+use Rattle.ledger.proofs.Intact.{intact-is}
 use Rattle.ledger.proofs.Held.{places-over}
 use Rattle.ledger.proofs.Answered.{admitted}
 use Rattle.ledger.proofs.Refused.{not-eighteen}
 use Rattle.ledger.proofs.Scheduled.{scheduled, scheduled-back}
+use Rattle.routes.specs.Inner.{ScheduleLaid}
 use Rattle.routes.proofs.Routes.{route-long}
 use Rattle.table.specs.declared.Place.{Place}
 use Rattle.table.specs.declared.Table.{Table}
@@ -44,7 +52,8 @@ use Rattle.table.proofs.Live.{in-length}
 use Rattle.state.specs.declared.State.{State}
 use Rattle.state.specs.declared.Quoted.{Quoted}
 use Rattle.state.specs.State.{viewOf, notQuoted, Quotes, Serves}
-use Rattle.state.specs.Inner.{Searched}
+use Rattle.state.specs.Inner.{foundPlaces, foundQuoted}
+use Rattle.state.proofs.Searches.{ticks-told, Searched, hops-ready, hops-back, hops-searched}
 use Rattle.state.proofs.Replies.{route-refuses, number-refuses, places-refuse, none-refuses, quote-check, refused-reply, granted-reply, refusal-leaves, stays, moves}
 
 -- ---- the checks of a set-up after 0, in turn
@@ -79,43 +88,45 @@ stored-route number route eight held e few =
     ap (λ (links : List ℕ). record { number = number; route = links; held = holdingOf (length route) held })
     (ap (λ (l : List ℕ). firsts (length route) l 0) e ∙ firsts-back 8 route 0 few)
 
--- ---- what a search found, as an answer
--- what it found, in eight places
-abbrev pub inEight : Finding → Delay → Held
-inEight f d = record { frames = f .frames; delay = d }
-
-abbrev pub foundQuoted : Finding → Delay → Quoted
-foundQuoted f d = record { verdict = verdict.Passed; count = f .count; held = inEight f d }
-
-module _ (net : Topology) (ss : List Session) (route : List ℕ) (f : Finding) (s : Searched net ss route f) where
-  told : (x : Found) → f .found ≡ x → routeAnswer (net .ticks) (hopsOf net ss route) ≡ reading (length route) x (f .count) (f .frames)
-  told x e = sym (s .answer) ∙ ap (λ (y : Found). reading (length route) y (f .count) (f .frames)) e
+-- ---- what a search found over n hops, as an answer
+module _ (T n : ℕ) (hops : List Hop) (f : Finding) (s : Searched T n hops f) where
+  told : (x : Found) → f .found ≡ x → routeAnswer T hops ≡ reading n x (f .count) (f .frames)
+  told x e = sym (s .answer) ∙ ap (λ (y : Found). reading n y (f .count) (f .frames)) e
 
   -- 18, with the count
   module _ (e : f .found ≡ result.Blocked) where
-    pub none-found : answerOver (net .ticks) (hopsOf net ss route) ≡ refusal 18 (f .count)
-    none-found = ap (replyOf (hopsOf net ss route)) (told result.Blocked e)
+    pub none-found : answerOver T hops ≡ refusal 18 (f .count)
+    none-found = ap (replyOf hops) (told result.Blocked e)
 
-    pub quotes-blocked : (q : Quoted) → q ≡ notQuoted (NoSchedule (f .count)) → Quotes (answerOver (net .ticks) (hopsOf net ss route)) q
+    pub quotes-blocked : (q : Quoted) → q ≡ notQuoted (NoSchedule (f .count)) → Quotes (answerOver T hops) q
     quotes-blocked q w = subst (λ (x : Reply). Quotes x q) (sym none-found) (NoSchedule (f .count), refl, refl, w)
 
   -- a schedule: what it holds, and that in eight places
   module _ (d : Delay) (e : f .found ≡ result.Schedule d) where
+    pub schedule-found : IsSchedule hops (firsts n (f .frames) 0)
+    schedule-found = found-given T hops (d .0) (f .count) (firsts n (f .frames) 0) (told (result.Schedule d) e) .schedule
+
     abbrev pub foundHeld : Holding
-    foundHeld = heldOver (hopsOf net ss route) (d .0) (firsts (length route) (f .frames) 0)
+    foundHeld = heldOver hops (d .0) (firsts n (f .frames) 0)
 
-    pub held-found : answerOver (net .ticks) (hopsOf net ss route) ≡ schedule foundHeld (f .count)
-    held-found = ap (replyOf (hopsOf net ss route)) (told (result.Schedule d) e)
+    pub held-found : answerOver T hops ≡ schedule foundHeld (f .count)
+    held-found = ap (replyOf hops) (told (result.Schedule d) e)
 
-    pub found-places : inEight f d ≡ heldPlaces foundHeld
+    pub found-places : foundPlaces hops n f d ≡ heldPlaces foundHeld
     found-places =
-        places-over (hopsOf net ss route) d (firsts (length route) (f .frames) 0) (f .frames)
-        (s .places ∙ ap (λ (a : trellis.Answer). firsts 8 (nodesOf a) 0) (told (result.Schedule d) e))
+        places-over hops d (firsts n (f .frames) 0) (f .frames) (firsts 8 (scheduleCycles hops (firsts n (f .frames) 0)) 0)
+        (s .places ∙ ap (λ (a : trellis.Answer). firsts 8 (nodesOf a) 0) (told (result.Schedule d) e)) refl
 
-    pub quotes-found : (q : Quoted) → q ≡ foundQuoted f d → Quotes (answerOver (net .ticks) (hopsOf net ss route)) q
+    pub quotes-found : (q : Quoted) → q ≡ foundQuoted hops n f d → Quotes (answerOver T hops) q
     quotes-found q e =
         subst (λ (x : Reply). Quotes x q) (sym held-found)
         (e ∙ ap (λ (h : Held). record { verdict = verdict.Passed; count = f .count; held = h }) found-places)
+
+-- what a search found is laid into eight places
+pub found-laid : (T n : ℕ) (eight : List Hop) (f : Finding) → Ready T eight n → Searched T n (firsts n eight noHop) f → (d : Delay) → f .found ≡ result.Schedule d
+    → ScheduleLaid eight (f .frames) n
+found-laid T n eight f r s d e =
+    record { few-hops = r .few-hops; few-frames = λ j h. r .each j h .few-frames; schedule = schedule-found T n (firsts n eight noHop) f s d e }
 
 module _ (st : State) (ok : intact (viewOf st) ≡ true) where
   -- ---- a refusal by a check: it has no count, and leaves the very same state
@@ -140,9 +151,15 @@ module _ (st : State) (ok : intact (viewOf st) ≡ true) where
   unfolding granted
   quote-granted route e = granted-reply (viewOf st) ok (Quote route) (quote-check (topologyOf (st .network)) (liveOf (st .table)) route ∙ e)
 
-  pub quote-quotes : (route : List ℕ) → routeCheck (topologyOf (st .network)) route ≡ given pass → (q : Quoted)
-      → Quotes (answerOver (topologyOf (st .network) .ticks) (hopsOf (topologyOf (st .network)) (liveOf (st .table)) route)) q → Quotes (reply (viewOf st) (Quote route)) q
-  quote-quotes route e q w = subst (λ (x : Reply). Quotes x q) (sym (quote-granted route e)) w
+  -- answered over the route's hops in eight places
+  pub quote-quotes : (route : List ℕ) (checked : routeCheck (topologyOf (st .network)) route ≡ given pass) (eight : List Hop)
+      → eight ≡ firsts 8 (hopsOf (topologyOf (st .network)) (liveOf (st .table)) route) noHop → (q : Quoted)
+      → Quotes (answerOver (st .network .ticks) (firsts (length route) eight noHop)) q → Quotes (reply (viewOf st) (Quote route)) q
+  quote-quotes route checked eight e q w =
+      subst (λ (x : Reply). Quotes x q) (sym (quote-granted route checked))
+      (subst (λ (T : ℕ). Quotes (answerOver T (hopsOf (topologyOf (st .network)) (liveOf (st .table)) route)) q) (sym (ticks-told (st .network)))
+      (subst (λ (hops : List Hop). Quotes (answerOver (st .network .ticks) hops) q)
+      (hops-back (st .network) (liveOf (st .table)) route (intact-is (viewOf st) ok .network) checked eight e) w))
 
   module _ (n : ℕ) (route : List ℕ) (passed : callCheck (topologyOf (st .network)) (liveOf (st .table)) (SetUp n route) ≡ given pass) where
     abbrev net : Topology
@@ -155,29 +172,52 @@ module _ (st : State) (ok : intact (viewOf st) ≡ true) where
     unfolding granted
     set-up-granted = granted-reply (viewOf st) ok (SetUp n route) passed
 
-    module _ (f : Finding) (s : Searched net ss route f) where
+    -- the route passed
+    pub route-passed : routeCheck net route ≡ given pass
+    route-passed = admitted net ss n route passed .passed
+
+    -- what the search of its hops in eight places found
+    module _ (eight : List Hop) (e8 : eight ≡ firsts 8 (hopsOf net ss route) noHop) (f : Finding) (finds : Finds (st .network .ticks) eight (length route) f) where
+      checked : networkCheck net ≡ given pass
+      checked = intact-is (viewOf st) ok .network
+
+      s : Searched (net .ticks) (length route) (hopsOf net ss route) f
+      s = hops-searched (st .network) ss route checked route-passed eight e8 f finds
+
+      back : firsts (length route) eight noHop ≡ hopsOf net ss route
+      back = hops-back (st .network) ss route checked route-passed eight e8
+
+      pub set-up-laid : (d : Delay) → f .found ≡ result.Schedule d → ScheduleLaid eight (f .frames) (length route)
+      set-up-laid d e =
+          found-laid (net .ticks) (length route) eight f
+          (subst (λ (T : ℕ). Ready T eight (length route)) (sym (ticks-told (st .network))) (hops-ready (st .network) ss route checked route-passed eight e8))
+          (subst (λ (hops : List Hop). Searched (net .ticks) (length route) hops f) (sym back) s) d e
+
       -- 18 leaves the very same state
       pub set-up-blocked : f .found ≡ result.Blocked → (q : Quoted) → q ≡ notQuoted (NoSchedule (f .count)) → Serves st (SetUp n route) (record { answer = q; state = st })
       set-up-blocked e q w =
           record {
-            answer = subst (λ (x : Reply). Quotes x q) (sym set-up-granted) (quotes-blocked net ss route f s e q w);
-            after = stays st (SetUp n route) (refusal-leaves (SetUp n route) _ 18 (f .count) (set-up-granted ∙ none-found net ss route f s e));
+            answer = subst (λ (x : Reply). Quotes x q) (sym set-up-granted) (quotes-blocked (net .ticks) (length route) (hopsOf net ss route) f s e q w);
+            after = stays st (SetUp n route) (refusal-leaves (SetUp n route) _ 18 (f .count) (set-up-granted ∙ none-found (net .ticks) (length route) (hopsOf net ss route) f s e));
           }
 
       -- the frames are held
-      module _ (d : Delay) (e : f .found ≡ result.Schedule d) (q : Quoted) (eq : q ≡ foundQuoted f d) (place : Place)
+      module _ (d : Delay) (e : f .found ≡ result.Schedule d) (q : Quoted) (eq : q ≡ foundQuoted (firsts (length route) eight noHop) (length route) f d) (place : Place)
           (ep : sessionOf place ≡ record { number = n; route = route; held = holdingOf (length route) (q .held) }) (table : Table)
           (et : liveOf table ≡ ss ++ (sessionOf place ∷ [])) where
-        accepted : reply (viewOf st) (SetUp n route) ≡ schedule (foundHeld net ss route f s d e) (f .count)
-        accepted = set-up-granted ∙ held-found net ss route f s d e
+        over-hops : q ≡ foundQuoted (hopsOf net ss route) (length route) f d
+        over-hops = eq ∙ ap (λ (hops : List Hop). foundQuoted hops (length route) f d) back
+
+        accepted : reply (viewOf st) (SetUp n route) ≡ schedule (foundHeld (net .ticks) (length route) (hopsOf net ss route) f s d e) (f .count)
+        accepted = set-up-granted ∙ held-found (net .ticks) (length route) (hopsOf net ss route) f s d e
 
         -- what is stored reads as what is held
-        stored : holdingOf (length route) (q .held) ≡ foundHeld net ss route f s d e
+        stored : holdingOf (length route) (q .held) ≡ foundHeld (net .ticks) (length route) (hopsOf net ss route) f s d e
         stored =
-            ap (λ (x : Quoted). holdingOf (length route) (x .held)) eq
-            ∙ ap (holdingOf (length route)) (found-places net ss route f s d e)
-            ∙ scheduled-back (viewOf st) route (foundHeld net ss route f s d e) (scheduled (viewOf st) (SetUp n route) (foundHeld net ss route f s d e) (f .count) accepted)
-            (route-long (topologyOf (st .network)) route (admitted (topologyOf (st .network)) (liveOf (st .table)) n route passed .passed) .1)
+            ap (λ (x : Quoted). holdingOf (length route) (x .held)) over-hops
+            ∙ ap (holdingOf (length route)) (found-places (net .ticks) (length route) (hopsOf net ss route) f s d e)
+            ∙ scheduled-back (viewOf st) route (foundHeld (net .ticks) (length route) (hopsOf net ss route) f s d e) (scheduled (viewOf st) (SetUp n route) (foundHeld (net .ticks) (length route) (hopsOf net ss route) f s d e) (f .count) accepted)
+            (route-long net route route-passed .1)
 
         enters-moves : (u : Session) (X : Type 0) → enters u ≡ leaves → X
         enters-moves u X q = let z : _≡_ {A = ℕ} 0 1 = cc in absurd (omega arith)
@@ -185,7 +225,7 @@ module _ (st : State) (ok : intact (viewOf st) ≡ true) where
         pub set-up-held : Serves st (SetUp n route) (record { answer = q; state = record { network = st .network; table = table } })
         set-up-held =
             record {
-              answer = subst (λ (x : Reply). Quotes x q) (sym set-up-granted) (quotes-found net ss route f s d e q eq);
-              after = moves st (SetUp n route) (enters record { number = n; route = route; held = foundHeld net ss route f s d e }) (ap (effect (SetUp n route)) accepted) (enters-moves _) table
+              answer = subst (λ (x : Reply). Quotes x q) (sym set-up-granted) (quotes-found (net .ticks) (length route) (hopsOf net ss route) f s d e q over-hops);
+              after = moves st (SetUp n route) (enters record { number = n; route = route; held = foundHeld (net .ticks) (length route) (hopsOf net ss route) f s d e }) (ap (effect (SetUp n route)) accepted) (enters-moves _) table
                   (et ∙ ap (λ (u : Session). ss ++ (u ∷ [])) (ep ∙ ap (λ (h : Holding). record { number = n; route = route; held = h }) stored));
             }

@@ -1,17 +1,19 @@
 -- Words of the contracts of inner functions. They are no part of what is promised. Assumes nothing.
-use mathlib.Core.Path.{_≡_}
 use mathlib.Core.List.{List}
 use Prim.Native.Nat.{ℕ}
-use lib.ListN.{length}
-use Rattle.trellis.specs.Answer.{nodesOf}
 use Rattle.places.specs.Places.{firsts}
-use Rattle.network.specs.Network.{Topology}
-use Rattle.forwarding.specs.Route.{routeAnswer}
-use Rattle.search.specs.Reading.{reading}
+use Rattle.refusals.specs.declared.Verdict.the-variants.{Passed}
+use Rattle.forwarding.specs.declared.Hop.{Hop}
+use Rattle.forwarding.specs.declared.Delay.{Delay}
+use Rattle.forwarding.specs.declared.Held.{Held}
+use Rattle.forwarding.specs.Cycles.{scheduleCycles}
 use Rattle.search.specs.declared.Finding.{Finding}
-use Rattle.ledger.specs.Sessions.{Session, hopsOf}
+use Rattle.state.specs.declared.Quoted.{Quoted}
 
--- a search's result over the frames left free by the sessions ss is the answer of "Least-delay schedule"
-pub record Searched (net : Topology) (ss : List Session) (route : List ℕ) (r : Finding) : Type 0 where
-  pub answer : reading (length route) (r .found) (r .count) (r .frames) ≡ routeAnswer (net .ticks) (hopsOf net ss route)
-  pub places : r .frames ≡ firsts 8 (nodesOf (routeAnswer (net .ticks) (hopsOf net ss route))) 0
+-- what a search found over n hops, in eight places: its frames with their cycles, and the delay
+abbrev pub foundPlaces : List Hop → ℕ → Finding → Delay → Held
+foundPlaces hops n f d = record { frames = f .frames; cycles = firsts 8 (scheduleCycles hops (firsts n (f .frames) 0)) 0; delay = d }
+
+-- the answer that gives it
+abbrev pub foundQuoted : List Hop → ℕ → Finding → Delay → Quoted
+foundQuoted hops n f d = record { verdict = Passed; count = f .count; held = foundPlaces hops n f d }

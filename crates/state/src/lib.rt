@@ -2,6 +2,7 @@
 // The crate `sessions` offers these calls on every state, and those that the program doesn't make.
 use forwarding::Delay;
 use forwarding::Held;
+use forwarding::Hop;
 use network::Network;
 use refusals::Refusal;
 use refusals::Verdict;
@@ -11,23 +12,24 @@ use table::Place;
 use table::Table;
 ghost use mathlib.Core.Path.{_≡_};
 ghost use mathlib.Core.Bool.{true};
-ghost use mathlib.Core.List.{List};
-ghost use Prim.Native.Nat.{ℕ, _≤_};
+ghost use Prim.Native.Nat.{_≤_};
 ghost use lib.Dec.{leb};
 ghost use lib.ListN.{length};
+ghost use Rattle.places.specs.Places.{firsts};
 ghost use Rattle.refusals.specs.Refusals.{given, pass, ruling};
-ghost use Rattle.refusals.specs.declared.Verdict.the-variants.{Passed};
-ghost use Rattle.network.specs.Network.{Topology, topologyOf};
+ghost use Rattle.network.specs.Network.{topologyOf};
 ghost use Rattle.network.specs.Checks.{networkCheck};
+ghost use Rattle.forwarding.specs.Hops.{noHop, Ready};
 ghost use Rattle.ledger.specs.Held.{holdingOf};
-ghost use Rattle.ledger.specs.Sessions.{Session, isLive, hopsOf};
+ghost use Rattle.ledger.specs.Sessions.{isLive, hopsOf};
 ghost use Rattle.ledger.specs.Routes.{routeCheck};
 ghost use Rattle.ledger.specs.Sound.{intact};
 ghost use Rattle.ledger.specs.Calls.{SetUp, Quote, answerOver, callCheck, reply};
+ghost use Rattle.routes.specs.Inner.{ScheduleLaid};
 ghost use Rattle.table.specs.Table.{sessionOf, liveOf};
 ghost use Rattle.table.specs.Inner.{AllWithin};
 ghost use Rattle.state.specs.State.{viewOf, emptyTable, freshState, notQuoted, Quotes, Serves, Releases};
-ghost use Rattle.state.specs.Inner.{Searched};
+ghost use Rattle.state.specs.Inner.{foundQuoted};
 
 // The stored state: a network and its live sessions.
 pub struct State {
@@ -95,22 +97,27 @@ pub fn refused(refusal: Refusal) -> Quoted
     }
 }
 
-// The least-delay schedule of a route that passed its checks, over the frames now free.
-fn least(network: Network, table: Table, route: &[u8]) -> Finding
+// The hops of a route that passed its checks, over the frames now free.
+fn free_hops(network: Network, table: Table, route: &[u8]) -> [Hop; 8]
     requires { ⌜ (networkCheck (topologyOf network) ≡ given pass) × (routeCheck (topologyOf network) (now route) ≡ given pass) × AllWithin table ⌝ }
-    ensures { λ r. ⌜ Searched (topologyOf network) (liveOf table) (now (route .entry)) r ⌝ }
+    ensures { λ r. ⌜ r ≡ firsts 8 (hopsOf (topologyOf network) (liveOf table) (now (route .entry))) noHop ⌝ }
 {
     let held = table::held_words(table);
-    let hops = routes::route_hops(network, &held, route);
-    search::search(network.ticks, hops, route.len())
+    routes::route_hops(network, &held, route)
 }
 
-// The answer that gives the schedule that a search found, with this delay: the one place where what is held is made.
-fn scheduled(finding: Finding, delay: Delay) -> Quoted
-    ensures { λ r. ⌜ r ≡ record { verdict = Passed; count = finding .count; held = record { frames = finding .frames; delay = delay } } ⌝ }
+// The answer that gives the schedule that a search found over the first n hops, with this delay: the one place where what is held is made.
+fn scheduled(hops: [Hop; 8], n: usize, finding: Finding, delay: Delay) -> Quoted
+    requires { ⌜ ScheduleLaid hops (finding .frames) n ⌝ }
+    ensures { λ r. ⌜ r ≡ foundQuoted (firsts n hops noHop) n finding delay ⌝ }
 {
     let frames = finding.frames;
-    let held = Held { frames, delay };
+    let cycles = routes::cycles(hops, frames, n);
+    let held = Held {
+        frames,
+        cycles,
+        delay,
+    };
     Quoted {
         verdict: Verdict::Passed,
         count: finding.count,
@@ -118,15 +125,17 @@ fn scheduled(finding: Finding, delay: Delay) -> Quoted
     }
 }
 
-// The answer that gives what a search found: 18 where no schedule exists.
-fn answer_of(finding: Finding) -> Quoted
-    ensures { λ r. ⌜ ((net : Topology) (ss : List Session) (links : List ℕ) → Searched net ss links finding → Quotes (answerOver (net .ticks) (hopsOf net ss links)) r) ⌝ }
+// The answer over the first n hops: the least-delay schedule, or 18 where none exists. Checks 3, 7, 8 and 12 guarantee what is required.
+fn answer_over(t: u16, hops: [Hop; 8], n: usize) -> Quoted
+    requires { ⌜ Ready t hops n ⌝ }
+    ensures { λ r. ⌜ Quotes (answerOver t (firsts n hops noHop)) r ⌝ }
 {
+    let finding = search::search(t, hops, n);
     let found = finding.found;
     let Found::Schedule(delay) = found else {
         return refused(Refusal::NoSchedule(finding.count));
     };
-    scheduled(finding, delay)
+    scheduled(hops, n, finding, delay)
 }
 
 // Quote: the least-delay schedule over the route in the frames now free.
@@ -138,7 +147,9 @@ pub fn quote(st: State, route: &[u8]) -> Quoted
         Verdict::Refused(refusal) => return refused(refusal),
         Verdict::Passed => {}
     }
-    answer_of(least(st.network, st.table, route))
+    let network = st.network;
+    let hops = free_hops(network, st.table, route);
+    answer_over(network.ticks, hops, route.len())
 }
 
 // Whether the number is live.
@@ -204,7 +215,8 @@ pub fn set_up(st: State, number: u16, route: &[u8]) -> Served
         },
         Verdict::Passed => {}
     }
-    let finding = least(network, table, route);
+    let hops = free_hops(network, table, route);
+    let finding = search::search(network.ticks, hops, route.len());
     let found = finding.found;
     let Found::Schedule(delay) = found else {
         return Served {
@@ -212,7 +224,7 @@ pub fn set_up(st: State, number: u16, route: &[u8]) -> Served
             state: st,
         };
     };
-    let answer = scheduled(finding, delay);
+    let answer = scheduled(hops, route.len(), finding, delay);
     let held = answer.held;
     let place = new_place(number, route, held);
     let after = State {

@@ -6,8 +6,10 @@ use mathlib.Core.Path.{sym, ap, _∙_}
 use Rattle.refusals.specs.Refusals.{ruling}
 use Rattle.ledger.specs.Calls.{Quote}
 use Rattle.ledger.proofs.Intact.{intact-is}
+use Rattle.table.specs.Table.{liveOf}
 use Rattle.state.proofs.Within.{all-within}
 use Rattle.state.proofs.Replies.{quote-check}
+use Rattle.state.proofs.Searches.{hops-ready}
 use Rattle.state.proofs.SetUps.{quotes-refused, quote-quotes}
 
 check-route-requires : tie.Need-check-route-requires
@@ -26,16 +28,17 @@ returns c = let start = c .before .before .before .before .before .before in
 enum-told : tie.Need-enum-told
 enum-told c = search needs
 
-least-requires : tie.Need-least-requires
-least-requires c κs = let start = c .before .before .before .before in
-    (intact-is _ (start .pre) .network, sym (c .before .before .check-route .ensures) ∙ ap ruling (c .enum-told .given .1), all-within (start .args .st) (start .pre))
+free-hops-requires : tie.Need-free-hops-requires
+free-hops-requires c κs = let start = c .before .before .before .before .before in
+    (intact-is _ (start .pre) .network, sym (c .before .before .before .check-route .ensures) ∙ ap ruling (c .before .enum-told .given .1), all-within (start .args .st) (start .pre))
 
-answer-of-requires : tie.Need-answer-of-requires
-answer-of-requires c κs = search needs
+answer-over-requires : tie.Need-answer-over-requires
+answer-over-requires c κs = let start = c .before .before .before .before .before .before in
+    hops-ready _ (liveOf (start .args .st .table)) _ (intact-is _ (start .pre) .network) (sym (c .before .before .before .before .check-route .ensures) ∙ ap ruling (c .before .before .enum-told .given .1)) _ (c .free-hops .ensures)
 
 returns-2 : tie.Need-returns-2
-returns-2 c = let start = c .before .before .before .before .before .before in
-    quote-quotes (start .args .st) (start .pre) _ (sym (c .before .before .before .before .check-route .ensures) ∙ ap ruling (c .before .before .enum-told .given .1)) _ (c .answer-of .ensures _ _ _ (c .before .least .ensures))
+returns-2 c = let start = c .before .before .before .before .before .before .before in
+    quote-quotes (start .args .st) (start .pre) _ (sym (c .before .before .before .before .before .check-route .ensures) ∙ ap ruling (c .before .before .before .enum-told .given .1)) _ (c .before .free-hops .ensures) _ (c .answer-over .ensures)
 
 pub quote-spec : {M : Type 1} → statement M
 quote-spec =
@@ -46,6 +49,6 @@ quote-spec =
     refused-requires
     returns
     enum-told
-    least-requires
-    answer-of-requires
+    free-hops-requires
+    answer-over-requires
     returns-2)
