@@ -10,7 +10,7 @@ use lib.Seq.{length-take-le}
 use lib.Dec.{eqb}
 use borrow.Author.Tests.{lt-ltb, ne-eqb}
 use Rattle.places.specs.Places.{firsts}
-use Rattle.places.proofs.Firsts.{length-firsts, firsts-take}
+use Rattle.places.proofs.Firsts.{length-firsts, firsts-back, firsts-take}
 use Rattle.refusals.specs.Refusals.{refusalNumber, Ruling, given, refused, pass, ruling}
 use Rattle.refusals.specs.declared.Refusal.{Refusal}
 use Rattle.refusals.specs.declared.Verdict.{Verdict}
@@ -21,22 +21,25 @@ use Rattle.network.specs.declared.Network.{Network}
 use Rattle.forwarding.specs.declared.Hop.{Hop}
 use Rattle.forwarding.specs.declared.Delay.{Delay}
 use Rattle.forwarding.specs.Hops.{noHop, Ready}
-use Rattle.forwarding.specs.Schedule.{isSchedule, scheduleDelay}
-use Rattle.ledger.specs.Lists.{allOf}
+use Rattle.forwarding.specs.Schedule.{IsSchedule, isSchedule, scheduleDelay}
+use Rattle.forwarding.specs.Cycles.{scheduleCycles}
+use Rattle.forwarding.proofs.Schedules.{told-schedule}
+use Rattle.forwarding.proofs.Cycles.{cycle-per-hop}
+use Rattle.ledger.specs.Lists.{allOf, sameList}
 use Rattle.ledger.specs.Sessions.{hopsOf}
 use Rattle.ledger.specs.Inner.{HeldWords}
 use Rattle.ledger.specs.Routes.{badLength, routeCheck}
 use Rattle.ledger.specs.Sound.{goodHeld, goodSession}
-use Rattle.ledger.proofs.Lists.{eqb-flip}
 use Rattle.ledger.proofs.Held.{frames-in, same-held}
 use Rattle.routes.specs.Hops.{hopsFrom, delayIf, walkedDelay}
+use Rattle.routes.specs.Inner.{ScheduleLaid}
 use Rattle.routes.specs.declared.Walked.{Walked}
 use Rattle.routes.specs.declared.Walked.the-variants.{Delayed, Unfit}
 use Rattle.table.specs.declared.Place.{Place}
 use Rattle.table.specs.Table.{sessionOf, noPlace, inPlaces}
 use Rattle.table.proofs.Live.{in-next, in-end}
 use Rattle.table.proofs.Banks.{words-none}
-use Rattle.state.proofs.Searches.{hops-laid, least-ready, ticks-told}
+use Rattle.state.proofs.Searches.{ticks-told, hops-eight, hops-ready, hops-back}
 
 -- a verdict that isn't passed is a refusal
 pub not-passed : (tag : Verdict → ℕ) → tag Passed ≡ 0 → (v : Verdict) → tag v ≡ 1 → (r : Refusal) × (v ≡ Refused r)
@@ -74,16 +77,21 @@ module _ (network : Network) (place : Place) where
 
         module _ (passed : networkCheck (topologyOf network) ≡ given pass) (laid : List Hop)
             (el : laid ≡ firsts 8 (hopsFrom (network .links) (replicate 32 0) (take (place .hops) (place .route))) noHop) where
+          taken : List ℕ
+          taken = take (place .hops) (place .route)
+
+          eight : laid ≡ firsts 8 (hopsOf (topologyOf network) [] taken) noHop
+          unfolding taken
+          eight = hops-eight network [] taken passed route-stands (replicate 32 0) none-held laid el
+
           pub walk-ready : Ready (network .ticks) laid (place .hops)
-          walk-ready =
-              subst (λ (n : ℕ). Ready (network .ticks) laid n) (sym taken-length)
-              (least-ready network [] (take (place .hops) (place .route)) passed route-stands (replicate 32 0) none-held laid el)
+          unfolding taken
+          walk-ready = subst (λ (n : ℕ). Ready (network .ticks) laid n) (sym taken-length) (hops-ready network [] taken passed route-stands laid eight)
 
           walked-hops : firsts (place .hops) laid noHop ≡ hopsOf (topologyOf network) [] (firsts (place .hops) (place .route) 0)
+          unfolding taken
           walked-hops =
-              ap (λ (n : ℕ). firsts n laid noHop) taken-length
-              ∙ hops-laid network [] (take (place .hops) (place .route)) passed route-stands (replicate 32 0) none-held laid el
-              ∙ ap (hopsOf (topologyOf network) []) same-route
+              ap (λ (n : ℕ). firsts n laid noHop) taken-length ∙ hops-back network [] taken passed route-stands laid eight ∙ ap (hopsOf (topologyOf network) []) same-route
 
           -- what a walk over the session's frames tells of it
           module _ (w : Walked) (ew : walkedDelay w ≡ delayIf (network .ticks) (firsts (place .hops) laid noHop) (firsts (place .hops) (place .held .frames) 0)) where
@@ -103,24 +111,56 @@ module _ (network : Network) (place : Place) where
             its-delay : ℕ
             its-delay = scheduleDelay (topologyOf network .ticks) hops (sessionOf place .held .frames)
 
+            -- whether the stored cycles are those of the frames
+            same-cycles : Bool
+            same-cycles = sameList eqb (sessionOf place .held .cycles) (scheduleCycles hops (sessionOf place .held .frames))
+
             -- where the route stands, a session is good exactly when what it holds is
-            by-walk : goodSession (topologyOf network) (sessionOf place) ≡ (is-schedule && eqb (place .held .delay .0) its-delay)
-            unfolding goodSession goodHeld is-schedule its-delay hops
+            by-walk : goodSession (topologyOf network) (sessionOf place) ≡ (is-schedule && (same-cycles && eqb (place .held .delay .0) its-delay))
+            unfolding goodSession goodHeld is-schedule its-delay same-cycles hops
             by-walk = rw (told (given pass) (ap ruling e), same-held hops (sessionOf place .held) _, frames-in hops (sessionOf place .held))
 
-            pub session-walked : (d : Delay) → w ≡ Delayed d → eqb (d .0) (place .held .delay .0) ≡ goodSession (topologyOf network) (sessionOf place)
-            unfolding is-schedule its-delay
-            session-walked d q = sym (by-walk ∙ fits is-schedule its-delay (sym walked-told ∙ ap walkedDelay q))
-              where
-                fits : (b : Bool) (x : ℕ) → cond b (some x) none ≡ some (d .0) → (b && eqb (place .held .delay .0) x) ≡ eqb (d .0) (place .held .delay .0)
-                fits true x k = let z : x ≡ d .0 = cc in ap (eqb (place .held .delay .0)) z ∙ eqb-flip (place .held .delay .0) (d .0)
-                fits false x k = cc
+            module _ (d : Delay) (q : w ≡ Delayed d) where
+              walked-fits : (is-schedule ≡ true) × (its-delay ≡ d .0)
+              unfolding is-schedule its-delay
+              walked-fits = fits (isSchedule hops (sessionOf place .held .frames)) (scheduleDelay (topologyOf network .ticks) hops (sessionOf place .held .frames)) (sym walked-told ∙ ap walkedDelay q)
+                where
+                  fits : (b : Bool) (x : ℕ) → cond b (some x) none ≡ some (d .0) → (b ≡ true) × (x ≡ d .0)
+                  fits true x k = (refl, cc)
+                  fits false x k = (cc, cc)
+
+              -- the frames are a schedule over the hops in eight places
+              pub walked-laid : ScheduleLaid laid (place .held .frames) (place .hops)
+              unfolding is-schedule hops
+              walked-laid =
+                  record {
+                    few-hops = walk-ready .few-hops;
+                    few-frames = λ j h. walk-ready .each j h .few-frames;
+                    schedule = subst (λ (hs : List Hop). IsSchedule hs (firsts (place .hops) (place .held .frames) 0)) (sym walked-hops)
+                        (told-schedule hops (sessionOf place .held .frames) (walked-fits .0));
+                  }
+
+              -- and so are their cycles, of which the first are the schedule's
+              pub session-walked : (cycles : List ℕ) → cycles ≡ firsts 8 (scheduleCycles (firsts (place .hops) laid noHop) (firsts (place .hops) (place .held .frames) 0)) 0 → (b : Bool)
+                  → b ≡ (sameList eqb (firsts (place .hops) (place .held .cycles) 0) (firsts (place .hops) cycles 0) && eqb (place .held .delay .0) (d .0))
+                  → b ≡ goodSession (topologyOf network) (sessionOf place)
+              unfolding same-cycles hops
+              session-walked cycles ec b eb =
+                  let there : b ≡ (same-cycles && eqb (place .held .delay .0) its-delay) = eb ∙ rw (cycles-back cycles ec, walked-hops, ← walked-fits .1) in
+                  there ∙ sym (by-walk ∙ rw (walked-fits .0))
+                where
+                  cycles-back : (cycles : List ℕ) → cycles ≡ firsts 8 (scheduleCycles (firsts (place .hops) laid noHop) (firsts (place .hops) (place .held .frames) 0)) 0
+                      → firsts (place .hops) cycles 0 ≡ scheduleCycles (firsts (place .hops) laid noHop) (firsts (place .hops) (place .held .frames) 0)
+                  cycles-back cycles ec =
+                      let xs : List ℕ = scheduleCycles (firsts (place .hops) laid noHop) (firsts (place .hops) (place .held .frames) 0) in
+                      let many : length xs ≡ place .hops = cycle-per-hop (firsts (place .hops) laid noHop) (firsts (place .hops) (place .held .frames) 0) (walked-laid .schedule) ∙ length-firsts (place .hops) laid noHop in
+                      ap (λ (l : List ℕ). firsts (place .hops) l 0) ec ∙ ap (λ (n : ℕ). firsts n (firsts 8 xs 0) 0) (sym many) ∙ firsts-back 8 xs 0 (omega (arith, many, few))
 
             pub session-unfit : w ≡ Unfit → false ≡ goodSession (topologyOf network) (sessionOf place)
             unfolding is-schedule its-delay
             session-unfit q = sym (by-walk ∙ unfit is-schedule its-delay (sym walked-told ∙ ap walkedDelay q))
               where
-                unfit : (b : Bool) (x : ℕ) → cond b (some x) none ≡ none → (b && eqb (place .held .delay .0) x) ≡ false
+                unfit : (b : Bool) (x : ℕ) → cond b (some x) none ≡ none → (b && (same-cycles && eqb (place .held .delay .0) x)) ≡ false
                 unfit true x k = cc
                 unfit false x k = refl
 

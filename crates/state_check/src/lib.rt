@@ -1,4 +1,6 @@
 // Refusal 0: whether a stored state is broken, for every state that a caller could build by hand.
+use forwarding::Delay;
+use forwarding::Held;
 use network::Network;
 use refusals::Verdict;
 use routes::Walked;
@@ -6,15 +8,41 @@ use state::State;
 use table::Place;
 use table::Table;
 ghost use mathlib.Core.Path.{_≡_};
-ghost use mathlib.Core.Bool.{not};
+ghost use mathlib.Core.Bool.{not, _&&_};
 ghost use Prim.Native.Nat.{_≤_};
+ghost use lib.Dec.{eqb};
+ghost use Rattle.places.specs.Places.{firsts};
 ghost use Rattle.refusals.specs.Refusals.{given, pass};
 ghost use Rattle.network.specs.Network.{topologyOf};
 ghost use Rattle.network.specs.Checks.{networkCheck};
-ghost use Rattle.ledger.specs.Lists.{allOf};
+ghost use Rattle.ledger.specs.Lists.{allOf, sameList};
 ghost use Rattle.ledger.specs.Sound.{goodSession, intact};
 ghost use Rattle.table.specs.Table.{sessionOf, liveOf};
 ghost use Rattle.state.specs.State.{viewOf};
+
+// Whether the first n places of two arrays agree.
+fn same_places(one: [u8; 8], other: [u8; 8], n: usize) -> bool
+    requires { ⌜ n ≤ 8 ⌝ }
+    ensures { λ r. ⌜ r ≡ sameList eqb (firsts n one 0) (firsts n other 0) ⌝ }
+{
+    let mut j: usize = 0;
+    while j < n {
+        if one[j] != other[j] {
+            return false;
+        }
+        j += 1;
+    }
+    true
+}
+
+// Whether these cycles and this delay are held: what is stored beside the frames, by the rule that gives it.
+fn same_held(held: Held, cycles: [u8; 8], delay: Delay, n: usize) -> bool
+    requires { ⌜ n ≤ 8 ⌝ }
+    ensures { λ r. ⌜ r ≡ (sameList eqb (firsts n (held .cycles) 0) (firsts n cycles 0) && eqb (held .delay .0) (delay .0)) ⌝ }
+{
+    let stored = held.cycles;
+    same_places(stored, cycles, n) && held.delay.0 == delay.0
+}
 
 // Whether a session's route passes 12 to 15, its frames are a schedule over unclosed frames, and what it holds is what that schedule holds.
 fn good_session(network: Network, place: Place) -> bool
@@ -34,9 +62,11 @@ fn good_session(network: Network, place: Place) -> bool
     let laid = routes::route_hops(network, &held, &route[..hops]);
     let stored = place.held;
     let frames = stored.frames;
-    let delay = stored.delay;
     match routes::walk(network.ticks, laid, frames, hops) {
-        Walked::Delayed(walked) => walked.0 == delay.0,
+        Walked::Delayed(delay) => {
+            let cycles = routes::cycles(laid, frames, hops);
+            same_held(stored, cycles, delay, hops)
+        }
         Walked::Unfit => false,
     }
 }
