@@ -12,9 +12,8 @@ use borrow.Author.Tests.{lt-ltb, le-ltb, ltb-true, ltb-false}
 use Rattle.refusals.specs.Refusals.{Outcome, given, refused}
 use Rattle.numbers.specs.Numbers.{numberIn}
 use Rattle.places.proofs.Parts.{part-rest}
-use Rattle.ledger.specs.Calls.{Call}
+use Rattle.ledger.specs.Calls.{Call, linksOf}
 use Rattle.ledger.specs.Calls as calls
-use Rattle.ledger.proofs.Scheduled.{linksOf}
 use Rattle.call_records.specs.declared.Kind.{Kind}
 use Rattle.call_records.specs.declared.Kind.the-variants.{SetUp, Quote, Release}
 use Rattle.call_records.specs.declared.Record.{Record}

@@ -66,7 +66,7 @@ good-session net s g =
 
 -- it has a frame and a cycle for each link, and the cycles are those of the frames
 module _ (net : Topology) (s : Session) (g : GoodSession net s) where
-  on-frames : IsSchedule (hopsOf net [] (s .route)) (s .held .frames)
+  pub on-frames : IsSchedule (hopsOf net [] (s .route)) (s .held .frames)
   on-frames = subst (IsSchedule (hopsOf net [] (s .route))) (frames-in (hopsOf net [] (s .route)) (s .held)) (g .schedule)
 
   pub frame-each : length (s .held .frames) ≡ length (s .route)

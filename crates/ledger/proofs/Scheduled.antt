@@ -13,17 +13,11 @@ use Rattle.ledger.specs.Held.{Holding, heldOver, holdingOf, heldPlaces}
 use Rattle.ledger.specs.Sessions.{Session, View, hopOf, hopsOf}
 use Rattle.ledger.specs.Routes.{routeCheck}
 use Rattle.ledger.specs.Sound.{intact}
-use Rattle.ledger.specs.Calls.{Call, SetUp, Quote, Release, Reply, schedule, freed, refusal, unless, callCheck, granted, reply}
+use Rattle.ledger.specs.Calls.{Call, linksOf, SetUp, Quote, Release, Reply, schedule, freed, refusal, unless, callCheck, granted, reply}
 use Rattle.ledger.specs.Demand.{LeastOrBlocked, least, noSchedule}
 use Rattle.ledger.proofs.Held.{held-stored}
 use Rattle.ledger.proofs.Answered.{answerOn, reply-intact, admitted, call-due}
 use Rattle.ledger.proofs.Quoted.{unbroken}
-
--- the links of a call
-abbrev pub linksOf : Call → List ℕ
-linksOf (SetUp n route) = route
-linksOf (Quote route) = route
-linksOf (Release n) = []
 
 pub record Scheduled (v : View) (route : List ℕ) (held : Holding) : Type 0 where
   pub unbroken : intact v ≡ true

@@ -24,6 +24,12 @@ pub data Call : Type 0 where
   Quote : (route : List ℕ) → Call
   Release : (number : ℕ) → Call
 
+-- the links of a call; a release has none
+abbrev pub linksOf : Call → List ℕ
+linksOf (SetUp n route) = route
+linksOf (Quote route) = route
+linksOf (Release n) = []
+
 -- a call's answer: a schedule with the count of transitions considered; that a session's frames are freed; or "A refusal returns its
 -- number, 18 also the count" (0 with any other)
 pub data Reply : Type 0 where

@@ -12,9 +12,9 @@ use Rattle.refusals.specs.declared.Verdict.the-variants.{Passed, Refused}
 use Rattle.ledger.specs.Held.{holdingOf}
 use Rattle.ledger.specs.Sessions.{View}
 use Rattle.ledger.specs.Sound.{intact}
-use Rattle.ledger.specs.Calls.{Call, SetUp, Quote, Release, Reply, schedule, freed, reply, left, next}
+use Rattle.ledger.specs.Calls.{Call, linksOf, SetUp, Quote, Release, Reply, schedule, freed, reply, left, next}
 use Rattle.ledger.specs.Calls as rules
-use Rattle.ledger.proofs.Scheduled.{linksOf, scheduled}
+use Rattle.ledger.proofs.Scheduled.{scheduled}
 use Rattle.routes.proofs.Routes.{route-long}
 use Rattle.state.specs.declared.State.{State}
 use Rattle.state.specs.declared.Quoted.{Quoted}

@@ -6,7 +6,6 @@ use Prim.Native.Nat.{ℕ, zero, suc, _+_, _-_, _*_, _<_, _≤_, min}
 use native.Mathlib.Nat.{mul-le-mul}
 use native.Mathlib.Omega.{arith}
 use lib.ListN.{length, getD, take, length-append, length-map, length-take}
-use lib.Seq.{take-all}
 use Rattle.places.specs.Places.{firsts}
 use Rattle.places.proofs.Firsts.{getD-firsts}
 use Rattle.refusals.specs.Refusals.{Ruling, Outcome, given, refused, pass}
@@ -16,24 +15,22 @@ use Rattle.network_file.specs.Reading.{readNetwork}
 use Rattle.network_file.proofs.RoundTrip.{read-passes}
 use Rattle.forwarding.specs.declared.Hop.{Hop}
 use Rattle.forwarding.specs.Forwarding.{choices}
-use Rattle.forwarding.specs.Hops.{noHop, AllReady, Ready}
+use Rattle.forwarding.specs.Hops.{AllReady}
 use Rattle.forwarding.specs.Schedule.{GoesOn, IsSchedule, boundFrom, CountOf}
 use Rattle.forwarding.proofs.Holds.{choices-in}
 use Rattle.forwarding.proofs.Bounds.{count-bound, delay-bound}
-use Rattle.forwarding.proofs.ByHops.{all-ready}
 use Rattle.ledger.specs.Held.{heldOver}
 use Rattle.ledger.specs.Sessions.{Session, View, hopsOf, hopOf}
 use Rattle.ledger.specs.Routes.{routeCheck}
 use Rattle.ledger.specs.Sound.{intact}
-use Rattle.ledger.specs.Calls.{Call, SetUp, Quote, Release, Reply, schedule, freed, refusal, unless, callCheck, granted, reply, next}
+use Rattle.ledger.specs.Calls.{Call, linksOf, SetUp, Quote, Release, Reply, schedule, freed, refusal, unless, callCheck, granted, reply, next}
 use Rattle.ledger.specs.Demand.{fresh, LeastOrBlocked, least, noSchedule}
 use Rattle.ledger.proofs.Held.{schedule-length, frames-over, delay-over}
 use Rattle.ledger.proofs.Intact.{intact-is, fresh-intact}
 use Rattle.ledger.proofs.Answered.{reply-intact, admitted, call-due}
-use Rattle.ledger.proofs.Scheduled.{linksOf}
 use Rattle.ledger.proofs.Refused.{not-eighteen}
 use Rattle.ledger.proofs.Kept.{next-intact}
-use Rattle.routes.proofs.Hops.{route-ready}
+use Rattle.routes.proofs.Hops.{route-ready, route-all-ready}
 use Rattle.call_records.specs.Records.{firstCall, callsIn, counted}
 use Rattle.call_records.proofs.Calls.{TookBy, first-took, by-records, no-calls, first-then-rest}
 use Rattle.text.specs.Characters.{questionMark}
@@ -75,18 +72,11 @@ module _ (net : Topology) (ss : List Session) (ok : networkCheck net ≡ given p
   hops-long : (route : List ℕ) → length (hopsOf net ss route) ≡ length route
   hops-long route = length-map route (hopOf net ss)
 
-  hops-ready : (route : List ℕ) → routeCheck net route ≡ given pass → AllReady (net .ticks) (hopsOf net ss route)
-  hops-ready route e =
-      let r : Ready (net .ticks) (firsts 8 (hopsOf net ss route) noHop) (length route) = route-ready net ss route ok e in
-      let n = hops-long route in
-      subst (AllReady (net .ticks)) (take-all (length route) (hopsOf net ss route) (omega (arith, n)))
-      (all-ready (net .ticks) (hopsOf net ss route) (length route) (omega (arith, n)) (λ j h. rw (getD-firsts 8 j (hopsOf net ss route) noHop (omega (arith, r .few-hops))) at (r .each j h)))
-
   route-line : (place letter : ℕ) → place < 100000 → (route : List ℕ) → routeCheck net route ≡ given pass → (r : Reply) → LeastOrBlocked (net .ticks) (hopsOf net ss route) r
       → length (line place letter r) ≤ 22 + 3 * length route
   route-line place letter h route e r (least d count w q g) =
       let hops : List Hop = hopsOf net ss route in
-      let p = hops-ready route e in
+      let p = route-all-ready net ss route ok e in
       let ready = route-ready net ss route ok e in
       let most = delay-bound (net .ticks) hops w (ready .cycle) (omega (arith, hops-long route, ready .few-hops)) p (g .schedule) in
       let c = count-most (net .ticks) hops count (omega (arith, hops-long route, ready .few-hops)) p (g .count-is) in
@@ -94,7 +84,7 @@ module _ (net : Topology) (ss : List Session) (ok : networkCheck net ≡ given p
       omega (arith, scheduled-long place letter (heldOver hops d w) count h (omega (arith, most, g .delay-is, delay-over hops d w)) c frames, schedule-length hops w (g .schedule), ap (λ (fs : List ℕ). length fs) (frames-over hops d w), hops-long route)
   route-line place letter h route e r (noSchedule count q is nowhere) =
       let ready = route-ready net ss route ok e in
-      let c = count-most (net .ticks) (hopsOf net ss route) count (omega (arith, hops-long route, ready .few-hops)) (hops-ready route e) is in
+      let c = count-most (net .ticks) (hopsOf net ss route) count (omega (arith, hops-long route, ready .few-hops)) (route-all-ready net ss route ok e) is in
       omega (arith, blocked-long place letter count h c)
 
   call-line : (place letter : ℕ) → place < 100000 → (call : Call) (o : Ruling) → callCheck net ss call ≡ o → length (line place letter (unless o (granted net ss call))) ≤ 22 + 3 * length (linksOf call)

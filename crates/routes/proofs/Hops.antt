@@ -1,5 +1,5 @@
 -- The hops of a route: as the code lays them, by the words of held frames, and as a search needs them. Assumes nothing.
-use mathlib.Core.Path.{_≡_, refl, _∙_}
+use mathlib.Core.Path.{_≡_, refl, subst, _∙_}
 use mathlib.Core.Bool.{Bool, false, not, _&&_}
 use mathlib.Core.List.{List, [], _∷_, _++_, map, map-append}
 use Prim.Native.Nat.{ℕ, zero, suc, _+_, _<_, _≤_}
@@ -21,11 +21,12 @@ use Rattle.network.specs.Checks.{networkCheck}
 use Rattle.network.proofs.Tests.{cycle-passed, frames-passed, range-passed}
 use Rattle.network.proofs.Checks.{GoodLink, network-good}
 use Rattle.forwarding.specs.declared.Hop.{Hop}
-use Rattle.forwarding.specs.Hops.{noHop, HopReady}
+use Rattle.forwarding.specs.Hops.{noHop, HopReady, AllReady}
+use Rattle.forwarding.proofs.ByHops.{all-ready}
 use Rattle.ledger.specs.Lists.{anyOf}
 use Rattle.ledger.specs.Sessions.{Session, slot, heldIn, linkAt, freeOf, hopOf, hopsOf}
 use Rattle.ledger.specs.Inner.{HeldWords}
-use Rattle.ledger.specs.Routes.{unknown, unknownLink}
+use Rattle.ledger.specs.Routes.{unknown, unknownLink, routeCheck}
 use Rattle.routes.specs.Hops.{hopFrom, hopsFrom, RouteReady}
 use Rattle.routes.proofs.Tests.{known-passed}
 use Rattle.routes.proofs.Links.{link-passed, many-links, stored-link, in-places, frames-bounded}
@@ -105,3 +106,11 @@ route-ready net ss route e r =
       few-hops = n .1;
       each = λ j h. rw (getD-firsts 8 j (hopsOf net ss route) noHop (omega arith), map-place (hopOf net ss) route j h) (hop-ready net ss (getD route j 0) (link-passed net (getD route j 0) e (route-known net route r j h)));
     }
+
+-- and so each of its hops is ready
+pub route-all-ready : (net : Topology) (ss : List Session) (route : List ℕ) → networkCheck net ≡ given pass → routeCheck net route ≡ given pass → AllReady (net .ticks) (hopsOf net ss route)
+route-all-ready net ss route e r =
+    let p = route-ready net ss route e r in
+    let n = length-map route (hopOf net ss) in
+    subst (AllReady (net .ticks)) (take-all (length route) (hopsOf net ss route) (omega (arith, n)))
+    (all-ready (net .ticks) (hopsOf net ss route) (length route) (omega (arith, n)) (λ j h. rw (getD-firsts 8 j (hopsOf net ss route) noHop (omega (arith, p .few-hops))) at (p .each j h)))

@@ -6,12 +6,13 @@ use Prim.Native.Nat.{ℕ}
 use native.Mathlib.Omega.{arith}
 use lib.Dec.{eqb}
 use borrow.Author.Tests.{eqb-false}
+use Rattle.places.specs.Places.{firsts}
 use Rattle.refusals.specs.Refusals.{refusalNumber, Outcome, Ruling, given, refused, pass}
 use Rattle.refusals.specs.declared.Refusal.{Refusal}
 use Rattle.refusals.specs.declared.Refusal.the-variants.{NumberNotLive}
 use Rattle.refusals.specs.declared.Verdict.the-variants.{Passed, Refused}
 use Rattle.refusals.proofs.Refusals.{refusal-only, uncounted}
-use Rattle.network.specs.Network.{topologyOf}
+use Rattle.network.specs.Network.{Topology, topologyOf}
 use Rattle.network.specs.Checks.{networkCheck}
 use Rattle.network.specs.declared.Network.{Network}
 use Rattle.ledger.specs.Sessions.{Session, View, heldIn}
@@ -28,9 +29,11 @@ use Rattle.state.proofs.Replies.{fresh-shown, quotes-back}
 use Rattle.sessions.specs.declared.Begun.{Begun}
 use Rattle.sessions.specs.declared.Shown.{Shown}
 use Rattle.sessions.specs.Calls.{shutNetwork, begunOn, Begins, Tells, shownOf, notShown}
+use Rattle.sessions.specs.Cycles.{CyclesBeside}
 use Rattle.sessions.specs.Stored.{StoredByRules, BegunIntact, StoredDemand3, FreesShown, StoredReleaseFrees}
 use Rattle.sessions.specs.Stored as stored
 use Rattle.sessions.proofs.Beginning.{shut-passed}
+use Rattle.sessions.proofs.Beside.{lookup-cycles}
 
 -- ---- the rules
 -- one step of the stored states is one of the rules
@@ -99,6 +102,7 @@ stored-demand3 network r b last steps run =
       rules = rules;
       entryShown = λ e m q w. subst (λ (o : Outcome Session). Tells shownOf notShown o (q .shown)) (rules .entryShown e m) (w .shown);
       noneShown = λ n h q w. not-live (q .shown) (subst (λ (o : Outcome Session). Tells shownOf notShown o (q .shown)) (rules .noneShown n h) (w .shown));
+      cyclesShown = λ n q w p. subst (λ (net : Topology). CyclesBeside net (firsts (q .shown .hops) (q .shown .route) 0) (q .shown .held)) (rules .network) (lookup-cycles last n q w p);
     }
 
 -- ---- a release

@@ -43,7 +43,7 @@ Tells of not (given a) q = q ≡ of a
 Tells of not (refused n) q = (r : Refusal) × (refusalNumber r ≡ n) × (q ≡ not r)
 
 -- ---- lookup
--- a session's route, frames and delay, and a refused lookup: "unused hop and link places hold 0"
+-- a session's route, frames, cycles and delay, and a refused lookup: "unused hop and link places hold 0"
 abbrev pub shownOf : Session → Shown
 shownOf s = record { verdict = Passed; hops = length (s .route); route = firsts 8 (s .route) 0; held = heldPlaces (s .held) }
 

@@ -4,6 +4,7 @@ use mathlib.Core.Bool.{true, false, not, _&&_}
 use mathlib.Core.List.{List, [], _∷_, map, List·Memᴰ}
 use Prim.Native.Nat.{ℕ}
 use lib.ListN.{length}
+use Rattle.places.specs.Places.{firsts}
 use Rattle.refusals.specs.Refusals.{refused}
 use Rattle.refusals.specs.declared.Refusal.the-variants.{NumberNotLive}
 use Rattle.refusals.specs.declared.Verdict.the-variants.{Passed}
@@ -23,6 +24,7 @@ use Rattle.sessions.specs.declared.Begun.{Begun}
 use Rattle.sessions.specs.declared.Looked.{Looked}
 use Rattle.sessions.specs.declared.Tallied.{Tallied}
 use Rattle.sessions.specs.Calls.{Begins, shownOf, notShown, Looks, Tallies}
+use Rattle.sessions.specs.Cycles.{CyclesBeside}
 
 -- a list of calls on stored states, each call meeting its contract on the state that the one before it returned: "After a refused call too, the
 -- next gets the state that was returned"; the steps are the calls with their answers, as the program gave them
@@ -55,6 +57,8 @@ pub record Demand3AtCalls (net : Topology) (last : State) (steps : List Answered
   pub rules : Demand3 net (viewOf last) steps
   pub entryShown : (e : Session) → List·Memᴰ e (ledger steps) → (r : Looked) → Looks last (e .number) r → r .shown ≡ shownOf e
   pub noneShown : (n : ℕ) → isLive n (ledger steps) ≡ false → (r : Looked) → Looks last n r → r .shown ≡ notShown NumberNotLive
+  -- W-202: "Over a history of calls, what lookup shows as cycles must be those of the frames shown"
+  pub cyclesShown : (n : ℕ) (r : Looked) → Looks last n r → r .shown .verdict ≡ Passed → CyclesBeside net (firsts (r .shown .hops) (r .shown .route) 0) (r .shown .held)
 
 -- DEMAND 3 OF THE STORED STATES: on every network that `begin` gave a state on, and for every list of set-ups, quotes and releases, refused ones
 -- included, on the states that the calls returned

@@ -167,7 +167,7 @@ fn shown_place(place: Place) -> Shown
     }
 }
 
-// Lookup: the route, frames and delay of the live session with the number. Refuses with 0 or 19.
+// Lookup: the route, frames, cycles and delay of the live session with the number. Refuses with 0 or 19.
 pub fn lookup(st: State, number: u16) -> Looked
     ensures { λ r. ⌜ Looks st number r ⌝ }
 {

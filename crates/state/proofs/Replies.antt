@@ -13,12 +13,12 @@ use Rattle.ledger.specs.Held.{Holding}
 use Rattle.ledger.specs.Sessions.{Session, View, isLive}
 use Rattle.ledger.specs.Routes.{routeCheck}
 use Rattle.ledger.specs.Sound.{intact}
-use Rattle.ledger.specs.Calls.{Call, SetUp, Quote, Release, Reply, schedule, freed, refusal, unless, full, callCheck, granted, reply, Effect, leaves, effect, liveAfter, left, next}
+use Rattle.ledger.specs.Calls.{Call, linksOf, SetUp, Quote, Release, Reply, schedule, freed, refusal, unless, full, callCheck, granted, reply, Effect, leaves, effect, liveAfter, left, next}
 use Rattle.ledger.specs.Demand.{fresh}
 use Rattle.ledger.proofs.Intact.{fresh-intact}
 use Rattle.ledger.proofs.Answered.{reply-intact}
 use Rattle.ledger.proofs.Kept.{next-intact}
-use Rattle.ledger.proofs.Scheduled.{linksOf, Scheduled, scheduled, scheduled-back}
+use Rattle.ledger.proofs.Scheduled.{Scheduled, scheduled, scheduled-back}
 use Rattle.routes.proofs.Routes.{route-long}
 use Rattle.table.specs.declared.Table.{Table}
 use Rattle.table.specs.Table.{liveOf}

@@ -1,0 +1,89 @@
+-- W-202 at the calls: beside the frames of an answer and of a lookup stand their cycles. Assumes nothing.
+use mathlib.Core.Path.{_≡_, refl, sym, ap, subst, _∙_}
+use mathlib.Core.List.{List, []}
+use Prim.Native.Nat.{ℕ, _<_, _≤_}
+use native.Mathlib.Omega.{arith}
+use lib.ListN.{length, getD, length-map}
+use Rattle.places.specs.Places.{firsts}
+use Rattle.places.proofs.Firsts.{getD-firsts, firsts-back}
+use Rattle.refusals.specs.Refusals.{Outcome, given, refused, pass}
+use Rattle.refusals.specs.declared.Verdict.the-variants.{Passed, Refused}
+use Rattle.network.specs.Network.{Topology, topologyOf}
+use Rattle.network.specs.Checks.{networkCheck}
+use Rattle.forwarding.specs.declared.Hop.{Hop}
+use Rattle.forwarding.specs.declared.Held.{Held}
+use Rattle.forwarding.specs.Schedule.{IsSchedule}
+use Rattle.forwarding.specs.Cycles.{scheduleCycles, LaterHop, Lies, NotBelow}
+use Rattle.forwarding.proofs.Cycles.{cycles-lie, cycles-never-fall, cycles-bounded}
+use Rattle.ledger.specs.Held.{Holding, heldPlaces}
+use Rattle.ledger.specs.Sessions.{Session, hopOf, hopsOf}
+use Rattle.ledger.specs.Routes.{routeCheck}
+use Rattle.ledger.specs.Calls.{Call, linksOf, Reply, schedule, freed, refusal, reply, lookup}
+use Rattle.ledger.proofs.Held.{schedule-length, frames-over, cycles-over, cycles-free}
+use Rattle.ledger.proofs.Intact.{intact-is, on-frames, good-cycles}
+use Rattle.ledger.proofs.Schedules.{schedule-unclosed}
+use Rattle.ledger.proofs.Scheduled.{scheduled}
+use Rattle.ledger.proofs.Shown.{lookup-given, shown-good}
+use Rattle.routes.proofs.Routes.{route-long}
+use Rattle.routes.proofs.Hops.{route-all-ready}
+use Rattle.state.specs.declared.Quoted.{Quoted}
+use Rattle.state.specs.State.{viewOf, quotedOf, Quotes}
+use Rattle.sessions.specs.declared.Shown.{Shown}
+use Rattle.sessions.specs.Calls.{Tells, shownOf, notShown}
+use Rattle.sessions.specs.Cycles.{CyclesBeside, LookupCycles, AnswerCycles}
+
+-- what holds the frames of a schedule with their cycles, laid into eight places
+module _ (net : Topology) (route : List ℕ) (held : Holding) (passed : networkCheck net ≡ given pass) (checked : routeCheck net route ≡ given pass)
+    (s : IsSchedule (hopsOf net [] route) (held .frames)) (e : held .cycles ≡ scheduleCycles (hopsOf net [] route) (held .frames)) where
+  few : length route ≤ 8
+  few = route-long net route checked .1
+
+  frame-each : length (held .frames) ≡ length route
+  frame-each = schedule-length (hopsOf net [] route) (held .frames) s ∙ length-map route (hopOf net [])
+
+  back : firsts (length route) (firsts 8 (held .frames) 0) 0 ≡ held .frames
+  back = ap (λ (n : ℕ). firsts n (firsts 8 (held .frames) 0) 0) (sym frame-each) ∙ firsts-back 8 (held .frames) 0 (omega (arith, few, frame-each))
+
+  pub beside : CyclesBeside net route (heldPlaces held)
+  beside = record {
+    cycles = ap (λ (cs : List ℕ). firsts 8 cs 0) (e ∙ ap (scheduleCycles (hopsOf net [] route)) (sym back));
+    lie = subst (LaterHop Lies (hopsOf net [] route)) (sym back) (cycles-lie (net .ticks) (hopsOf net [] route) (held .frames) (route-all-ready net [] route passed checked) s);
+    neverFall = subst (LaterHop NotBelow (hopsOf net [] route)) (sym back)
+        (cycles-never-fall (net .ticks) (hopsOf net [] route) (held .frames) (route-all-ready net [] route passed checked) s);
+    bounded = λ j h. rw (getD-firsts 8 j (held .cycles) 0 (omega (arith, few)), e) (cycles-bounded (hopsOf net [] route) (held .frames) j);
+  }
+
+-- A LOOKUP SHOWS THE CYCLES OF THE FRAMES SHOWN
+pub lookup-cycles : LookupCycles
+lookup-cycles st n q looks p = go (lookup (viewOf st) n) refl (looks .shown)
+  where
+    go : (o : Outcome Session) → lookup (viewOf st) n ≡ o → Tells shownOf notShown o (q .shown)
+        → CyclesBeside (topologyOf (st .network)) (firsts (q .shown .hops) (q .shown .route) 0) (q .shown .held)
+    go (given s) e t =
+        let g = shown-good (viewOf st) n s e in
+        let net : Topology = topologyOf (st .network) in
+        let there : CyclesBeside net (s .route) (heldPlaces (s .held)) =
+        beside net (s .route) (s .held) (intact-is (viewOf st) (lookup-given (viewOf st) n s e .0) .network) (g .route) (on-frames net s g) (good-cycles net s g) in
+        rw (t, firsts-back 8 (s .route) 0 (route-long net (s .route) (g .route) .1)) there
+    go (refused k) e t =
+        let z : Passed ≡ Refused (t .0) = sym p ∙ ap (λ (a : Shown). a .verdict) (t .2) in
+        let y : _≡_ {A = ℕ} 0 1 = cc in absurd (omega arith)
+
+-- AN ANSWER THAT IS A SCHEDULE GIVES THE CYCLES OF ITS FRAMES
+pub answer-cycles : AnswerCycles
+answer-cycles st call r serves p = go (reply (viewOf st) call) refl (serves .answer)
+  where
+    go : (x : Reply) → reply (viewOf st) call ≡ x → Quotes x (r .answer) → CyclesBeside (topologyOf (st .network)) (linksOf call) (r .answer .held)
+    go (schedule held count) e t =
+        let a = scheduled (viewOf st) call held count e in
+        let net : Topology = topologyOf (st .network) in
+        let hops : List Hop = hopsOf net (viewOf st .live) (linksOf call) in
+        let f : held .frames ≡ a .nodes = ap (λ (h : Holding). h .frames) (a .gives) ∙ frames-over hops (a .delay) (a .nodes) in
+        let c : held .cycles ≡ scheduleCycles (hopsOf net [] (linksOf call)) (a .nodes) =
+        ap (λ (h : Holding). h .cycles) (a .gives) ∙ cycles-over hops (a .delay) (a .nodes) ∙ cycles-free net (viewOf st .live) (linksOf call) (a .nodes) in
+        let s : IsSchedule (hopsOf net [] (linksOf call)) (held .frames) = rw f (schedule-unclosed net (viewOf st .live) (linksOf call) (a .nodes) (a .schedule)) in
+        rw t (beside net (linksOf call) held (intact-is (viewOf st) (a .unbroken) .network) (a .passed) s (c ∙ ap (scheduleCycles (hopsOf net [] (linksOf call))) (sym f)))
+    go freed e t = absurd t
+    go (refusal k count) e t =
+        let z : Passed ≡ Refused (t .0) = sym p ∙ ap (λ (a : Quoted). a .verdict) (t .3) in
+        let y : _≡_ {A = ℕ} 0 1 = cc in absurd (omega arith)
