@@ -41,14 +41,9 @@ unfolding groupsText joined
 groups-is [] = refl
 groups-is (g ∷ gs) = rw (more-is gs)
 
-schedule-is : (held : Holding) (count : ℕ) → scheduleText held count ≡ joined (spaced (held .delay) ∷ spaced count ∷ groupPieces (groupsOf held))
+pub schedule-is : (held : Holding) (count : ℕ) → scheduleText held count ≡ joined (spaced (held .delay) ∷ spaced count ∷ groupsText (groupsOf held) ∷ [])
 unfolding scheduleText joined
-schedule-is held count = rw (groups-is (groupsOf held))
-
--- from eight places, of which the first `hops` are put
-pub stored-is : (hops : ℕ) (held : Held) (count : ℕ) → hops ≤ 8 → length (held .frames) ≡ 8
-    → scheduleText (holdingOf hops held) count ≡ joined (spaced (held .delay .0) ∷ spaced count ∷ spacedAll (take hops (held .frames)) ∷ [])
-stored-is hops held count h l = rw (← firsts-take hops (held .frames) 0 (omega (arith, l))) (schedule-is (holdingOf hops held) count)
+schedule-is held count = rw (append-nil (groupsText (groupsOf held)))
 
 pub refusal-is : (number count : ℕ) → spaced number ++ countText number count ≡ joined (spaced number ∷ countText number count ∷ [])
 unfolding joined

@@ -4,7 +4,7 @@ use mathlib.Core.Bool.{Bool, true, false}
 use mathlib.Core.Logic.{_⊎_, inl, inr, ⊎-elim}
 use mathlib.Core.List.{List, [], _∷_, _++_, map}
 use Prim.Native.Nat.{ℕ, zero, suc, _+_, _-_, _*_, _/_, _^_, _≤_, _<_}
-use native.Mathlib.Nat.{pow-suc}
+use native.Mathlib.Nat.{pow-suc, mul-suc}
 use native.Mathlib.Omega.{arith}
 use borrow.Author.Tests.{ltb-true, ltb-false}
 use lib.ListN.{length, getD, length-append}
@@ -37,15 +37,14 @@ pub spaced-long : (k n : ℕ) → n < 10 ^ suc k → length (spaced n) ≤ suc (
 unfolding spaced
 spaced-long k n h = omega (arith, dec-long k n h)
 
--- a group whose numbers have at most two digits
-pub group-long : (ns : List ℕ) → ((i : ℕ) → getD ns i 0 < 100) → length (spacedAll ns) ≤ 3 * length ns
+-- a group whose numbers have at most k + 1 digits
+pub group-long : (k : ℕ) (ns : List ℕ) → ((i : ℕ) → getD ns i 0 < 10 ^ suc k) → length (spacedAll ns) ≤ suc (suc k) * length ns
 unfolding spacedAll
-group-long [] h = omega arith
-group-long (n ∷ ns) h =
-    let a : n < 100 = h 0 in
-    let l : length (spaced n) ≤ 3 = spaced-long 1 n a in
-    let m : length (spacedAll ns) ≤ 3 * length ns = group-long ns (λ (i : ℕ). h (suc i)) in
-    omega (arith, length-append (spaced n) (spacedAll ns))
+group-long k [] h = omega arith
+group-long k (n ∷ ns) h =
+    let l : length (spaced n) ≤ suc (suc k) = spaced-long k n (h 0) in
+    let m : length (spacedAll ns) ≤ suc (suc k) * length ns = group-long k ns (λ (i : ℕ). h (suc i)) in
+    omega (arith, length-append (spaced n) (spacedAll ns), mul-suc (suc (suc k)) (length ns))
 
 -- ---- a text is as long as its pieces together
 abbrev total : List (List ℕ) → ℕ
@@ -74,9 +73,10 @@ groups-long : (gs : List (List ℕ)) → length (groupsText gs) ≡ total (map s
 groups-long [] = long-of (groupsText []) [] (groups-is [])
 groups-long (g ∷ gs) = omega (arith, long-of (groupsText (g ∷ gs)) (groupPieces (g ∷ gs)) (groups-is (g ∷ gs)), more-long gs)
 
-schedule-long : (held : Holding) (count : ℕ) → held .delay < 10000 → count < 100000 → ((i : ℕ) → getD (held .frames) i 0 < 100) → length (scheduleText held count) ≤ 11 + 3 * length (held .frames)
+schedule-long : (held : Holding) (count : ℕ) → held .delay < 10000 → count < 100000 → ((i : ℕ) → getD (held .frames) i 0 < 100) → ((i : ℕ) → getD (held .cycles) i 0 < 10)
+    → length (scheduleText held count) ≤ 13 + 3 * length (held .frames) + 2 * length (held .cycles)
 unfolding scheduleText
-schedule-long held count d c f =
+schedule-long held count d c f e =
     let m : length (spaced (held .delay)) ≤ 5 = spaced-long 3 (held .delay) d in
     let n : length (spaced count) ≤ 6 = spaced-long 4 count c in
     omega (
@@ -84,16 +84,17 @@ schedule-long held count d c f =
       length-append (spaced (held .delay)) (spaced count ++ groupsText (groupsOf held)),
       length-append (spaced count) (groupsText (groupsOf held)),
       groups-long (groupsOf held),
-      group-long (held .frames) f,
+      group-long 1 (held .frames) f,
+      group-long 0 (held .cycles) e,
     )
 
 -- ---- the lines
 pub scheduled-long : ScheduledLong
-scheduled-long place letter held count p d c f = omega (
+scheduled-long place letter held count p d c f e = omega (
   arith,
   long-of (line place letter (schedule held count)) (lineHead place letter ∷ (space ∷ okWord) ∷ scheduleText held count ∷ (newline ∷ []) ∷ []) (scheduled-is place letter held count),
   head-long place letter p,
-  schedule-long held count d c f,
+  schedule-long held count d c f e,
 )
 
 pub freed-long : FreedLong

@@ -20,9 +20,10 @@ letterOf (Release number) = letterR
 unfoldable pub countText : ℕ → ℕ → List ℕ
 countText number count = cond (eqb number 18) (spaced count) []
 
--- the groups of numbers of a schedule after its delay and count: its frames; a group that is added later stands here
+-- the groups of numbers of a schedule after its delay and count: its frames; W-202: "A program line that gives frames gains " / " and the cycles"; a group
+-- that is added later stands here
 abbrev pub groupsOf : Holding → List (List ℕ)
-groupsOf held = held .frames ∷ []
+groupsOf held = held .frames ∷ held .cycles ∷ []
 
 -- the groups after the first, each after a slash
 unfoldable pub moreGroups : List (List ℕ) → List ℕ
@@ -34,11 +35,11 @@ unfoldable pub groupsText : List (List ℕ) → List ℕ
 groupsText [] = []
 groupsText (g ∷ gs) = spacedAll g ++ moreGroups gs
 
--- "ok with delay, count and frames"
+-- "ok with delay, count and frames", and the cycles: "the first line of the example ends 7 0 / 0 1"
 unfoldable pub scheduleText : Holding → ℕ → List ℕ
 scheduleText held count = spaced (held .delay) ++ (spaced count ++ groupsText (groupsOf held))
 
--- "then ok with delay, count and frames (ok alone for R), or no with the refusal, for 18 also the count"
+-- "then ok with delay, count and frames (ok alone for R), or no with the refusal, for 18 also the count"; the cycles stand after the frames
 abbrev pub replyText : Reply → List ℕ
 replyText (schedule held count) = (space ∷ okWord) ++ scheduleText held count
 replyText freed = space ∷ okWord
@@ -61,10 +62,10 @@ unfoldable pub networkLine : ℕ → List ℕ
 networkLine n = netNoWords ++ (spaced n ++ (newline ∷ []))
 
 -- ---- how long a line is at most, for a place of at most five digits
--- a schedule: a delay of four digits, a count of five and frames of two
+-- a schedule: a delay of four digits, a count of five, frames of two and cycles of one
 abbrev pub ScheduledLong : Type 0
 ScheduledLong = (place letter : ℕ) (held : Holding) (count : ℕ) → place < 100000 → held .delay < 10000 → count < 100000 → ((i : ℕ) → getD (held .frames) i 0 < 100)
-    → length (line place letter (schedule held count)) ≤ 22 + 3 * length (held .frames)
+    → ((i : ℕ) → getD (held .cycles) i 0 < 10) → length (line place letter (schedule held count)) ≤ 24 + 3 * length (held .frames) + 2 * length (held .cycles)
 
 -- a release
 abbrev pub FreedLong : Type 0

@@ -4,11 +4,12 @@ use forwarding::Held;
 ghost use mathlib.Core.List.{[], _∷_, _++_};
 ghost use Prim.Native.Nat.{_+_, _≤_};
 ghost use lib.ListN.{length};
+ghost use Rattle.places.specs.Places.{firsts};
 ghost use Rattle.ledger.specs.Held.{holdingOf};
 ghost use Rattle.ledger.specs.Calls.{schedule, freed, refusal};
 ghost use Rattle.text.specs.Characters.{newline};
 ghost use Rattle.text.specs.Digits.{dec, spaced, spacedAll};
-ghost use Rattle.text.specs.Lines.{countText, scheduleText, lineHead, line, liveLine, networkLine};
+ghost use Rattle.text.specs.Lines.{countText, groupsOf, groupsText, scheduleText, lineHead, line, liveLine, networkLine};
 ghost use Rattle.text.specs.Inner.{Puts};
 
 // One byte.
@@ -81,16 +82,35 @@ fn put_head(out: &mut [u8], at: usize, place: u32, letter: u8) -> usize
     put_byte(out, q, letter)
 }
 
-// Delay, count and frames of a schedule. Check 12: a route has at most 8 hops.
+// The first numbers of eight places, each after a space. Check 12: a route has at most 8 hops.
+fn put_group(out: &mut [u8], at: usize, group: [u8; 8], hops: usize) -> usize
+    requires { ⌜ (hops ≤ 8) × (at + length (spacedAll (firsts hops group 0)) ≤ length (now out)) ⌝ }
+    ensures { λ r. ⌜ Puts at (spacedAll (firsts hops group 0)) (now (out .entry)) (now (out .exit)) r ⌝ }
+{
+    put_all(out, at, &group[..hops])
+}
+
+// The groups of a schedule, its frames and its cycles, parted by a slash. Check 12: a route has at most 8 hops.
+fn put_groups(out: &mut [u8], at: usize, held: Held, hops: usize) -> usize
+    requires { ⌜ (hops ≤ 8) × (at + length (groupsText (groupsOf (holdingOf hops held))) ≤ length (now out)) ⌝ }
+    ensures { λ r. ⌜ Puts at (groupsText (groupsOf (holdingOf hops held))) (now (out .entry)) (now (out .exit)) r ⌝ }
+{
+    let frames = held.frames;
+    let cycles = held.cycles;
+    let p = put_group(out, at, frames, hops);
+    let q = put_bytes(out, p, b" /");
+    put_group(out, q, cycles, hops)
+}
+
+// Delay, count and groups of a schedule. Check 12: a route has at most 8 hops.
 fn put_schedule(out: &mut [u8], at: usize, count: u32, held: Held, hops: usize) -> usize
     requires { ⌜ (hops ≤ 8) × (at + length (scheduleText (holdingOf hops held) count) ≤ length (now out)) ⌝ }
     ensures { λ r. ⌜ Puts at (scheduleText (holdingOf hops held) count) (now (out .entry)) (now (out .exit)) r ⌝ }
 {
-    let frames = held.frames;
     let delay = held.delay.0 as u32;
     let p = put_spaced(out, at, delay);
     let q = put_spaced(out, p, count);
-    put_all(out, q, &frames[..hops])
+    put_groups(out, q, held, hops)
 }
 
 // The count of a refusal, which only 18 has.
