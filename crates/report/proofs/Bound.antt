@@ -19,13 +19,14 @@ use Rattle.forwarding.specs.Hops.{AllReady}
 use Rattle.forwarding.specs.Schedule.{GoesOn, IsSchedule, boundFrom, CountOf}
 use Rattle.forwarding.proofs.Holds.{choices-in}
 use Rattle.forwarding.proofs.Bounds.{count-bound, delay-bound}
-use Rattle.ledger.specs.Held.{heldOver}
+use Rattle.forwarding.proofs.Cycles.{cycle-per-hop, cycles-bounded}
+use Rattle.ledger.specs.Held.{Holding, heldOver}
 use Rattle.ledger.specs.Sessions.{Session, View, hopsOf, hopOf}
 use Rattle.ledger.specs.Routes.{routeCheck}
 use Rattle.ledger.specs.Sound.{intact}
 use Rattle.ledger.specs.Calls.{Call, linksOf, SetUp, Quote, Release, Reply, schedule, freed, refusal, unless, callCheck, granted, reply, next}
 use Rattle.ledger.specs.Demand.{fresh, LeastOrBlocked, least, noSchedule}
-use Rattle.ledger.proofs.Held.{schedule-length, frames-over, delay-over}
+use Rattle.ledger.proofs.Held.{schedule-length, frames-over, cycles-over, delay-over}
 use Rattle.ledger.proofs.Intact.{intact-is, fresh-intact}
 use Rattle.ledger.proofs.Answered.{reply-intact, admitted, call-due}
 use Rattle.ledger.proofs.Refused.{not-eighteen}
@@ -73,21 +74,26 @@ module _ (net : Topology) (ss : List Session) (ok : networkCheck net ≡ given p
   hops-long route = length-map route (hopOf net ss)
 
   route-line : (place letter : ℕ) → place < 100000 → (route : List ℕ) → routeCheck net route ≡ given pass → (r : Reply) → LeastOrBlocked (net .ticks) (hopsOf net ss route) r
-      → length (line place letter r) ≤ 22 + 3 * length route
+      → length (line place letter r) ≤ 22 + 7 * length route
   route-line place letter h route e r (least d count w q g) =
       let hops : List Hop = hopsOf net ss route in
       let p = route-all-ready net ss route ok e in
       let ready = route-ready net ss route ok e in
       let most = delay-bound (net .ticks) hops w (ready .cycle) (omega (arith, hops-long route, ready .few-hops)) p (g .schedule) in
       let c = count-most (net .ticks) hops count (omega (arith, hops-long route, ready .few-hops)) p (g .count-is) in
-      let frames : (i : ℕ) → getD (heldOver hops d w .frames) i 0 < 100 = rw (frames-over hops d w) (schedule-small (net .ticks) hops w p (g .schedule)) in
-      omega (arith, scheduled-long place letter (heldOver hops d w) count h (omega (arith, most, g .delay-is, delay-over hops d w)) c frames, schedule-length hops w (g .schedule), ap (λ (fs : List ℕ). length fs) (frames-over hops d w), hops-long route)
+      let held : Holding = heldOver hops d w in
+      let f : length (held .frames) ≡ length hops = ap (λ (fs : List ℕ). length fs) (frames-over hops d w) ∙ schedule-length hops w (g .schedule) in
+      let k : length (held .cycles) ≡ length hops = ap (λ (cs : List ℕ). length cs) (cycles-over hops d w) ∙ cycle-per-hop hops w (g .schedule) in
+      let frames : (i : ℕ) → i < length (held .frames) → getD (held .frames) i 0 < 100 = λ i l. rw (frames-over hops d w) (schedule-small (net .ticks) hops w p (g .schedule) i) in
+      let cycles : (i : ℕ) → i < length (held .cycles) → getD (held .cycles) i 0 < 10 =
+      λ i l. rw (cycles-over hops d w) (omega (arith, cycles-bounded hops w i, l, k, hops-long route, ready .few-hops)) in
+      omega (arith, scheduled-long place letter held count h (omega (arith, most, g .delay-is, delay-over hops d w)) c frames cycles, f, k, hops-long route, ready .some-hop)
   route-line place letter h route e r (noSchedule count q is nowhere) =
       let ready = route-ready net ss route ok e in
       let c = count-most (net .ticks) (hopsOf net ss route) count (omega (arith, hops-long route, ready .few-hops)) (route-all-ready net ss route ok e) is in
       omega (arith, blocked-long place letter count h c)
 
-  call-line : (place letter : ℕ) → place < 100000 → (call : Call) (o : Ruling) → callCheck net ss call ≡ o → length (line place letter (unless o (granted net ss call))) ≤ 22 + 3 * length (linksOf call)
+  call-line : (place letter : ℕ) → place < 100000 → (call : Call) (o : Ruling) → callCheck net ss call ≡ o → length (line place letter (unless o (granted net ss call))) ≤ 22 + 7 * length (linksOf call)
   call-line place letter h call (refused k) e =
       omega (arith, refused-long place letter k 0 h (omega (arith, call-number net ss call k e)) (not-eighteen net ss call k e))
   call-line place letter h (SetUp n route) (given pass) e = route-line place letter h route (admitted net ss n route e .passed) _ (call-due net ss (SetUp n route))
@@ -96,7 +102,7 @@ module _ (net : Topology) (ss : List Session) (ok : networkCheck net ≡ given p
       let q : granted net ss (Release n) ≡ freed = call-due net ss (Release n) in
       rw q (omega (arith, freed-long place letter h))
 
-reply-line : (place letter : ℕ) → place < 100000 → (v : View) (call : Call) → intact v ≡ true → length (line place letter (reply v call)) ≤ 22 + 3 * length (linksOf call)
+reply-line : (place letter : ℕ) → place < 100000 → (v : View) (call : Call) → intact v ≡ true → length (line place letter (reply v call)) ≤ 22 + 7 * length (linksOf call)
 reply-line place letter h v call e = rw (reply-intact v call e) (call-line (v .network) (v .live) (intact-is v e .network) place letter h call (callCheck (v .network) (v .live) call) refl)
 
 -- ---- the lines of a run

@@ -38,12 +38,12 @@ unfolding spaced
 spaced-long k n h = omega (arith, dec-long k n h)
 
 -- a group whose numbers have at most k + 1 digits
-pub group-long : (k : ℕ) (ns : List ℕ) → ((i : ℕ) → getD ns i 0 < 10 ^ suc k) → length (spacedAll ns) ≤ suc (suc k) * length ns
+pub group-long : (k : ℕ) (ns : List ℕ) → ((i : ℕ) → i < length ns → getD ns i 0 < 10 ^ suc k) → length (spacedAll ns) ≤ suc (suc k) * length ns
 unfolding spacedAll
 group-long k [] h = omega arith
 group-long k (n ∷ ns) h =
-    let l : length (spaced n) ≤ suc (suc k) = spaced-long k n (h 0) in
-    let m : length (spacedAll ns) ≤ suc (suc k) * length ns = group-long k ns (λ (i : ℕ). h (suc i)) in
+    let l : length (spaced n) ≤ suc (suc k) = spaced-long k n (h 0 (omega arith)) in
+    let m : length (spacedAll ns) ≤ suc (suc k) * length ns = group-long k ns (λ (i : ℕ) (q : i < length ns). h (suc i) (omega arith)) in
     omega (arith, length-append (spaced n) (spacedAll ns), mul-suc (suc (suc k)) (length ns))
 
 -- ---- a text is as long as its pieces together
@@ -73,8 +73,8 @@ groups-long : (gs : List (List ℕ)) → length (groupsText gs) ≡ total (map s
 groups-long [] = long-of (groupsText []) [] (groups-is [])
 groups-long (g ∷ gs) = omega (arith, long-of (groupsText (g ∷ gs)) (groupPieces (g ∷ gs)) (groups-is (g ∷ gs)), more-long gs)
 
-schedule-long : (held : Holding) (count : ℕ) → held .delay < 10000 → count < 100000 → ((i : ℕ) → getD (held .frames) i 0 < 100) → ((i : ℕ) → getD (held .cycles) i 0 < 10)
-    → length (scheduleText held count) ≤ 13 + 3 * length (held .frames) + 2 * length (held .cycles)
+schedule-long : (held : Holding) (count : ℕ) → held .delay < 10000 → count < 100000 → ((i : ℕ) → i < length (held .frames) → getD (held .frames) i 0 < 100)
+    → ((i : ℕ) → i < length (held .cycles) → getD (held .cycles) i 0 < 10) → length (scheduleText held count) ≤ 13 + 3 * length (held .frames) + 2 * length (held .cycles)
 unfolding scheduleText
 schedule-long held count d c f e =
     let m : length (spaced (held .delay)) ≤ 5 = spaced-long 3 (held .delay) d in

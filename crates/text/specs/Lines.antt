@@ -64,8 +64,8 @@ networkLine n = netNoWords ++ (spaced n ++ (newline ∷ []))
 -- ---- how long a line is at most, for a place of at most five digits
 -- a schedule: a delay of four digits, a count of five, frames of two and cycles of one
 abbrev pub ScheduledLong : Type 0
-ScheduledLong = (place letter : ℕ) (held : Holding) (count : ℕ) → place < 100000 → held .delay < 10000 → count < 100000 → ((i : ℕ) → getD (held .frames) i 0 < 100)
-    → ((i : ℕ) → getD (held .cycles) i 0 < 10) → length (line place letter (schedule held count)) ≤ 24 + 3 * length (held .frames) + 2 * length (held .cycles)
+ScheduledLong = (place letter : ℕ) (held : Holding) (count : ℕ) → place < 100000 → held .delay < 10000 → count < 100000 → ((i : ℕ) → i < length (held .frames) → getD (held .frames) i 0 < 100)
+    → ((i : ℕ) → i < length (held .cycles) → getD (held .cycles) i 0 < 10) → length (line place letter (schedule held count)) ≤ 24 + 3 * length (held .frames) + 2 * length (held .cycles)
 
 -- a release
 abbrev pub FreedLong : Type 0
