@@ -3,7 +3,7 @@ use mathlib.Core.Path.{_≡_, refl, sym, ap, _∙_}
 use mathlib.Core.List.{List, []}
 use Prim.Native.Nat.{ℕ, _+_, _≤_}
 use native.Mathlib.Omega.{arith}
-use lib.ListN.{length, length-map}
+use lib.ListN.{length}
 use Rattle.places.specs.Places.{firsts}
 use Rattle.places.proofs.Firsts.{firsts-back}
 use Rattle.refusals.specs.declared.Refusal.{Refusal}
@@ -15,14 +15,11 @@ use Rattle.network_file.specs.declared.Loaded.{Loaded}
 use Rattle.network_file.specs.Reading.{readNetwork, Reads}
 use Rattle.network_file.specs.Lent.{inRoom}
 use Rattle.ledger.specs.Held.{heldPlaces}
-use Rattle.ledger.specs.Sessions.{Session, View, hopsOf, hopOf}
+use Rattle.ledger.specs.Sessions.{Session, View}
 use Rattle.ledger.specs.Calls.{lookup, freeCount}
 use Rattle.ledger.specs.Demand.{fresh}
-use Rattle.ledger.proofs.Held.{schedule-length, frames-in}
-use Rattle.ledger.proofs.Intact.{intact-is, GoodSession, session-good}
-use Rattle.ledger.proofs.Lists.{all-member}
-use Rattle.ledger.proofs.Shown.{lookup-given, looked-up}
-use Rattle.ledger.specs.Sound.{goodSession}
+use Rattle.ledger.proofs.Intact.{GoodSession, frame-each, cycle-each}
+use Rattle.ledger.proofs.Shown.{shown-good}
 use Rattle.routes.proofs.Routes.{route-long}
 use Rattle.call_records.specs.Records.{callsIn, counted}
 use Rattle.call_records.specs.Served.{viewAfterAll}
@@ -39,25 +36,20 @@ use Rattle.exports.specs.Exported.{asNumber, Exports, stateAfter, sessio
 use Rattle.exports.specs.Inner.{placeNumbers, shownNumbers, countRead}
 use Rattle.exports.proofs.Answers.{file-refused, file-passed}
 
--- ---- a session that a lookup gives has a route that passed, and a frame for each of its links
+-- ---- a session that a lookup gives has a route that passed, and a frame and a cycle for each of its links
 module _ (v : View) (n : ℕ) (s : Session) (e : lookup v n ≡ given s) where
   good : GoodSession (v .network) s
-  good =
-      let g = lookup-given v n s e in
-      session-good (v .network) s (all-member (goodSession (v .network)) (v .live) (intact-is v (g .0) .sessions) (looked-up n (v .live) s (g .1) .0))
+  good = shown-good v n s e
 
   pub few-hops : length (s .route) ≤ 8
   few-hops = route-long (v .network) (s .route) (good .route) .1
 
-  pub frame-each : length (s .held .frames) ≡ length (s .route)
-  frame-each =
-      let hops = hopsOf (v .network) [] (s .route) in
-      ap (λ (fs : List ℕ). length fs) (sym (frames-in hops (s .held))) ∙ schedule-length hops _ (good .schedule) ∙ length-map (s .route) (hopOf (v .network) [])
+  -- a list with a number for each link, back from eight places
+  back : (xs : List ℕ) → length xs ≡ length (s .route) → firsts (length (s .route)) (firsts 8 xs 0) 0 ≡ xs
+  back xs h = ap (λ (k : ℕ). firsts k (firsts 8 xs 0) 0) (sym h) ∙ firsts-back 8 xs 0 (omega (arith, few-hops, h))
 
   numbers-shown : placeNumbers (length (s .route)) (firsts 8 (s .route) 0) (heldPlaces (s .held)) ≡ sessionNumbers s
-  numbers-shown =
-      let f : firsts (length (s .route)) (firsts 8 (s .held .frames) 0) 0 ≡ s .held .frames = rw (← frame-each) (firsts-back 8 (s .held .frames) 0 (omega (arith, few-hops, frame-each))) in
-      rw (firsts-back 8 (s .route) 0 few-hops, f)
+  numbers-shown = rw (back (s .route) refl, back (s .held .frames) (frame-each (v .network) s good), back (s .held .cycles) (cycle-each (v .network) s good))
 
 module _ (v : View) (n : ℕ) (q : Shown) (tells : Tells shownOf notShown (lookup v n) q) where
   pub shown-fits : InPlaces (q .verdict) (q .hops)

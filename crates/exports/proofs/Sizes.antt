@@ -1,7 +1,7 @@
 -- How long what is written is at most, how large a count, and which buffers always serve. Assumes nothing.
 use mathlib.Core.Path.{_≡_, refl, ap}
 use mathlib.Core.Bool.{Bool, true, false}
-use mathlib.Core.List.{List}
+use mathlib.Core.List.{List, _++_}
 use Prim.Native.Nat.{ℕ, _<_, _≤_}
 use native.Mathlib.Omega.{arith}
 use lib.ListN.{length, length-append}
@@ -24,7 +24,8 @@ use Rattle.ledger.specs.Routes.{unknown}
 use Rattle.ledger.specs.Sound.{intact, brokenCheck}
 use Rattle.ledger.specs.Calls.{lookup, freeCount}
 use Rattle.ledger.specs.Demand.{fresh}
-use Rattle.ledger.proofs.Intact.{intact-is}
+use Rattle.ledger.proofs.Intact.{intact-is, frame-each, cycle-each}
+use Rattle.ledger.proofs.Shown.{shown-good}
 use Rattle.call_records.specs.Records.{callsIn, counted}
 use Rattle.call_records.specs.Served.{viewAfterAll}
 use Rattle.routes.proofs.Tests.{known-passed}
@@ -36,7 +37,7 @@ use Rattle.report.proofs.Numbers.{file-number, network-number, lookup-number}
 use Rattle.report.proofs.Whole.{bound-most}
 use Rattle.exports.specs.Exported.{stateAfter, sessionNumbers, lookupAfter, freeAfter, writtenAgain, linksFrom, writtenOf, AnswersSized, ValuesSized}
 use Rattle.exports.proofs.Answers.{after-intact}
-use Rattle.exports.proofs.Shows.{few-hops, frame-each}
+use Rattle.exports.proofs.Shows.{few-hops}
 
 -- what is written where there is room, and that there is none
 room-gives : (b : Bool) (x y : List ℕ) → refusedOr (refuseIf b 20) (given x) ≡ given y → x ≡ y
@@ -96,17 +97,26 @@ module _ (file : List ℕ) (room : ℕ) where
 
 -- ---- a session
 module _ (v : View) (number room : ℕ) where
-  numbers-few : (s : Session) → lookup v number ≡ given s → length (sessionNumbers s) ≤ 18
-  numbers-few s q = omega (arith, few-hops v number s q, frame-each v number s q, length-append (s .route) (s .held .frames))
+  numbers-few : (s : Session) → lookup v number ≡ given s → length (sessionNumbers s) ≤ 26
+  numbers-few s q =
+      let good = shown-good v number s q in
+      omega (
+        arith,
+        few-hops v number s q,
+        frame-each (v .network) s good,
+        cycle-each (v .network) s good,
+        length-append (s .route) (s .held .frames ++ s .held .cycles),
+        length-append (s .held .frames) (s .held .cycles),
+      )
 
-  shown-sized : (x : List ℕ) → onGiven (lookup v number) (λ s. inRoom (length (sessionNumbers s)) room (sessionNumbers s)) ≡ given x → length x ≤ 18
+  shown-sized : (x : List ℕ) → onGiven (lookup v number) (λ s. inRoom (length (sessionNumbers s)) room (sessionNumbers s)) ≡ given x → length x ≤ 26
   shown-sized x e = go (lookup v number) refl e
     where
-      go : (o : Outcome Session) → lookup v number ≡ o → onGiven o (λ s. inRoom (length (sessionNumbers s)) room (sessionNumbers s)) ≡ given x → length x ≤ 18
+      go : (o : Outcome Session) → lookup v number ≡ o → onGiven o (λ s. inRoom (length (sessionNumbers s)) room (sessionNumbers s)) ≡ given x → length x ≤ 26
       go (refused n) q f = let z : _≡_ {A = ℕ} 0 1 = cc in omega arith
       go (given s) q f = omega (arith, numbers-few s q, ap length (room-gives (ltb room (length (sessionNumbers s))) (sessionNumbers s) x f))
 
-  shown-served : 18 ≤ room → onGiven (lookup v number) (λ s. inRoom (length (sessionNumbers s)) room (sessionNumbers s)) ≡ refused 20 → ⊥
+  shown-served : 26 ≤ room → onGiven (lookup v number) (λ s. inRoom (length (sessionNumbers s)) room (sessionNumbers s)) ≡ refused 20 → ⊥
   shown-served h e = go (lookup v number) refl e
     where
       go : (o : Outcome Session) → lookup v number ≡ o → onGiven o (λ s. inRoom (length (sessionNumbers s)) room (sessionNumbers s)) ≡ refused 20 → ⊥
@@ -142,15 +152,15 @@ module _ (file calls : List ℕ) (bytes : IsBytes file) where
           let is : k ≡ n = cc in
           omega (arith, is, file-number file k q)
 
-  session-sized : (number room : ℕ) (x : List ℕ) → lookupAfter file calls number room ≡ given x → length x ≤ 18
+  session-sized : (number room : ℕ) (x : List ℕ) → lookupAfter file calls number room ≡ given x → length x ≤ 26
   unfolding lookupAfter
   session-sized number room x e = go (stateAfter file calls) e
     where
-      go : (o : Outcome View) → onGiven o (λ v. onGiven (lookup v number) (λ s. inRoom (length (sessionNumbers s)) room (sessionNumbers s))) ≡ given x → length x ≤ 18
+      go : (o : Outcome View) → onGiven o (λ v. onGiven (lookup v number) (λ s. inRoom (length (sessionNumbers s)) room (sessionNumbers s))) ≡ given x → length x ≤ 26
       go (given v) f = shown-sized v number room x f
       go (refused n) f = let z : _≡_ {A = ℕ} 0 1 = cc in omega arith
 
-  session-served : (number room : ℕ) → 18 ≤ room → lookupAfter file calls number room ≡ refused 20 → ⊥
+  session-served : (number room : ℕ) → 26 ≤ room → lookupAfter file calls number room ≡ refused 20 → ⊥
   unfolding lookupAfter
   session-served number room h e = go (stateAfter file calls) refl e
     where

@@ -50,9 +50,9 @@ pub record Replayed (calls : List ℕ) (net : Topology) (v : View) : Type 0 wher
 abbrev pub AfterDemand3 : Type 0
 AfterDemand3 = (file calls : List ℕ) (net : Topology) (v : View) → IsBytes file → readNetwork file ≡ given net → stateAfter file calls ≡ given v → Replayed calls net v
 
--- a session as numbers: how many hops it has, its delay, the link of each hop and the frame of each hop
+-- a session as numbers: how many hops it has, its delay, the links of the hops, their frames and their cycles
 abbrev pub sessionNumbers : Session → List ℕ
-sessionNumbers s = length (s .route) ∷ s .held .delay ∷ (s .route ++ s .held .frames)
+sessionNumbers s = length (s .route) ∷ s .held .delay ∷ (s .route ++ (s .held .frames ++ s .held .cycles))
 
 -- LOOKUP on the state after call records, into a buffer of so many numbers
 unfoldable pub lookupAfter : List ℕ → List ℕ → ℕ → ℕ → Outcome (List ℕ)
@@ -82,13 +82,13 @@ writtenOf T ks zs cs room = writeNetwork (record { ticks = T; links = linksFrom 
 pub record AnswerSizes (file calls : List ℕ) : Type 0 where
   pub text : (room : ℕ) (x : List ℕ) → reported file calls room ≡ given x → length x ≤ 720918
   pub textServed : (room : ℕ) → 720918 ≤ room → reported file calls room ≡ given (transcript file calls)
-  pub session : (number room : ℕ) (x : List ℕ) → lookupAfter file calls number room ≡ given x → length x ≤ 18
-  pub sessionServed : (number room : ℕ) → 18 ≤ room → lookupAfter file calls number room ≡ refused 20 → ⊥
+  pub session : (number room : ℕ) (x : List ℕ) → lookupAfter file calls number room ≡ given x → length x ≤ 26
+  pub sessionServed : (number room : ℕ) → 26 ≤ room → lookupAfter file calls number room ≡ refused 20 → ⊥
   pub free : (link n : ℕ) → freeAfter file calls link ≡ given n → n ≤ 64
   pub again : (room : ℕ) (x : List ℕ) → writtenAgain file room ≡ given x → length x ≤ 355
   pub againServed : (room : ℕ) → 355 ≤ room → writtenAgain file room ≡ refused 20 → ⊥
 
--- EVERY ANSWER BELOW 1,000,000 IS A LENGTH OR A COUNT, and every other a refusal; and 720,918 bytes, 18 numbers and 355 bytes always serve
+-- EVERY ANSWER BELOW 1,000,000 IS A LENGTH OR A COUNT, and every other a refusal; and 720,918 bytes, 26 numbers and 355 bytes always serve
 abbrev pub AnswersSized : Type 0
 AnswersSized = (file calls : List ℕ) → IsBytes file → AnswerSizes file calls
 

@@ -12,7 +12,7 @@ use Rattle.sessions.specs.declared.Counted.{Counted}
 
 -- the numbers of what a lookup shows in eight places
 abbrev pub placeNumbers : ℕ → List ℕ → Held → List ℕ
-placeNumbers hops route held = hops ∷ held .delay .0 ∷ (firsts hops route 0 ++ firsts hops (held .frames) 0)
+placeNumbers hops route held = hops ∷ held .delay .0 ∷ (firsts hops route 0 ++ (firsts hops (held .frames) 0 ++ firsts hops (held .cycles) 0))
 
 -- what it writes of them, by its verdict
 abbrev pub shownNumbers : Verdict → ℕ → List ℕ → Held → ℕ → Outcome (List ℕ)

@@ -65,14 +65,14 @@ pub extern "C" fn frames_image(file: &[u8], out: &mut [u8]) -> u64
     }
 }
 
-// Bytes as numbers of 16 bits, from a place of a buffer on.
-fn put_numbers(out: &mut [u16], at: usize, bytes: &[u8])
-    requires { ⌜ at + length (now bytes) ≤ length (now out) ⌝ }
-    ensures { λ _. ⌜ now (out .exit) ≡ putAt at (now (bytes .entry)) (now (out .entry)) ⌝ }
+// The first of eight places as numbers of 16 bits, from a place of a buffer on.
+fn put_places(out: &mut [u16], at: usize, bytes: [u8; 8], hops: usize)
+    requires { ⌜ (hops ≤ 8) × (at + hops ≤ length (now out)) ⌝ }
+    ensures { λ _. ⌜ now (out .exit) ≡ putAt at (firsts hops bytes 0) (now (out .entry)) ⌝ }
 {
-    let mut i = 0;
-    while i < bytes.len() {
-        out[at + i] = bytes[i] as u16;
+    let mut i: usize = 0;
+    while i < hops {
+        out[at + i] = places::short(bytes[i]);
         i += 1;
     }
 }
@@ -83,10 +83,12 @@ fn put_session(out: &mut [u16], hops: usize, route: [u8; 8], held: Held)
     ensures { λ _. ⌜ now (out .exit) ≡ placeNumbers hops route held ++ drop (length (placeNumbers hops route held)) (now (out .entry)) ⌝ }
 {
     let frames = held.frames;
+    let cycles = held.cycles;
     out[0] = hops as u16;
     out[1] = held.delay.0;
-    put_numbers(out, 2, &route[..hops]);
-    put_numbers(out, 2 + hops, &frames[..hops]);
+    put_places(out, 2, route, hops);
+    put_places(out, 2 + hops, frames, hops);
+    put_places(out, 2 + 2 * hops, cycles, hops);
 }
 
 // What a lookup shows: how many numbers, or the refusal, 20 where the buffer is shorter.
@@ -99,7 +101,7 @@ fn show(shown: Shown, out: &mut [u16]) -> u64
         Verdict::Refused(refusal) => refused(refusal),
         Verdict::Passed => {
             let hops = shown.hops;
-            let length = 2 + 2 * hops;
+            let length = 2 + 3 * hops;
             if out.len() < length {
                 return refused(Refusal::ShortBuffer);
             }
@@ -111,7 +113,7 @@ fn show(shown: Shown, out: &mut [u16]) -> u64
     }
 }
 
-// Lookup on the state after call records: how many hops the live session with the number has, its delay, the link of each hop and the frame of each hop.
+// Lookup on the state after call records: how many hops the live session with the number has, its delay, and the link, the frame and the cycle of each hop.
 #[no_mangle]
 pub extern "C" fn frames_lookup(file: &[u8], calls: &[u8], number: u16, out: &mut [u16]) -> u64
     ensures { λ r. ⌜ Exports (lookupAfter (now (file .entry)) (now (calls .entry)) number (length (now (out .entry)))) (now (out .entry)) (now (out .exit)) r ⌝ }

@@ -1,10 +1,7 @@
 -- `exports::put_session` meets its contract. Assumes nothing.
-use mathlib.Core.Path.{_≡_, sym}
 use native.Mathlib.Omega.{arith}
-use lib.ListN.{length}
-use lib.Seq.{length-take-le}
 use borrow.Author.Needs.{needs}
-use Rattle.exports.proofs.Numbers.{second-room, links-room, frames-room, session-long, session-put}
+use Rattle.exports.proofs.Numbers.{second-room, links-room, frames-room, cycles-room, session-long, session-put}
 use Rattle.exports.proofs.put_session.Statement.{statement}
 use Rattle.exports.proofs.put_session.Tie as tie
 
@@ -16,62 +13,42 @@ slice-write-out c = search needs
 
 slice-write-out-2 : tie.Need-slice-write-out-2
 slice-write-out-2 c =
-    let s = c .before .before in
-    let links : length (s .args .t3) ≡ 8 = search needs in
-    let long : length (s .args .held .frames) ≡ 8 = search needs in
-    second-room (s .args .hops) (s .args .t3) (s .args .held) (s .pre .0) links long (s .args .out .now) (s .pre .1)
+    let s = c .before .before .before in
+    second-room (s .args .hops) (s .args .route) (s .args .held) (s .args .out .now) (s .pre .1)
 
-array-share-prefix-route : tie.Need-array-share-prefix-route
-array-share-prefix-route c = search needs
-
-slice-aggregate-put-numbers : tie.Need-slice-aggregate-put-numbers
-slice-aggregate-put-numbers c =
+put-places-requires : tie.Need-put-places-requires
+put-places-requires c κs =
     let s = c .before .before .before .before in
-    let links : length (s .args .t3) ≡ 8 = search needs in
-    sym (length-take-le (s .args .hops) (s .args .t3) (omega (arith, links, s .pre .0)))
+    (s .pre .0, links-room (s .args .hops) (s .args .route) (s .args .held) (s .args .out .now) (s .pre .1))
 
-put-numbers-requires : tie.Need-put-numbers-requires
-put-numbers-requires c κs =
-    let s = c .before .before .before .before in
-    let links : length (s .args .t3) ≡ 8 = search needs in
-    let long : length (s .args .held .frames) ≡ 8 = search needs in
-    links-room (s .args .hops) (s .args .t3) (s .args .held) (s .pre .0) links long (s .args .out .now) (s .pre .1)
+add-put-places : tie.Need-add-put-places
+add-put-places c = search needs
 
-add-put-numbers : tie.Need-add-put-numbers
-add-put-numbers c = search needs
-
-array-share-prefix-frames : tie.Need-array-share-prefix-frames
-array-share-prefix-frames c =
+put-places-requires-2 : tie.Need-put-places-requires-2
+put-places-requires-2 c κs =
     let s = c .before .before .before .before .before .before .before .before in
-    let long : length (s .args .held .frames) ≡ 8 = search needs in
-    omega (arith, long, s .pre .0)
+    (s .pre .0, frames-room (s .args .hops) (s .args .route) (s .args .held) (s .args .out .now) (s .pre .1) _ (c .before .before .before .put-places .ensures))
 
-slice-aggregate-put-numbers-2 : tie.Need-slice-aggregate-put-numbers-2
-slice-aggregate-put-numbers-2 c =
-    let s = c .before .before .before .before .before .before .before .before .before in
-    let long : length (s .args .held .frames) ≡ 8 = search needs in
-    sym (length-take-le (s .args .hops) (s .args .held .frames) (omega (arith, long, s .pre .0)))
+mul-put-places : tie.Need-mul-put-places
+mul-put-places c = search needs
 
-put-numbers-requires-2 : tie.Need-put-numbers-requires-2
-put-numbers-requires-2 c κs =
-    let s = c .before .before .before .before .before .before .before .before .before in
-    let links : length (s .args .t3) ≡ 8 = search needs in
-    let long : length (s .args .held .frames) ≡ 8 = search needs in
-    frames-room (s .args .hops) (s .args .t3) (s .args .held) (s .pre .0) links long (s .args .out .now) (s .pre .1) _ (c .before .before .before .before .put-numbers .ensures)
+add-put-places-2 : tie.Need-add-put-places-2
+add-put-places-2 c = search needs
+
+put-places-requires-3 : tie.Need-put-places-requires-3
+put-places-requires-3 c κs =
+    let s = c .before .before .before .before .before .before .before .before .before .before .before .before in
+    (s .pre .0, cycles-room (s .args .hops) (s .args .route) (s .args .held) (s .args .out .now) (s .pre .1) _ (c .before .before .before .before .before .before .before .put-places .ensures) _ (c .before .before .before .put-places2 .ensures))
 
 same-length : tie.Need-same-length
 same-length c =
-    let s = c .before .before .before .before .before .before .before .before .before .before .before .before in
-    let links : length (s .args .t3) ≡ 8 = search needs in
-    let long : length (s .args .held .frames) ≡ 8 = search needs in
-    session-long (s .args .hops) (s .args .t3) (s .args .held) (s .pre .0) links long (s .args .out .now) (s .pre .1) _ (c .before .before .before .before .before .before .before .put-numbers .ensures) _ (c .before .before .put-numbers2 .ensures)
+    let s = c .before .before .before .before .before .before .before .before .before .before .before .before .before .before .before in
+    session-long (s .args .hops) (s .args .route) (s .args .held) (s .args .out .now) (s .pre .1) _ (c .before .before .before .before .before .before .before .before .before .before .put-places .ensures) _ (c .before .before .before .before .before .before .put-places2 .ensures) _ (c .before .before .put-places3 .ensures)
 
 returns : tie.Need-returns
 returns c =
-    let s = c .before .before .before .before .before .before .before .before .before .before .before .before in
-    let links : length (s .args .t3) ≡ 8 = search needs in
-    let long : length (s .args .held .frames) ≡ 8 = search needs in
-    session-put (s .args .hops) (s .args .t3) (s .args .held) (s .pre .0) links long (s .args .out .now) (s .pre .1) _ (c .before .before .before .before .before .before .before .put-numbers .ensures) _ (c .before .before .put-numbers2 .ensures)
+    let s = c .before .before .before .before .before .before .before .before .before .before .before .before .before .before .before in
+    session-put (s .args .hops) (s .args .route) (s .args .held) (s .args .out .now) (s .pre .1) _ (c .before .before .before .before .before .before .before .before .before .before .put-places .ensures) _ (c .before .before .before .before .before .before .put-places2 .ensures) _ (c .before .before .put-places3 .ensures)
 
 pub put-session-spec : {M : Type 1} → statement M
 put-session-spec =
@@ -80,12 +57,11 @@ put-session-spec =
     cast-out
     slice-write-out
     slice-write-out-2
-    array-share-prefix-route
-    slice-aggregate-put-numbers
-    put-numbers-requires
-    add-put-numbers
-    array-share-prefix-frames
-    slice-aggregate-put-numbers-2
-    put-numbers-requires-2
+    put-places-requires
+    add-put-places
+    put-places-requires-2
+    mul-put-places
+    add-put-places-2
+    put-places-requires-3
     same-length
     returns)

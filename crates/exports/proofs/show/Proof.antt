@@ -33,16 +33,12 @@ refused-requires-2 c κs = search needs
 returns : tie.Need-returns
 returns c =
     let s = c .before .before .before .before .before in
-    let links : length (s .args .shown .route) ≡ 8 = search needs in
-    let long : length (s .args .shown .held .frames) ≡ 8 = search needs in
-    short-shown (s .args .shown) links long (c .before .before .enum-told .given .1) (s .pre) (s .args .out .now) (c .before .if1 .taken) _ (c .refused2 .ensures)
+    short-shown (s .args .shown) (c .before .before .enum-told .given .1) (s .pre) (s .args .out .now) (c .before .if1 .taken) _ (c .refused2 .ensures)
 
 put-session-requires : tie.Need-put-session-requires
 put-session-requires c κs =
     let s = c .before .before .before .before .before .before .before in
-    let links : length (s .args .shown .route) ≡ 8 = search needs in
-    let long : length (s .args .shown .held .frames) ≡ 8 = search needs in
-    shown-room (s .args .shown) links long (c .before .before .before .before .enum-told .given .1) (s .pre) (s .args .out .now) (c .before .before .before .if1 .left)
+    shown-room (s .args .shown) (c .before .before .before .before .enum-told .given .1) (s .pre) (s .args .out .now) (c .before .before .before .if1 .left)
 
 returns-2 : tie.Need-returns-2
 returns-2 c = refused-number _ _ _ (refused-shown (c .before .before .before .before .before .args .shown) _ (c .before .before .verdict .given .1) _) _ (c .refused .ensures)
@@ -53,9 +49,7 @@ same-length c = search needs
 returns-3 : tie.Need-returns-3
 returns-3 c =
     let s = c .before .before .before .before .before .before .before .before .before .before in
-    let links : length (s .args .shown .route) ≡ 8 = search needs in
-    let long : length (s .args .shown .held .frames) ≡ 8 = search needs in
-    long-shown (s .args .shown) links long (c .before .before .before .before .before .before .before .enum-told .given .1) (s .pre) (s .args .out .now) (c .before .before .before .before .before .before .if1 .left) _ (c .before .before .put-session .ensures)
+    long-shown (s .args .shown) (c .before .before .before .before .before .before .before .enum-told .given .1) (s .pre) (s .args .out .now) (c .before .before .before .before .before .before .if1 .left) _ (c .before .before .put-session .ensures)
 
 pub show-spec : {M : Type 1} → statement M
 show-spec =
