@@ -221,15 +221,15 @@ pub fn cycles(hops: [Hop; 8], frames: [u8; 8], n: usize) -> [u8; 8]
     let mut k = places::short(frames[0]);
     let mut cycles = [0u8; 8];
     let mut cycle: u8 = 0;
-    let mut j: usize = 1;
-    while j < n {
-        let hop = hops[j];
-        let i = places::short(frames[j]);
+    let mut at: usize = 1;
+    while at < n {
+        let hop = hops[at];
+        let i = places::short(frames[at]);
         cycle = forwarding::next_cycle(k, before, hop, i, cycle);
-        cycles[j] = cycle;
+        cycles[at] = cycle;
         before = hop;
         k = i;
-        j += 1;
+        at += 1;
     }
     cycles
 }

@@ -1,4 +1,4 @@
--- `routes::cycles` meets its contract. The invariant: the cycles of the hops before j are stored. Assumes nothing.
+-- `routes::cycles` meets its contract. The invariant: the cycles of the hops before `at` are stored. Assumes nothing.
 use Prim.Native.Nat.{_-_}
 use native.Mathlib.Omega.{arith}
 use borrow.Author.Needs.{needs}
@@ -7,10 +7,10 @@ use Rattle.routes.proofs.cycles.Statement.{statement}
 use Rattle.routes.proofs.cycles.Tie as tie
 
 abbrev Inv-loop : tie.InvT-loop
-Inv-loop n hops frames before₀ k₀ cycles₀ cycle₀ j₀ before k cycles cycle j = CyclesSoFar n hops frames k before cycles cycle j
+Inv-loop n hops frames before₀ k₀ cycles₀ cycle₀ at₀ before k cycles cycle at = CyclesSoFar n hops frames k before cycles cycle at
 
 abbrev μ-loop : tie.MeasureT-loop
-μ-loop n hops frames before₀ k₀ cycles₀ cycle₀ j₀ before k cycles cycle j = n - j
+μ-loop n hops frames before₀ k₀ cycles₀ cycle₀ at₀ before k cycles cycle at = n - at
 
 array-copy-out-first : tie.Need-array-copy-out-first Inv-loop μ-loop
 array-copy-out-first c = search needs
@@ -47,8 +47,8 @@ next-cycle-requires c κs =
 array-write-cycles : tie.Need-array-write-cycles Inv-loop μ-loop
 array-write-cycles c = omega (arith, c .before .before .before .before .before .before .before .pre .few-hops)
 
-add-j : tie.Need-add-j Inv-loop μ-loop
-add-j c = search needs
+add-at : tie.Need-add-at Inv-loop μ-loop
+add-at c = search needs
 
 loop-less : tie.Need-loop-less Inv-loop μ-loop
 loop-less c = search needs
@@ -78,7 +78,7 @@ cycles-spec =
     short-requires-2
     next-cycle-requires
     array-write-cycles
-    add-j
+    add-at
     loop-less
     loop-again
     returns)
