@@ -2,7 +2,8 @@
 
 use crate::listing::Listed;
 use crate::route::{Answer, Hop, MAX_HOPS};
-use crate::sorts::{add_each, print_lines, sort, sorts_of_hops, too_few_in, Line, Sort};
+use crate::sorts::{add_cycle, add_each, sort, sorts_of_cycles, sorts_of_hops, Sort};
+use crate::sorts::{print_lines, too_few_in, Line};
 use std::collections::HashSet;
 use std::hash::{DefaultHasher, Hash, Hasher};
 
@@ -19,6 +20,7 @@ pub struct Compared {
     steps: [Sort; 4],
     /// In the order of `Decided`.
     decided: [Sort; 5],
+    last_cycles: [Sort; 3],
     /// With a link whose K has a prime factor above 3, and with T no multiple of 24.
     numbers: [Sort; 2],
 }
@@ -48,6 +50,7 @@ impl Default for Compared {
                 sort("preceding frame", 20_000),
                 sort("only schedule", 8_000),
             ],
+            last_cycles: sorts_of_cycles([40_000, 30_000, 20_000]),
             numbers: [
                 sort("K with a prime factor above 3:", 50_000),
                 sort("T no multiple of 24:", 60_000),
@@ -100,19 +103,21 @@ impl Compared {
         let numbers = [above_3, listed.ticks % 24 != 0];
         add_each(&mut self.steps, &steps);
         add_each(&mut self.numbers, &numbers);
-        if let Some(decided) = listed.decided {
+        if let (Some(decided), Answer::Found { cycles, .. }) = (listed.decided, &listed.answer) {
             self.hops_of_schedules[hops.len() - 1].add(true);
             self.decided[decided as usize].add(true);
+            add_cycle(&mut self.last_cycles, cycles[hops.len() - 1].into());
         }
     }
 
     /// The sorts line by line, each line with the words before it.
-    fn lines(&self) -> [Line<'_>; 5] {
+    fn lines(&self) -> [Line<'_>; 6] {
         [
             ("of ", &self.hops),
             ("not blocked: of ", &self.hops_of_schedules),
             ("", &self.steps),
             ("decided by ", &self.decided),
+            ("last hop in cycle ", &self.last_cycles),
             ("", &self.numbers),
         ]
     }
@@ -135,19 +140,25 @@ impl Compared {
 fn answer(line: &str) -> Option<Answer> {
     let words: Vec<&str> = line.split(' ').collect();
     match words[..] {
-        [_, _, "ok", delay, count, ref frames @ ..] => Some(Answer::Found {
-            delay: delay.parse().ok()?,
-            count: count.parse().ok()?,
-            frames: frames
-                .iter()
-                .map(|frame| frame.parse().ok())
-                .collect::<Option<_>>()?,
-        }),
+        [_, _, "ok", delay, count, ref hops @ ..] => {
+            let slash = hops.iter().position(|&word| word == "/")?;
+            Some(Answer::Found {
+                delay: delay.parse().ok()?,
+                count: count.parse().ok()?,
+                frames: numbers(&hops[..slash])?,
+                cycles: numbers(&hops[slash + 1..])?,
+            })
+        }
         [_, _, "no", "18", count] => Some(Answer::Blocked {
             count: count.parse().ok()?,
         }),
         _ => None,
     }
+}
+
+/// The numbers of some words, if each is one.
+fn numbers(words: &[&str]) -> Option<Vec<u8>> {
+    words.iter().map(|word| word.parse().ok()).collect()
 }
 
 /// A number that tells different routes apart; should two share one, only the first is counted.
@@ -239,13 +250,18 @@ mod tests {
     fn an_answer_too_few_or_unreadable_is_found() {
         let searches = || vec![Some(listing::list(24, &[eight(&[3, 5])]))];
         let found = |text| Compared::default().compare(text, &searches()).is_err();
-        assert!(!found("1 Q ok 0 0 3\n2 R ok\nlive 0\n"));
-        assert!(found("1 Q ok 0 0 5\nlive 0\n"));
-        assert!(found("1 Q ok 0 0 3 0\nlive 0\n"));
+        assert!(!found("1 Q ok 0 0 3 / 0\n2 R ok\nlive 0\n"));
+        assert!(found("1 Q ok 0 0 5 / 0\nlive 0\n"));
+        assert!(found("1 Q ok 0 0 3 0 / 0\nlive 0\n"));
+        assert!(found("1 Q ok 0 0 3 / 1\nlive 0\n"));
+        assert!(found("1 Q ok 0 0 3 / 0 0\nlive 0\n"));
+        assert!(found("1 Q ok 0 0 3 /\nlive 0\n"));
+        assert!(found("1 Q ok 0 0 3\nlive 0\n"));
         assert!(found("1 Q no 18 0\nlive 0\n"));
-        assert!(found("1 Q ok 0 0 x\nlive 0\n"));
+        assert!(found("1 Q ok 0 0 x / 0\nlive 0\n"));
+        assert!(found("1 Q ok 0 0 3 / x\nlive 0\n"));
         assert!(found("1 R ok\nlive 0\n"));
-        assert!(found("1 Q ok 0 0 3\n2 Q ok 0 0 3\nlive 0\n"));
+        assert!(found("1 Q ok 0 0 3 / 0\n2 Q ok 0 0 3 / 0\nlive 0\n"));
     }
 
     fn seen(sorts: &[Sort]) -> Vec<usize> {
@@ -299,6 +315,13 @@ mod tests {
     }
 
     #[test]
+    fn cycles_of_the_last_hop() {
+        // With K 1 each hop is a cycle later. Over K 8 and K 4 frames 6 0 are found: reference frame 3 and hold 1.
+        let routes: [(u32, &[u32]); 4] = [(24, &[1]), (24, &[1; 2]), (24, &[1; 8]), (24, &[8, 4])];
+        assert_eq!(seen(&compared(&routes).last_cycles), [1, 2, 1]);
+    }
+
+    #[test]
     fn a_route_is_of_a_sort_once() {
         let compared = compared(&[(24, &[8]), (24, &[8]), (48, &[8]), (48, &[4])]);
         assert_eq!(compared.answers, 4);
@@ -315,6 +338,7 @@ mod tests {
             &mut compared.hops_of_schedules,
             &mut compared.steps,
             &mut compared.decided,
+            &mut compared.last_cycles,
             &mut compared.numbers,
         ] {
             assert!(sorts.iter().all(|sort| sort.least > 0));

@@ -33,10 +33,12 @@ pub fn least(ticks: u32, hops: &[Hop]) -> Answer {
     }
     let mut search = Search::new(ticks, hops);
     let end = search.run();
+    let frames = search.frames_back_from(end.frame);
     Answer::Found {
         delay: end.delay,
         count,
-        frames: search.frames_back_from(end.frame),
+        cycles: route::cycles(hops, &frames),
+        frames,
     }
 }
 

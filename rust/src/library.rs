@@ -52,7 +52,7 @@ pub const CALLS_MOST: usize = 65_536;
 pub const TEXT_MOST: usize = 720_918;
 
 /// Numbers that serve for every session.
-pub const SESSION_MOST: usize = 18;
+pub const SESSION_MOST: usize = 26;
 
 /// Bytes that serve for every network file.
 pub const IMAGE_MOST: usize = 355;
@@ -105,9 +105,9 @@ pub fn report(file: &[u8], calls: &[u8], out: &mut [u8]) -> Result<usize, u64> {
     })
 }
 
-/// Looks a session up after the calls: puts hops, delay, the links and the frames at the start of `out` and answers
-/// how many numbers these are, at most `SESSION_MOST`, or answers the refusal number. `out` stays as it was behind
-/// them, and as a whole where the lookup is refused.
+/// Looks a session up after the calls: puts hops, delay, the links, the frames and their cycles at the start of `out`
+/// and answers how many numbers these are, at most `SESSION_MOST`, or answers the refusal number. `out` stays as it was
+/// behind them, and as a whole where the lookup is refused.
 pub fn lookup(file: &[u8], calls: &[u8], number: u16, out: &mut [u16]) -> Result<usize, u64> {
     // SAFETY: each pointer comes with the length of the slice it was taken from.
     length_or_refusal(unsafe {

@@ -107,6 +107,7 @@ impl Listing<'_> {
                 delay: key[0],
                 count,
                 frames: frames.iter().map(|&frame| frame as u8).collect(),
+                cycles: cycles(self.hops, frames),
             },
         }
     }
@@ -131,6 +132,23 @@ fn rule(best: &Key, next_best: &Key) -> Decided {
         Some(place) if place % 2 == 0 => Decided::ByHold,
         Some(_) => Decided::ByPrecedingFrame,
     }
+}
+
+/// The cycle of each hop of a schedule, by positions counted from the beginning of cycle 0: frame i of cycle c stands
+/// at c * K + i. The position on the hop before has a reference position here as a frame has a reference frame, and the
+/// hop's own is the first after it that is one of its frame.
+fn cycles(hops: &[Hop], frames: &[u32]) -> Vec<u8> {
+    let mut position = frames[0];
+    let mut cycles = vec![0];
+    for (hop, &frame) in hops.windows(2).zip(&frames[1..]) {
+        let reference = route::reference(position, &hop[0], &hop[1]);
+        let mut later = reference + 1..;
+        position = later
+            .find(|position| position % hop[1].frames == frame)
+            .expect("each frame comes again in every cycle");
+        cycles.push((position / hop[1].frames) as u8);
+    }
+    cycles
 }
 
 /// The key of a whole schedule.
@@ -215,6 +233,18 @@ mod tests {
         // 1 2 with delay 6, 1 4 with 18, 3 2 with 42, 3 4 with 6.
         let after = [eight(&[1, 3]), link(8, 7, &[2, 4])];
         assert_eq!(decided(&after), Some(Decided::ByLastFrame));
+    }
+
+    #[test]
+    fn cycles_by_positions() {
+        let all = |frames: u32| -> Vec<u32> { (0..frames).collect() };
+        // Positions 6 of 8, 4 of 4, 16 of 8 and 11 of 4: the references are 3, 9 and 8.
+        let [fast, slow] = [8, 4].map(|frames| link(frames, frames, &all(frames)));
+        let route = [fast, slow, fast, slow];
+        assert_eq!(cycles(&route, &[6, 0, 0, 3]), [0, 1, 2, 2]);
+        // A whole cycle after a reference of 3, at position 11.
+        assert_eq!(cycles(&[fast, fast], &[3, 3]), [0, 1]);
+        assert_eq!(cycles(&[slow], &[3]), [0]);
     }
 
     #[test]

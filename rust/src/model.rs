@@ -21,14 +21,16 @@ struct Found {
     delay: u32,
     count: u32,
     frames: Vec<u8>,
+    cycles: Vec<u8>,
 }
 
-/// An entry of the ledger: a live session's number, route, frames and delay.
+/// An entry of the ledger: a live session's number, route, frames, their cycles and delay.
 #[derive(Clone)]
 pub struct Session {
     pub number: u16,
     pub route: Vec<u8>,
     pub frames: Vec<u8>,
+    pub cycles: Vec<u8>,
     pub delay: u32,
 }
 
@@ -243,10 +245,12 @@ fn search(rules: &impl Rules, network: &Network, ledger: &Ledger, route: &[u8]) 
             delay,
             count,
             frames,
+            cycles,
         } => Outcome::Schedule(Found {
             delay,
             count,
             frames,
+            cycles,
         }),
     }
 }
@@ -294,6 +298,7 @@ impl Ledger {
             number,
             route: route.to_vec(),
             frames: found.frames.clone(),
+            cycles: found.cycles.clone(),
             delay: found.delay,
         });
     }
@@ -310,11 +315,13 @@ impl Ledger {
 // ---- Lookup and free frames ----
 
 impl Session {
-    /// What a lookup hands out: the number of hops, the delay, the link of each hop, the frame of each hop.
+    /// What a lookup hands out: the number of hops, the delay, and of each hop the link, then the frame, then the cycle.
     pub fn shown(&self) -> Vec<u16> {
         let head = [self.route.len() as u16, self.delay as u16];
-        let hops = self.route.iter().chain(&self.frames).copied();
-        head.into_iter().chain(hops.map(u16::from)).collect()
+        let hops = [&self.route[..], &self.frames, &self.cycles].concat();
+        head.into_iter()
+            .chain(hops.into_iter().map(u16::from))
+            .collect()
     }
 }
 
@@ -377,11 +384,18 @@ fn write_outcome(text: &mut Vec<u8>, place: usize, letter: char, outcome: &Outco
         Outcome::Schedule(found) => {
             let (delay, count) = (found.delay, found.count);
             write!(text, "{place} {letter} ok {delay} {count}").expect("a vector takes every byte");
-            for frame in &found.frames {
-                write!(text, " {frame}").expect("a vector takes every byte");
-            }
+            write_numbers(text, &found.frames);
+            text.extend(b" /");
+            write_numbers(text, &found.cycles);
             text.push(b'\n');
         }
+    }
+}
+
+/// Adds numbers, each with a space before it.
+fn write_numbers(text: &mut Vec<u8>, numbers: &[u8]) {
+    for number in numbers {
+        write!(text, " {number}").expect("a vector takes every byte");
     }
 }
 
@@ -405,7 +419,8 @@ mod tests {
         let calls = [
             1, 5, 0, 2, 0, 1, 1, 5, 0, 2, 0, 1, 3, 5, 0, 2, 1, 0, 3, 5, 0,
         ];
-        let expected = "1 S ok 6 16 7 0\n2 S no 16\n3 R ok\n4 Q ok 0 0 0\n5 R no 19\nlive 0\n";
+        let expected =
+            "1 S ok 6 16 7 0 / 0 1\n2 S no 16\n3 R ok\n4 Q ok 0 0 0 / 0\n5 R no 19\nlive 0\n";
         assert_eq!(text(&TWO_LINKS, &calls), expected);
     }
 
@@ -443,14 +458,17 @@ mod tests {
         assert_eq!(text(&TWO_LINKS, &[4, 1, 0]), "1 ? no 11\nlive 0\n");
         assert_eq!(
             text(&TWO_LINKS, &[1, 7, 0, 1, 0, 0]),
-            "1 S ok 0 0 0\n2 ? no 11\nlive 1\n"
+            "1 S ok 0 0 0 / 0\n2 ? no 11\nlive 1\n"
         );
         assert_eq!(text(&TWO_LINKS, &[1, 7, 0, 2, 0]), "1 ? no 11\nlive 0\n");
         let mut long = vec![2, 200];
         long.extend([0; 200]);
         assert_eq!(text(&TWO_LINKS, &long[..201]), "1 ? no 11\nlive 0\n");
         long.extend([2, 1, 1]);
-        assert_eq!(text(&TWO_LINKS, &long), "1 Q no 12\n2 Q ok 0 0 0\nlive 0\n");
+        assert_eq!(
+            text(&TWO_LINKS, &long),
+            "1 Q no 12\n2 Q ok 0 0 0 / 0\nlive 0\n"
+        );
     }
 
     #[test]
@@ -471,7 +489,7 @@ mod tests {
         let calls = [1, 1, 0, 1, 0, 1, 2, 0, 1, 1, 3, 1, 0, 2, 1, 0, 2, 1, 1];
         assert_eq!(
             text(&TWO_LINKS, &calls),
-            "1 S ok 0 0 0\n2 S ok 0 0 0\n3 R ok\n4 Q ok 0 0 0\n5 Q ok 0 0 1\nlive 1\n"
+            "1 S ok 0 0 0 / 0\n2 S ok 0 0 0 / 0\n3 R ok\n4 Q ok 0 0 0 / 0\n5 Q ok 0 0 1 / 0\nlive 1\n"
         );
     }
 
@@ -486,14 +504,14 @@ mod tests {
         calls.extend([1, 200, 0, 1, 0, 1, 95, 0, 1, 1, 1, 200, 0, 1, 9]);
         calls.extend([3, 95, 0, 1, 200, 0, 1, 0, 1, 200, 0, 1, 1, 2, 1, 0]);
         let text = text(&file, &calls);
-        let tail = "96 S ok 0 0 31\n97 S no 17\n98 S no 16\n99 S no 13\n100 R ok\n\
-                    101 S no 18 0\n102 S ok 0 0 31\n103 Q no 18 0\nlive 96\n";
+        let tail = "96 S ok 0 0 31 / 0\n97 S no 17\n98 S no 16\n99 S no 13\n100 R ok\n\
+                    101 S no 18 0\n102 S ok 0 0 31 / 0\n103 Q no 18 0\nlive 96\n";
         assert!(text.ends_with(tail), "{text}");
     }
 
     // ---- Lookup and free frames ----
 
-    /// Set-ups of 5 over 0 1 and of 6 over 1 0: both get frames 7 0 with delay 6, as in the document's example.
+    /// Set-ups of 5 over 0 1 and of 6 over 1 0: both get frames 7 0 in cycles 0 1 with delay 6, as in the document's example.
     const TWO_SESSIONS: [u8; 12] = [1, 5, 0, 2, 0, 1, 1, 6, 0, 2, 1, 0];
 
     /// The state after calls on a file.
@@ -507,15 +525,15 @@ mod tests {
     }
 
     #[test]
-    fn lookup_shows_hops_delay_links_and_frames() {
+    fn lookup_shows_hops_delay_links_frames_and_cycles() {
         let stored = after(&TWO_LINKS, &TWO_SESSIONS);
-        assert_eq!(lookup(&stored, 5, 6), Ok(vec![2, 6, 0, 1, 7, 0]));
-        assert_eq!(lookup(&stored, 6, 6), Ok(vec![2, 6, 1, 0, 7, 0]));
-        assert_eq!(lookup(&stored, 7, 6), Err(19));
-        assert_eq!(lookup(&stored, 5 + 256, 6), Err(19));
+        assert_eq!(lookup(&stored, 5, 8), Ok(vec![2, 6, 0, 1, 7, 0, 0, 1]));
+        assert_eq!(lookup(&stored, 6, 8), Ok(vec![2, 6, 1, 0, 7, 0, 0, 1]));
+        assert_eq!(lookup(&stored, 7, 8), Err(19));
+        assert_eq!(lookup(&stored, 5 + 256, 8), Err(19));
         let released = after(&TWO_LINKS, &[&TWO_SESSIONS[..], &[3, 5, 0]].concat());
-        assert_eq!(lookup(&released, 5, 6), Err(19));
-        assert_eq!(lookup(&released, 6, 6), Ok(vec![2, 6, 1, 0, 7, 0]));
+        assert_eq!(lookup(&released, 5, 8), Err(19));
+        assert_eq!(lookup(&released, 6, 8), Ok(vec![2, 6, 1, 0, 7, 0, 0, 1]));
     }
 
     #[test]
@@ -525,7 +543,7 @@ mod tests {
             0x30, 0, 2, 7, 8, 2, 0xf7, 0, 0, 0, 0, 0, 0, 0, 4, 0xff, 0xfb, 0, 0, 0, 0, 0, 0,
         ];
         let stored = after(&file, &[1, 0, 0, 2, 0, 1]);
-        assert_eq!(lookup(&stored, 0, 6), Ok(vec![2, 9, 0, 1, 3, 10]));
+        assert_eq!(lookup(&stored, 0, 8), Ok(vec![2, 9, 0, 1, 3, 10, 0, 0]));
         assert_eq!(free(&stored), [Ok(0), Ok(0), Err(13)]);
         assert_eq!(free(&after(&file, &[])), [Ok(1), Ok(1), Err(13)]);
     }
@@ -533,7 +551,7 @@ mod tests {
     #[test]
     fn refused_lookups() {
         let stored = after(&TWO_LINKS, &TWO_SESSIONS);
-        assert_eq!(lookup(&stored, 5, 5), Err(20));
+        assert_eq!(lookup(&stored, 5, 7), Err(20));
         assert_eq!(lookup(&stored, 5, 0), Err(20));
         assert_eq!(lookup(&stored, 7, 0), Err(19));
         let unread = after(&[0x30, 0], &TWO_SESSIONS);
@@ -553,7 +571,7 @@ mod tests {
         // Frames 0 to 3 of link 1 are closed: 5 over 1 gets frame 4. A quote holds nothing.
         let file = [0x30, 0, 2, 3, 8, 2, 7, 8, 2, 0x0f, 0, 0, 0, 0, 0, 0, 0];
         let stored = after(&file, &[1, 5, 0, 1, 1, 2, 1, 0]);
-        assert_eq!(lookup(&stored, 5, 4), Ok(vec![1, 0, 1, 4]));
+        assert_eq!(lookup(&stored, 5, 5), Ok(vec![1, 0, 1, 4, 0]));
         assert_eq!(free(&stored), [Ok(8), Ok(3), Err(13)]);
     }
 
@@ -561,19 +579,19 @@ mod tests {
     fn calls_that_are_not_served() {
         // After a record that can't be read.
         let stored = after(&TWO_LINKS, &[1, 5, 0, 1, 0, 4, 1, 6, 0, 1, 0]);
-        assert_eq!(lookup(&stored, 5, 4), Ok(vec![1, 0, 0, 0]));
-        assert_eq!(lookup(&stored, 6, 4), Err(19));
+        assert_eq!(lookup(&stored, 5, 5), Ok(vec![1, 0, 0, 0, 0]));
+        assert_eq!(lookup(&stored, 6, 5), Err(19));
         // A set-up of five bytes that ends with the bytes that count, and one that ends after them.
         let set_up = [1, 5, 0, 1, 0];
         let last = [&[2, 0].repeat(32_764)[..], &[3, 9, 9], &set_up].concat();
         assert_eq!(last.len(), 65_536);
         assert_eq!(
-            lookup(&after(&TWO_LINKS, &last), 5, 4),
-            Ok(vec![1, 0, 0, 0])
+            lookup(&after(&TWO_LINKS, &last), 5, 5),
+            Ok(vec![1, 0, 0, 0, 0])
         );
         let across = [&[2, 0].repeat(32_766)[..], &set_up].concat();
         assert_eq!(across.len(), 65_537);
-        assert_eq!(lookup(&after(&TWO_LINKS, &across), 5, 4), Err(19));
+        assert_eq!(lookup(&after(&TWO_LINKS, &across), 5, 5), Err(19));
     }
 
     #[test]
@@ -584,7 +602,7 @@ mod tests {
         assert_eq!(room_for_run(&[0; 65_537]), 720_918);
     }
 
-    /// What is entered as a session's delay is the delay of its frames, and the words of held frames are the entries'.
+    /// What is entered as a session's delay and cycles are those of its frames, and the words of held frames are the entries'.
     #[test]
     fn entries_and_held_words_agree() {
         let mut random = Random::new(6);
@@ -593,6 +611,8 @@ mod tests {
             let calls = &input.calls[..input.calls.len().min(1_000)];
             if let Ok(state) = run(&input.file, calls, dijkstra::least).state {
                 for session in &state.ledger.sessions {
+                    let hops = hops_of(&state.network, &state.ledger, &session.route);
+                    assert_eq!(session.cycles, route::cycles(&hops, &session.frames));
                     assert_eq!(session.delay, delay_of(&state.network, session));
                 }
                 for link in 0..state.network.links.len() {

@@ -1,4 +1,5 @@
-//! The cases of the document's question four, with the answers of W-201 from slow to fast, for every search.
+//! The cases of the document's question four, with the answers of W-201 from slow to fast and the cycles of W-202, for every
+//! search.
 
 use crate::route::{ones, Answer, Hop};
 use crate::{dijkstra, listing, survivors};
@@ -45,15 +46,16 @@ fn answered(hops: &[Hop], expected: Answer) {
     }
 }
 
-/// Every search finds these frames with this delay and count.
-fn found(hops: &[Hop], frames: &[u8], delay: u32, count: u32) {
-    let frames = frames.to_vec();
+/// Every search finds these frames in these cycles with this delay and count.
+fn found(hops: &[Hop], frames: &[u8], cycles: &[u8], delay: u32, count: u32) {
+    let (frames, cycles) = (frames.to_vec(), cycles.to_vec());
     answered(
         hops,
         Answer::Found {
             delay,
             count,
             frames,
+            cycles,
         },
     );
 }
@@ -65,27 +67,30 @@ fn blocked(hops: &[Hop], count: u32) {
 
 #[test]
 fn one_hop() {
-    found(&[eight(ALL)], &[0], 0, 0);
-    found(&[eight(&[5, 6])], &[5], 0, 0);
+    found(&[eight(ALL)], &[0], &[0], 0, 0);
+    found(&[eight(&[5, 6])], &[5], &[0], 0, 0);
     blocked(&[eight(&[])], 0);
 }
 
 #[test]
 fn two_hops_all_free() {
-    found(&[eight(ALL), eight(ALL)], &[7, 0], 6, 16);
+    // Reference frame 7 and hold 1 make 8, a whole cycle.
+    found(&[eight(ALL), eight(ALL)], &[7, 0], &[0, 1], 6, 16);
 }
 
 #[test]
 fn single_frames() {
-    found(&[eight(&[3]), eight(&[5])], &[3, 5], 12, 1);
+    found(&[eight(&[3]), eight(&[5])], &[3, 5], &[0, 0], 12, 1);
     blocked(&[eight(&[3]), eight(&[6])], 0);
     blocked(&[eight(&[3]), eight(&[3])], 0);
-    found(&[eight(&[3]), link(8, 8, &[3])], &[3, 3], 48, 1);
+    // Reference frame 3 and hold 8 make 11.
+    let whole_cycle = [eight(&[3]), link(8, 8, &[3])];
+    found(&whole_cycle, &[3, 3], &[0, 1], 48, 1);
 }
 
 #[test]
 fn nearest_preceding_frame() {
-    found(&[eight(&[1, 2]), eight(&[3])], &[2, 3], 6, 2);
+    found(&[eight(&[1, 2]), eight(&[3])], &[2, 3], &[0, 0], 6, 2);
 }
 
 #[test]
@@ -93,6 +98,7 @@ fn nearest_frame_is_a_dead_end() {
     found(
         &[eight(&[0]), eight(&[1, 2]), eight(&[4])],
         &[0, 2, 4],
+        &[0, 0, 0],
         24,
         3,
     );
@@ -103,6 +109,7 @@ fn smaller_last_hold_wins() {
     found(
         &[eight(&[0]), eight(&[1, 2]), eight(&[3])],
         &[0, 2, 3],
+        &[0, 0, 0],
         18,
         4,
     );
@@ -111,14 +118,14 @@ fn smaller_last_hold_wins() {
 #[test]
 fn slow_meets_fast() {
     blocked(&[eight(&[3]), sixteen(&[7])], 0);
-    found(&[eight(&[3]), sixteen(&[10])], &[3, 10], 9, 1);
-    found(&[eight(&[3]), sixteen(&[11])], &[3, 11], 12, 1);
+    found(&[eight(&[3]), sixteen(&[10])], &[3, 10], &[0, 0], 9, 1);
+    found(&[eight(&[3]), sixteen(&[11])], &[3, 11], &[0, 0], 12, 1);
     blocked(&[eight(&[3]), sixteen(&[6])], 0);
 }
 
 #[test]
 fn fast_meets_slow() {
-    found(&[eight(&[4, 5]), four(&[3])], &[4, 3], 12, 2);
+    found(&[eight(&[4, 5]), four(&[3])], &[4, 3], &[0, 0], 12, 2);
 }
 
 #[test]

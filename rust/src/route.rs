@@ -1,4 +1,4 @@
-//! A hop, the answer of a search, and the rules of forwarding: reference frame, hold, allowed, delay, count.
+//! A hop, the answer of a search, and the rules of forwarding: reference frame, hold, allowed, delay, cycles, count.
 
 /// The most links of a route.
 pub const MAX_HOPS: usize = 8;
@@ -11,13 +11,14 @@ pub struct Hop {
     pub free: u64,
 }
 
-/// The answer of a search: a schedule with its delay in ticks, or none; the count either way.
+/// The answer of a search: a schedule with its delay in ticks and the cycle of each frame, or none; the count either way.
 #[derive(Clone, Debug, PartialEq, Eq)]
 pub enum Answer {
     Found {
         delay: u32,
         count: u32,
         frames: Vec<u8>,
+        cycles: Vec<u8>,
     },
     Blocked {
         count: u32,
@@ -66,6 +67,28 @@ pub fn allowed(preceding: u32, before: &Hop, frame: u32, here: &Hop) -> bool {
 /// The delay in ticks of a hold at a link: D * T / K.
 pub fn delay(hold: u32, ticks: u32, here: &Hop) -> u32 {
     hold * ticks / here.frames
+}
+
+/// The cycle of a hop after the first: that of the hop before where reference frame and hold together are below K,
+/// else the one after it (W-202).
+pub fn next_cycle(cycle: u8, reference: u32, hold: u32, here: &Hop) -> u8 {
+    if reference + hold < here.frames {
+        cycle
+    } else {
+        cycle + 1
+    }
+}
+
+/// The cycle of each hop of a schedule; hop 0 has cycle 0.
+pub fn cycles(hops: &[Hop], frames: &[u8]) -> Vec<u8> {
+    let mut cycles = vec![0];
+    for j in 1..frames.len() {
+        let (before, here) = (&hops[j - 1], &hops[j]);
+        let reference = reference(frames[j - 1].into(), before, here);
+        let hold = hold(reference, frames[j].into(), here.frames);
+        cycles.push(next_cycle(cycles[j - 1], reference, hold, here));
+    }
+    cycles
 }
 
 /// The count by its definition. `ends[j]` holds the frames of hop j that end some schedule of hops 0 to j;
@@ -126,6 +149,26 @@ mod tests {
         assert_eq!(delay(1, 48, &all_free(16, 4)), 3);
         assert_eq!(delay(2, 48, &all_free(4, 2)), 24);
         assert_eq!(delay(64, 960, &all_free(64, 64)), 960);
+    }
+
+    #[test]
+    fn a_cycle_ends_where_reference_and_hold_reach_it() {
+        let link = all_free(8, 8);
+        // 5 + 2 = 7 is below 8; 5 + 3 = 8 and 5 + 8 = 13 aren't.
+        assert_eq!(cycles(&[link, link], &[5, 7]), [0, 0]);
+        assert_eq!(cycles(&[link, link], &[5, 0]), [0, 1]);
+        assert_eq!(cycles(&[link, link], &[5, 5]), [0, 1]);
+        assert_eq!(cycles(&[link], &[7]), [0]);
+    }
+
+    #[test]
+    fn cycles_add_up_along_a_route() {
+        let (fast, slow, single) = (all_free(8, 8), all_free(4, 4), all_free(1, 1));
+        // With one frame in a cycle each hop has reference frame 0 and hold 1, which isn't below 1.
+        assert_eq!(cycles(&[single; 8], &[0; 8]), [0, 1, 2, 3, 4, 5, 6, 7]);
+        // Reference frames 3, 1 and 0: 3 + 1 isn't below 4, then 1 + 7 isn't below 8, then 0 + 3 is below 4.
+        let route = [fast, slow, fast, slow];
+        assert_eq!(cycles(&route, &[6, 0, 0, 3]), [0, 1, 2, 2]);
     }
 
     #[test]

@@ -27,6 +27,17 @@ pub fn sorts_of_hops(least: [usize; MAX_HOPS]) -> [Sort; MAX_HOPS] {
     std::array::from_fn(|j| sort(NAMES[j], least[j]))
 }
 
+/// The sorts of schedules by the cycle of the last hop: 0, 1, and a later one.
+pub fn sorts_of_cycles(least: [usize; 3]) -> [Sort; 3] {
+    const NAMES: [&str; 3] = ["0:", "1:", "2 to 7:"];
+    std::array::from_fn(|cycle| sort(NAMES[cycle], least[cycle]))
+}
+
+/// Counts one for the sort of this cycle.
+pub fn add_cycle(sorts: &mut [Sort; 3], cycle: usize) {
+    sorts[cycle.min(2)].add(true);
+}
+
 impl Sort {
     /// Counts one if it is of the sort.
     pub fn add(&mut self, is_of_it: bool) {

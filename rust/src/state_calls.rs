@@ -7,13 +7,14 @@ use crate::model::{self, Stored, INPUT_LIMIT};
 use crate::network_file::Refusal;
 use crate::random::{enough_room, too_little_room, Random};
 use crate::route::MAX_HOPS;
-use crate::sorts::{add_each, print_lines, sort, sorts_of_hops, too_few_in, total, Line, Sort};
+use crate::sorts::{add_cycle, add_each, sort, sorts_of_cycles, sorts_of_hops, Sort};
+use crate::sorts::{print_lines, too_few_in, total, Line};
 use crate::stand_in::{FreeFrames, Lookup};
 use crate::tried::Tried;
 use crate::wrong_state;
 
 /// The numbers that a lookup can put, at most.
-const MOST_NUMBERS: usize = 2 + 2 * MAX_HOPS;
+const MOST_NUMBERS: usize = 2 + 3 * MAX_HOPS;
 
 /// What is known of a number that is looked up. One in the call records that isn't live was released, or its set-up
 /// was refused or never served; one near a live number differs from it by one or in one bit.
@@ -36,8 +37,9 @@ pub struct StateCalls {
     lent: Lent<u16>,
     /// Shown; refused with 19, with 20, and by the file.
     lookups: [Sort; 4],
-    /// Shown, by the number of hops; refused with 19, by what is known of the number.
+    /// Shown, by the number of hops, and by the cycle of the last hop; refused with 19, by what is known of the number.
     hops: [Sort; MAX_HOPS],
+    last_cycles: [Sort; 3],
     not_live: [Sort; 3],
     /// Counted; refused with 13, and by the file.
     counts: [Sort; 3],
@@ -63,6 +65,7 @@ impl StateCalls {
                 sort("by the file", 60_000),
             ],
             hops: sorts_of_hops([30_000, 10_000, 10_000, 8_000, 4_000, 3_000, 2_000, 1_500]),
+            last_cycles: sorts_of_cycles([60_000, 20_000, 12_000]),
             not_live: [
                 sort("in the call records", 100_000),
                 sort("near a live number", 20_000),
@@ -126,7 +129,8 @@ impl StateCalls {
         match shown {
             Ok(shown) => {
                 self.lookups[0].add(true);
-                self.hops[shown.len() / 2 - 2].add(true);
+                self.hops[usize::from(shown[0]) - 1].add(true);
+                add_cycle(&mut self.last_cycles, shown[shown.len() - 1].into());
             }
             Err(19) => {
                 self.lookups[1].add(true);
@@ -212,10 +216,11 @@ impl StateCalls {
 
     // ---- What was seen ----
 
-    fn lookup_lines(&self) -> [Line<'_>; 3] {
+    fn lookup_lines(&self) -> [Line<'_>; 4] {
         [
             ("", &self.lookups),
             ("shown: of ", &self.hops),
+            ("shown: last hop in cycle ", &self.last_cycles),
             ("refused with 19: ", &self.not_live),
         ]
     }

@@ -1,6 +1,6 @@
 //! The least-delay search of a route in plain Rust: survivor search, hop by hop over reached frames and their holds.
 
-use crate::route::{Answer, Hop};
+use crate::route::{cycles, Answer, Hop};
 
 /// A route has at most 8 hops, a link at most 64 frames.
 const HOPS: usize = 8;
@@ -94,6 +94,7 @@ fn search(ticks: u32, hops: &[Hop], wrapped: impl Fn(u32, u32) -> u32) -> Answer
     Answer::Found {
         delay,
         count,
+        cycles: cycles(hops, &frames),
         frames,
     }
 }

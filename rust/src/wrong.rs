@@ -180,6 +180,11 @@ fn first_ways(hop: &Hop) -> Vec<Way> {
         .collect()
 }
 
+/// Frames as an answer has them.
+fn bytes(frames: &[u32]) -> Vec<u8> {
+    frames.iter().map(|&frame| frame as u8).collect()
+}
+
 /// The last frames of the ways.
 fn frames_of(ways: &[Way]) -> u64 {
     let last = |way: &Way| way.frames[way.frames.len() - 1];
@@ -231,11 +236,15 @@ impl Student {
         };
         match best {
             None => Answer::Blocked { count },
-            Some(way) => Answer::Found {
-                delay: way.delay,
-                count,
-                frames: way.frames.iter().map(|&frame| frame as u8).collect(),
-            },
+            Some(way) => {
+                let frames = bytes(&way.frames);
+                Answer::Found {
+                    delay: way.delay,
+                    count,
+                    cycles: route::cycles(hops, &frames),
+                    frames,
+                }
+            }
         }
     }
 
@@ -294,10 +303,12 @@ impl Rules for Nearest {
             delay += route::delay(hold(&frame), ticks, &hop[1]);
             frames.push(frame);
         }
+        let frames = bytes(&frames);
         Answer::Found {
             delay,
             count,
-            frames: frames.iter().map(|&frame| frame as u8).collect(),
+            cycles: route::cycles(hops, &frames),
+            frames,
         }
     }
 }

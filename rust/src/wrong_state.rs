@@ -59,11 +59,12 @@ fn wrongly_shown() -> Vec<Wrong<Box<Lookup>>> {
         shows_as("hops in the opposite order", |_, mut session| {
             session.route.reverse();
             session.frames.reverse();
+            session.cycles.reverse();
             session
         }),
-        shows("link and frame hop by hop", |_, session| {
-            let hops = session.route.iter().zip(&session.frames);
-            let hops = hops.flat_map(|(&link, &frame)| [link.into(), frame.into()]);
+        shows("link, frame and cycle hop by hop", |_, session| {
+            let groups = [&session.route, &session.frames, &session.cycles];
+            let hops = (0..session.route.len()).flat_map(|j| groups.map(|group| group[j].into()));
             session.shown()[..2].iter().copied().chain(hops).collect()
         }),
         shows("places after the last hop shown as 0", |_, session| {
@@ -71,6 +72,7 @@ fn wrongly_shown() -> Vec<Wrong<Box<Lookup>>> {
             let mut shown = session.shown()[..2].to_vec();
             session.route.resize(MAX_HOPS, 0);
             session.frames.resize(MAX_HOPS, 0);
+            session.cycles.resize(MAX_HOPS, 0);
             shown.extend_from_slice(&session.shown()[2..]);
             shown
         }),
@@ -209,7 +211,7 @@ fn wrong_buffers() -> Vec<Wrong<Box<Lookup>>> {
         ),
         wrong_lookup("20 before 19", |file, calls, number, out| {
             stored(file, calls)?;
-            if out.len() < 4 {
+            if out.len() < 5 {
                 return Err(20);
             }
             lookup(file, calls, number, out)
@@ -217,14 +219,14 @@ fn wrong_buffers() -> Vec<Wrong<Box<Lookup>>> {
         wrong_lookup(
             "20 before the refusal of the file",
             |file, calls, number, out| {
-                if out.len() < 4 {
+                if out.len() < 5 {
                     return Err(20);
                 }
                 lookup(file, calls, number, out)
             },
         ),
         wrong_lookup("the number of hops answered", |file, calls, number, out| {
-            lookup(file, calls, number, out).map(|length| (length - 2) / 2)
+            lookup(file, calls, number, out).map(|length| (length - 2) / 3)
         }),
     ]
 }

@@ -160,7 +160,8 @@ impl Check {
                 1, 5, 0, 2, 0, 1, 1, 5, 0, 2, 0, 1, 3, 5, 0, 2, 1, 0, 3, 5, 0,
             ],
         };
-        let expected = "1 S ok 6 16 7 0\n2 S no 16\n3 R ok\n4 Q ok 0 0 0\n5 R no 19\nlive 0\n";
+        let expected =
+            "1 S ok 6 16 7 0 / 0 1\n2 S no 16\n3 R ok\n4 Q ok 0 0 0 / 0\n5 R no 19\nlive 0\n";
         let run = self.model_run(&input);
         if run.text != expected.as_bytes() {
             fail("the model's text of the worked example isn't the document's");
@@ -174,9 +175,9 @@ impl Check {
     fn worked_calls(&self) {
         let file = [0x30, 0, 2, 3, 8, 2, 3, 8, 2];
         let calls = [1, 5, 0, 2, 0, 1];
-        let mut shown = [0; 6];
+        let mut shown = [0; 8];
         let lookup = library::lookup(&file, &calls, 5, &mut shown);
-        if (lookup, shown) != (Ok(6), [2, 6, 0, 1, 7, 0]) {
+        if (lookup, shown) != (Ok(8), [2, 6, 0, 1, 7, 0, 0, 1]) {
             fail("a lookup after the example's first call isn't its answer");
         }
         let free = [0, 1, 2].map(|link| library::free_frames(&file, &calls, link));
