@@ -36,6 +36,17 @@ struct Way {
     holds: Vec<u32>,
 }
 
+/// A transition of a schedule, and the cycle of the hop before.
+struct Step<'a> {
+    cycle: u8,
+    preceding: u32,
+    before: &'a Hop,
+    frame: u32,
+    here: &'a Hop,
+    reference: u32,
+    hold: u32,
+}
+
 /// Which pairs a student counts.
 #[derive(Clone, Copy)]
 enum Counting {
@@ -53,6 +64,8 @@ struct Student {
     delay: fn(u32, u32, &Hop, &Hop) -> u32,
     order: fn(&Way) -> Vec<u32>,
     counting: Counting,
+    first_cycle: u8,
+    next_cycle: fn(&Step) -> u8,
 }
 
 /// The search without a mistake.
@@ -62,6 +75,8 @@ const RIGHT: Student = Student {
     delay: |hold, ticks, _first, here| route::delay(hold, ticks, here),
     order: going_back,
     counting: Counting::FromFramesThatEndASchedule,
+    first_cycle: 0,
+    next_cycle: |step| route::next_cycle(step.cycle, step.reference, step.hold, step.here),
 };
 
 /// The document's order: delay, last frame, then going back hold and preceding frame.
@@ -75,6 +90,12 @@ fn going_back(way: &Way) -> Vec<u32> {
 }
 
 pub(crate) fn wrong_searches() -> Vec<Wrong<Text>> {
+    let mut all = wrong_schedules();
+    all.extend(wrong_cycles());
+    all
+}
+
+fn wrong_schedules() -> Vec<Wrong<Text>> {
     let student = |name, student: Student| by_rules(name, student);
     vec![
         student(
@@ -153,6 +174,46 @@ pub(crate) fn wrong_searches() -> Vec<Wrong<Text>> {
     ]
 }
 
+fn wrong_cycles() -> Vec<Wrong<Text>> {
+    let next_cycle = |name, next_cycle| {
+        by_rules(
+            name,
+            Student {
+                next_cycle,
+                ..RIGHT
+            },
+        )
+    };
+    vec![
+        by_rules(
+            "cycle 1 at hop 0",
+            Student {
+                first_cycle: 1,
+                ..RIGHT
+            },
+        ),
+        next_cycle("every hop in the cycle of hop 0", |step| step.cycle),
+        next_cycle("cycles not added up along the route", |step| {
+            route::next_cycle(0, step.reference, step.hold, step.here)
+        }),
+        next_cycle("next cycle by the hold alone", |step| {
+            route::next_cycle(step.cycle, 0, step.hold, step.here)
+        }),
+        next_cycle("next cycle one frame too early", |step| {
+            route::next_cycle(step.cycle, step.reference, step.hold + 1, step.here)
+        }),
+        next_cycle("next cycle one frame too late", |step| {
+            route::next_cycle(step.cycle, step.reference, step.hold - 1, step.here)
+        }),
+        next_cycle("next cycle by K of the hop before", |step| {
+            route::next_cycle(step.cycle, step.reference, step.hold, step.before)
+        }),
+        next_cycle("next cycle where the frame number doesn't rise", |step| {
+            step.cycle + u8::from(step.frame <= step.preceding)
+        }),
+    ]
+}
+
 impl Rules for Student {
     fn least(&self, ticks: u32, hops: &[Hop]) -> Answer {
         let mut ways = first_ways(&hops[0]);
@@ -225,6 +286,26 @@ impl Student {
             .min_by_key(|way| (self.order)(way))
     }
 
+    /// The cycle of each hop of a schedule.
+    fn cycles(&self, hops: &[Hop], frames: &[u32]) -> Vec<u8> {
+        let mut cycles = vec![self.first_cycle];
+        for j in 1..hops.len() {
+            let (before, here) = (&hops[j - 1], &hops[j]);
+            let (preceding, frame) = (frames[j - 1], frames[j]);
+            let step = Step {
+                cycle: cycles[j - 1],
+                preceding,
+                before,
+                frame,
+                here,
+                reference: (self.reference)(preceding, before, here),
+                hold: self.hold_of(preceding, before, frame, here),
+            };
+            cycles.push((self.next_cycle)(&step));
+        }
+        cycles
+    }
+
     fn answer(&self, hops: &[Hop], ends: &[u64], best: Option<Way>) -> Answer {
         let free: Vec<u64> = hops.iter().map(|hop| hop.free).collect();
         let count = match self.counting {
@@ -236,15 +317,12 @@ impl Student {
         };
         match best {
             None => Answer::Blocked { count },
-            Some(way) => {
-                let frames = bytes(&way.frames);
-                Answer::Found {
-                    delay: way.delay,
-                    count,
-                    cycles: route::cycles(hops, &frames),
-                    frames,
-                }
-            }
+            Some(way) => Answer::Found {
+                delay: way.delay,
+                count,
+                frames: bytes(&way.frames),
+                cycles: self.cycles(hops, &way.frames),
+            },
         }
     }
 
@@ -588,6 +666,18 @@ fn wrong_texts() -> Vec<Wrong<Text>> {
             by_line(text, |line| match line.find(" no 18 ") {
                 Some(at) => format!("{}\n", &line[..at + 6]),
                 None => format!("{line}\n"),
+            })
+        }),
+        by_text("one hop without its cycle", |text| {
+            by_line(text, |line| match line.strip_suffix(" / 0") {
+                Some(schedule) => format!("{schedule}\n"),
+                None => format!("{line}\n"),
+            })
+        }),
+        by_text("quotes without cycles", |text| {
+            by_line(text, |line| match line.split_once(" / ") {
+                Some((quote, _)) if quote.contains('Q') => format!("{quote}\n"),
+                _ => format!("{line}\n"),
             })
         }),
         by_text("letter S where a record is broken", |text| {

@@ -15,6 +15,7 @@ use std::cell::RefCell;
 /// All wrong lookups.
 pub fn lookups() -> Vec<Wrong<Box<Lookup>>> {
     let mut all = wrongly_shown();
+    all.extend(wrong_cycles());
     all.extend(wrongly_found());
     all.extend(wrong_buffers());
     all
@@ -92,6 +93,45 @@ fn wrongly_shown() -> Vec<Wrong<Box<Lookup>>> {
             frames.resize(session.frames.len(), 0);
             Session { frames, ..session }
         }),
+    ]
+}
+
+/// The right rules; keeps the cycles of the last schedule that was found.
+#[derive(Default)]
+struct LastCycles {
+    cycles: RefCell<Vec<u8>>,
+}
+
+impl Rules for LastCycles {
+    fn least(&self, ticks: u32, hops: &[Hop]) -> Answer {
+        let answer = dijkstra::least(ticks, hops);
+        if let Answer::Found { cycles, .. } = &answer {
+            self.cycles.replace(cycles.clone());
+        }
+        answer
+    }
+}
+
+fn wrong_cycles() -> Vec<Wrong<Box<Lookup>>> {
+    vec![
+        shows_as("cycles before frames", |_, session| Session {
+            frames: session.cycles,
+            cycles: session.frames,
+            ..session
+        }),
+        wrong_lookup(
+            "cycles of the last schedule found",
+            |file, calls, number, out| {
+                let last = LastCycles::default();
+                let stored = run_by(&last, file, calls).state;
+                look_up(stored, number, out, |_, session| {
+                    let mut session = session.clone();
+                    session.cycles = last.cycles.borrow().clone();
+                    session.cycles.resize(session.frames.len(), 0);
+                    session.shown()
+                })
+            },
+        ),
     ]
 }
 
