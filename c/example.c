@@ -15,7 +15,7 @@
 static const uint8_t net[] = {0x30, 0x00, 0x02, 0x03, 0x08, 0x02, 0x03, 0x08, 0x02};
 
 static const uint8_t calls[] = {
-    0x01, 0x05, 0x00, 0x02, 0x00, 0x01, /* set-up 5 over 0 1: frames 7 0, which is a delay of 6 ticks */
+    0x01, 0x05, 0x00, 0x02, 0x00, 0x01, /* set-up 5 over 0 1: frames 7 0 in cycles 0 1, which is a delay of 6 ticks */
     0x01, 0x05, 0x00, 0x02, 0x00, 0x01, /* set-up 5 again: refused with 16 */
     0x03, 0x05, 0x00,                   /* release 5 */
     0x02, 0x01, 0x00,                   /* quote over 0 */
@@ -24,6 +24,10 @@ static const uint8_t calls[] = {
 
 /* So many bytes of the calls leave session 5 live, LIVE_CUT inside the second record; and so many release it. */
 enum { LIVE = 6, LIVE_CUT = 8, LIVE_STILL = 12, RELEASED = 15 };
+
+/* Set-ups of 5 and 6 over 0 1. What 5 holds leaves 7 frames of link 0, each with holds 1 and 2 but for frame 6, which has
+   hold 1 alone, since frame 0 of link 1 is held: 13 transitions. */
+static const uint8_t two[] = {0x01, 0x05, 0x00, 0x02, 0x00, 0x01, 0x01, 0x06, 0x00, 0x02, 0x00, 0x01};
 
 /* The buffers that are lent. The places behind are lent to no call, and between two calls every byte is UNTOUCHED. */
 enum { BEHIND = 8, UNTOUCHED = 0xa5 };
@@ -93,12 +97,26 @@ static void text_is(const char *what, uint64_t answer, const char *expected)
     compare_buffers(what, expected, strlen(expected), 0, 0);
 }
 
-/* Session 5 has two hops, a delay of 6 ticks, links 0 1 and frames 7 0. */
+/* A session of two hops. */
+static void session_is(const char *what, uint64_t answer, const uint16_t expected[8])
+{
+    compare_answer(what, answer, 8);
+    compare_buffers(what, expected, 0, 8 * sizeof expected[0], 0);
+}
+
+/* Session 5 has two hops, a delay of 6 ticks, links 0 1, frames 7 0 and cycles 0 1: on link 1 frame 7 has reference frame 7, and
+   with the hold of 1 that is 8, not below K, so that frame 0 lies in the next cycle. */
 static void session_5_is_shown(const char *what, uint64_t answer)
 {
-    static const uint16_t expected[] = {2, 6, 0, 1, 7, 0};
-    compare_answer(what, answer, 6);
-    compare_buffers(what, expected, 0, sizeof expected, 0);
+    static const uint16_t expected[] = {2, 6, 0, 1, 7, 0, 0, 1};
+    session_is(what, answer, expected);
+}
+
+/* Session 6 has frames 0 1, both in cycle 0: reference frame 0 and hold 1 make 1, which is below K. */
+static void session_6_is_shown(const char *what, uint64_t answer)
+{
+    static const uint16_t expected[] = {2, 6, 0, 1, 0, 1, 0, 0};
+    session_is(what, answer, expected);
 }
 
 static void image_is(const char *what, uint64_t answer, const uint8_t *expected, size_t length)
@@ -128,11 +146,14 @@ static void try_report(void)
 
     begin("frames_report");
     uint64_t length = frames_report(net, sizeof net, calls, sizeof calls, text, room);
-    text_is("all calls", length, "1 S ok 6 16 7 0\n2 S no 16\n3 R ok\n4 Q ok 0 0 0\n5 R no 19\nlive 0\n");
+    text_is("all calls", length, "1 S ok 6 16 7 0 / 0 1\n2 S no 16\n3 R ok\n4 Q ok 0 0 0 / 0\n5 R no 19\nlive 0\n");
     is_refused("a byte below the bound", frames_report(net, sizeof net, calls, sizeof calls, text, room - 1), 20);
     is_refused("no buffer", frames_report(net, sizeof net, calls, sizeof calls, NULL, 0), 20);
-    text_is("one call", frames_report(net, sizeof net, calls, LIVE, text, one), "1 S ok 6 16 7 0\nlive 1\n");
-    text_is("a cut record", frames_report(net, sizeof net, calls, LIVE_CUT, text, cut), "1 S ok 6 16 7 0\n2 ? no 11\nlive 1\n");
+    text_is("one call", frames_report(net, sizeof net, calls, LIVE, text, one), "1 S ok 6 16 7 0 / 0 1\nlive 1\n");
+    length = frames_report(net, sizeof net, calls, LIVE_CUT, text, cut);
+    text_is("a cut record", length, "1 S ok 6 16 7 0 / 0 1\n2 ? no 11\nlive 1\n");
+    length = frames_report(net, sizeof net, two, sizeof two, text, FRAMES_TEXT_BOUND(sizeof two));
+    text_is("two sessions", length, "1 S ok 6 16 7 0 / 0 1\n2 S ok 6 13 0 1 / 0 0\nlive 2\n");
     text_is("kind 0", frames_report(net, sizeof net, zeros, sizeof zeros, text, FRAMES_TEXT_MOST), "1 ? no 11\nlive 0\n");
     is_refused("a byte below every bound", frames_report(net, sizeof net, zeros, sizeof zeros, text, FRAMES_TEXT_MOST - 1), 20);
     text_is("no calls", frames_report(net, sizeof net, NULL, 0, text, 22), "live 0\n");
@@ -148,16 +169,18 @@ static void try_lookup(void)
     begin("frames_lookup");
     uint64_t length = frames_lookup(net, sizeof net, calls, LIVE, 5, session, FRAMES_SESSION_MOST);
     session_5_is_shown("after its set-up", length);
-    session_5_is_shown("after a refused set-up", frames_lookup(net, sizeof net, calls, LIVE_STILL, 5, session, 18));
-    session_5_is_shown("after a cut record", frames_lookup(net, sizeof net, calls, LIVE_CUT, 5, session, 18));
-    session_5_is_shown("into a buffer of six", frames_lookup(net, sizeof net, calls, LIVE, 5, session, 6));
-    is_refused("into a buffer of five", frames_lookup(net, sizeof net, calls, LIVE, 5, session, 5), 20);
+    session_5_is_shown("after a refused set-up", frames_lookup(net, sizeof net, calls, LIVE_STILL, 5, session, 26));
+    session_5_is_shown("after a cut record", frames_lookup(net, sizeof net, calls, LIVE_CUT, 5, session, 26));
+    session_5_is_shown("beside session 6", frames_lookup(net, sizeof net, two, sizeof two, 5, session, 26));
+    session_6_is_shown("after session 5", frames_lookup(net, sizeof net, two, sizeof two, 6, session, 26));
+    session_5_is_shown("into a buffer of eight", frames_lookup(net, sizeof net, calls, LIVE, 5, session, 8));
+    is_refused("into a buffer of seven", frames_lookup(net, sizeof net, calls, LIVE, 5, session, 7), 20);
     is_refused("no buffer", frames_lookup(net, sizeof net, calls, LIVE, 5, NULL, 0), 20);
-    is_refused("after its release", frames_lookup(net, sizeof net, calls, RELEASED, 5, session, 18), 19);
-    is_refused("another number", frames_lookup(net, sizeof net, calls, LIVE, 6, session, 18), 19);
+    is_refused("after its release", frames_lookup(net, sizeof net, calls, RELEASED, 5, session, 26), 19);
+    is_refused("another number", frames_lookup(net, sizeof net, calls, LIVE, 6, session, 26), 19);
     is_refused("another number and no buffer", frames_lookup(net, sizeof net, calls, LIVE, 6, NULL, 0), 19);
-    is_refused("no calls", frames_lookup(net, sizeof net, NULL, 0, 5, session, 18), 19);
-    is_refused("two bytes of a file", frames_lookup(net, 2, calls, LIVE, 5, session, 18), 1);
+    is_refused("no calls", frames_lookup(net, sizeof net, NULL, 0, 5, session, 26), 19);
+    is_refused("two bytes of a file", frames_lookup(net, 2, calls, LIVE, 5, session, 26), 1);
     is_refused("no file, no calls and no buffer", frames_lookup(NULL, 0, NULL, 0, 5, NULL, 0), 1);
     end();
 }

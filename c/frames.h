@@ -36,7 +36,7 @@ extern "C" {
 #define FRAMES_TEXT_MOST 720918
 
 /* Numbers that serve for every session, and bytes that serve for every network file. */
-#define FRAMES_SESSION_MOST 18
+#define FRAMES_SESSION_MOST 26
 #define FRAMES_IMAGE_MOST 355
 
 /*
@@ -70,19 +70,19 @@ uint64_t frames_report(const uint8_t *file, size_t file_len, const uint8_t *call
                        size_t out_len);
 
 /*
- * Lookup of a session on the state that the calls leave: how many hops it has, its delay in ticks, the link of each hop and
- * then the frame of each hop.
+ * Lookup of a session on the state that the calls leave: how many hops it has, its delay in ticks, the link of each hop, the
+ * frame of each hop and then the cycle of each hop, which counts from that of hop 0, cycle 0.
  *
  *     file, file_len    the bytes of the network file
  *     calls, calls_len  the call records, of which the first FRAMES_CALLS_MOST bytes count; one that can't be read ends them
  *     number            the session's number
- *     out, out_len      room for 2 + 2 * hops numbers
+ *     out, out_len      room for 2 + 3 * hops numbers
  *
  * Answers how many numbers it put into `out`. Refusals, in this order:
  *
  *     1 to 10  of the file
  *     19       the number isn't live after the calls
- *     20       out_len is below 2 + 2 * hops
+ *     20       out_len is below 2 + 3 * hops
  */
 uint64_t frames_lookup(const uint8_t *file, size_t file_len, const uint8_t *calls, size_t calls_len, uint16_t number,
                        uint16_t *out, size_t out_len);

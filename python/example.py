@@ -10,16 +10,17 @@ import frames
 # T = 48; links 0 and 1 have K 8 and Z 2
 NET = bytes.fromhex("30 00 02 03 08 02 03 08 02")
 
-HELD = bytes.fromhex("01 05 00 02 00 01")                # set-up 5 over 0 1: frames 7 0, which is a delay of 6 ticks
+HELD = bytes.fromhex("01 05 00 02 00 01")                # set-up 5 over 0 1: frames 7 0 in cycles 0 1, a delay of 6 ticks
 HELD_STILL = HELD + HELD                                 # set-up 5 again: refused with 16
 RELEASED = HELD_STILL + bytes.fromhex("03 05 00")        # release 5
 CALLS = RELEASED + bytes.fromhex("02 01 00 03 05 00")    # quote over 0; release 5: refused with 19
+TWO = HELD + bytes.fromhex("01 06 00 02 00 01")          # set-up 6 over 0 1 as well: frames 0 1 in cycle 0
 
 TEXT = """\
-1 S ok 6 16 7 0
+1 S ok 6 16 7 0 / 0 1
 2 S no 16
 3 R ok
-4 Q ok 0 0 0
+4 Q ok 0 0 0 / 0
 5 R no 19
 live 0
 """
@@ -55,7 +56,7 @@ def plain_calls(library):
     image = library.image(NET)
     file = library.write(48, [(16, 4, 0), (8, 2, 0)])
     demand("text", text, TEXT)
-    demand("session", (session.delay, session.links, session.frames), (6, [0, 1], [7, 0]))
+    demand("session", (session.delay, session.links, session.frames, session.cycles), (6, [0, 1], [7, 0], [0, 1]))
     demand("count", count, 7)
     demand("image", image, NET)
     demand("file", file, bytes.fromhex("30 00 02 00 03 08 02"))
@@ -66,16 +67,20 @@ def main():
     plain_calls(library)
     compare(library.report, [
         (NET, CALLS, TEXT),
-        (NET, HELD, "1 S ok 6 16 7 0\nlive 1\n"),
-        (NET, HELD_STILL[:8], "1 S ok 6 16 7 0\n2 ? no 11\nlive 1\n"),    # the second record is cut off
+        (NET, HELD, "1 S ok 6 16 7 0 / 0 1\nlive 1\n"),
+        (NET, HELD_STILL[:8], "1 S ok 6 16 7 0 / 0 1\n2 ? no 11\nlive 1\n"),    # the second record is cut off
         (NET, b"", "live 0\n"),
         (b"", CALLS, "net no 1\n"),
-        (NET, bytes(65537), "1 ? no 11\nlive 0\n"),                       # no record is of kind 0
+        (NET, bytes(65537), "1 ? no 11\nlive 0\n"),                             # no record is of kind 0
     ])
-    session = frames.Session(delay=6, links=[0, 1], frames=[7, 0])
+    # of 5, reference frame 7 and hold 1 make 8, which isn't below K 8: the next cycle; of 6, 0 and 1 make 1
+    session = frames.Session(delay=6, links=[0, 1], frames=[7, 0], cycles=[0, 1])
+    beside = frames.Session(delay=6, links=[0, 1], frames=[0, 1], cycles=[0, 0])
     compare(library.lookup, [
         (NET, HELD, 5, session),
         (NET, HELD_STILL, 5, session),
+        (NET, TWO, 5, session),
+        (NET, TWO, 6, beside),
         (NET, RELEASED, 5, ("refused", 19)),
         (NET, HELD, 6, ("refused", 19)),
         (NET[:2], HELD, 5, ("refused", 1)),

@@ -13,7 +13,7 @@ from typing import NamedTuple
 
 REFUSED = 1000000     # an answer from here on is a refusal: this and the refusal's number
 CALLS_MOST = 65536    # call bytes that count
-SESSION_MOST = 18     # numbers that serve for every session
+SESSION_MOST = 26     # numbers that serve for every session
 IMAGE_MOST = 355      # bytes that serve for every network file
 
 # a slice is a pointer and then a length
@@ -40,11 +40,12 @@ class Refused(Exception):
 
 
 class Session(NamedTuple):
-    """A live session: its delay in ticks, and the link and the frame of each hop."""
+    """A live session: its delay in ticks, and the link, the frame and the cycle of each hop; hop 0 lies in cycle 0."""
 
     delay: int
     links: list
     frames: list
+    cycles: list
 
 
 class Library:
@@ -69,7 +70,8 @@ class Library:
         number = fitting(number, 16)
         given(self.functions.frames_lookup(file, len(file), calls, len(calls), number, out, len(out)))
         hops = out[0]
-        return Session(out[1], out[2:2 + hops], out[2 + hops:2 + 2 * hops])
+        links, frames, cycles = (out[2 + group * hops:2 + (group + 1) * hops] for group in range(3))
+        return Session(out[1], links, frames, cycles)
 
     def free_frames(self, file, calls, link):
         """How many frames of a link are free after the calls."""

@@ -280,7 +280,7 @@ fn numbers_in(calls: &[u8]) -> Vec<u16> {
 #[cfg(test)]
 mod tests {
     use super::*;
-    use crate::{dijkstra, inputs, stand_in};
+    use crate::{dijkstra, inputs, library, stand_in};
 
     /// Compares functions with the model on some inputs, most of them short.
     fn compared(lookup: Box<Lookup>, free_frames: Box<FreeFrames>) -> Result<StateCalls, String> {
@@ -299,6 +299,11 @@ mod tests {
             })?;
         }
         Ok(calls)
+    }
+
+    #[test]
+    fn callers_are_given_room_for_every_session() {
+        assert_eq!(library::SESSION_MOST, MOST_NUMBERS);
     }
 
     #[test]

@@ -7,7 +7,7 @@ use std::fmt::Debug;
 const NET: [u8; 9] = [0x30, 0x00, 0x02, 0x03, 0x08, 0x02, 0x03, 0x08, 0x02];
 
 const CALLS: [u8; 21] = [
-    0x01, 0x05, 0x00, 0x02, 0x00, 0x01, // set-up 5 over 0 1: frames 7 0, delay 6
+    0x01, 0x05, 0x00, 0x02, 0x00, 0x01, // set-up 5 over 0 1: frames 7 0, cycles 0 1, delay 6
     0x01, 0x05, 0x00, 0x02, 0x00, 0x01, // set-up 5 again: refused with 16
     0x03, 0x05, 0x00, // release 5
     0x02, 0x01, 0x00, // quote over 0
@@ -19,7 +19,13 @@ const LIVE: usize = 6;
 const LIVE_STILL: usize = 12;
 const RELEASED: usize = 15;
 
-const TEXT: &str = "1 S ok 6 16 7 0\n2 S no 16\n3 R ok\n4 Q ok 0 0 0\n5 R no 19\nlive 0\n";
+/// Set-ups of 5 and 6 over 0 1: what 5 holds leaves 6 frames 0 1, delay 6.
+const TWO: [u8; 12] = [
+    0x01, 0x05, 0x00, 0x02, 0x00, 0x01, 0x01, 0x06, 0x00, 0x02, 0x00, 0x01,
+];
+
+const TEXT: &str =
+    "1 S ok 6 16 7 0 / 0 1\n2 S no 16\n3 R ok\n4 Q ok 0 0 0 / 0\n5 R no 19\nlive 0\n";
 
 /// The bytes that `report` demands for its text on the calls.
 const TEXT_BOUND: usize = text_bound(CALLS.len());
@@ -62,20 +68,21 @@ fn try_report() {
 fn try_lookup() {
     let mut session = [0; SESSION_MOST];
     let length = library::lookup(&NET, &CALLS[..LIVE], 5, &mut session).expect("5 is live");
-    // two hops, a delay of 6 ticks, links 0 1, frames 7 0
-    let shown = [2, 6, 0, 1, 7, 0];
+    // two hops, a delay of 6 ticks, links 0 1, frames 7 0, cycles 0 1: reference frame 7 and hold 1 aren't below K 8
+    let shown = [2, 6, 0, 1, 7, 0, 0, 1];
     assert_eq!(session[..length], shown);
 
-    let lookup = |length, number, room| {
-        written(room, |out| {
-            library::lookup(&NET, &CALLS[..length], number, out)
-        })
-    };
-    assert_eq!(lookup(LIVE, 5, SESSION_MOST), Ok(shown.into()));
-    assert_eq!(lookup(LIVE_STILL, 5, 6), Ok(shown.into()));
-    assert_eq!(lookup(LIVE, 5, 5), Err(20));
-    assert_eq!(lookup(RELEASED, 5, SESSION_MOST), Err(19));
-    assert_eq!(lookup(LIVE, 6, 0), Err(19));
+    let lookup =
+        |calls, number, room| written(room, |out| library::lookup(&NET, calls, number, out));
+    assert_eq!(lookup(&CALLS[..LIVE], 5, SESSION_MOST), Ok(shown.into()));
+    assert_eq!(lookup(&CALLS[..LIVE_STILL], 5, 8), Ok(shown.into()));
+    assert_eq!(lookup(&CALLS[..LIVE], 5, 7), Err(20));
+    assert_eq!(lookup(&CALLS[..RELEASED], 5, SESSION_MOST), Err(19));
+    assert_eq!(lookup(&CALLS[..LIVE], 6, 0), Err(19));
+    // reference frame 0 and hold 1 are below K 8
+    let beside = [2, 6, 0, 1, 0, 1, 0, 0];
+    assert_eq!(lookup(&TWO, 5, SESSION_MOST), Ok(shown.into()));
+    assert_eq!(lookup(&TWO, 6, SESSION_MOST), Ok(beside.into()));
     println!("library::lookup: as expected");
 }
 
