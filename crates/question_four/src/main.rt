@@ -1,7 +1,7 @@
 // Question four of document 01: its cases, starred or not, in the document's order, each a quote on a fresh network of its links, a line for each.
 // The cases are the lines of the file stdin, which says how they are written.
-// A line has the case as the document writes it, then `ok` with delay, count and frames, or `no` with the refusal, for 18 also the count.
-// The expected lines, in the file stdout, are written by hand from the document.
+// A line has the case as the document writes it, then `ok` with delay, count and frames / cycles, or `no` with the refusal, for 18 also the count.
+// The expected lines, in the file stdout, are written by hand from the document, the cycles by W-202.
 ghost use Prim.Native.Nat.{_<_, _≤_};
 use bytes::scan;
 use libc::STDIN_FILENO;
@@ -70,13 +70,13 @@ fn next(x: u32) {
     io::print_decimal(STDOUT_FILENO, x as u64);
 }
 
-// The frames of the first n hops.
-fn show_frames(frames: [u8; 8], n: usize)
+// What the first n of eight places hold: a frame of each hop, or a cycle.
+fn show_places(eight: [u8; 8], n: usize)
     requires { ⌜ n ≤ 8 ⌝ }
 {
     let mut j: usize = 0;
     while j < n {
-        next(frames[j] as u32);
+        next(eight[j] as u32);
         j += 1;
     }
 }
@@ -88,12 +88,15 @@ fn show(answer: Quoted, n: usize)
     let verdict = answer.verdict;
     let held = answer.held;
     let frames = held.frames;
+    let cycles = held.cycles;
     match verdict {
         Verdict::Passed => {
             io::write_all(STDOUT_FILENO, b" ok");
             next(held.delay.0 as u32);
             next(answer.count);
-            show_frames(frames, n);
+            show_places(frames, n);
+            io::write_all(STDOUT_FILENO, b" /");
+            show_places(cycles, n);
         }
         Verdict::Refused(refusal) => {
             io::write_all(STDOUT_FILENO, b" no");

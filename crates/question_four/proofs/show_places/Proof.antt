@@ -1,14 +1,14 @@
--- `question_four::show_frames` meets its contract. The loop's invariant: j is at most n. Assumes nothing.
+-- `question_four::show_places` meets its contract. The loop's invariant: j is at most n. Assumes nothing.
 use Prim.Native.Nat.{_-_, _≤_}
 use borrow.Author.Needs.{needs}
-use Rattle.question_four.proofs.show_frames.Statement.{statement}
-use Rattle.question_four.proofs.show_frames.Tie as tie
+use Rattle.question_four.proofs.show_places.Statement.{statement}
+use Rattle.question_four.proofs.show_places.Tie as tie
 
 abbrev Inv-loop : tie.InvT-loop
-Inv-loop n frames j₀ j = j ≤ n
+Inv-loop n eight j₀ j = j ≤ n
 
 abbrev μ-loop : tie.MeasureT-loop
-μ-loop n frames j₀ j = n - j
+μ-loop n eight j₀ j = n - j
 
 loop-holds : tie.Need-loop-holds Inv-loop μ-loop
 loop-holds c = search needs
@@ -34,8 +34,8 @@ loop-again c = search needs
 returns : tie.Need-returns Inv-loop μ-loop
 returns c = search needs
 
-pub show-frames-spec : {M : Type 1} → statement M
-show-frames-spec =
+pub show-places-spec : {M : Type 1} → statement M
+show-places-spec =
     tie.close
     (tie.spec
     Inv-loop
