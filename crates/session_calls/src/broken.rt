@@ -1,5 +1,5 @@
-// States built by hand. A change is written as four words: a field's name, the link or the table's place that has it, the place in the route or in the
-// frames, and the new value; 0 stands where a field needs no place. A field's first letter tells it.
+// States built by hand. A change is written as four words: a field's name, the link or the table's place that has it, the place in the route, in the
+// frames or in the cycles, and the new value; 0 stands where a field needs no place. A field's first letter tells it: C a cycle, c closed frames.
 use super::calls;
 use super::lines;
 use super::same;
@@ -27,7 +27,7 @@ fn changed_network(network: Network, field: u8, at: usize, value: usize) -> Netw
     next
 }
 
-// What is held with a new delay, or frame of a hop.
+// What is held with a new delay, or frame or cycle of a hop.
 fn changed_held(held: Held, field: u8, index: usize, value: usize) -> Held
     requires { ⌜ index < 8 ⌝ }
 {
@@ -35,6 +35,7 @@ fn changed_held(held: Held, field: u8, index: usize, value: usize) -> Held
     match field {
         b'd' => next.delay.0 = lines::word(value),
         b'f' => next.frames[index] = lines::byte(value),
+        b'C' => next.cycles[index] = lines::byte(value),
         _ => {}
     }
     next

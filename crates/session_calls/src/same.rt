@@ -1,11 +1,12 @@
 // Whether two states are the same, place by place, also where a place is not in use.
+use forwarding::Held;
 use network::Network;
 use refusals::Verdict;
 use state::State;
 use table::Place;
 use table::Table;
 
-// Eight places of a route, or of frames.
+// Eight places of a route, of frames or of cycles.
 fn eight(one: [u8; 8], other: [u8; 8]) -> bool {
     let mut j: usize = 0;
     while j < 8 {
@@ -17,18 +18,21 @@ fn eight(one: [u8; 8], other: [u8; 8]) -> bool {
     true
 }
 
+// What is held.
+fn held(one: Held, other: Held) -> bool {
+    let frames = one.frames;
+    let cycles = one.cycles;
+    let slots = other.frames;
+    let turns = other.cycles;
+    (one.delay.0 == other.delay.0) & eight(frames, slots) & eight(cycles, turns)
+}
+
 // A session as it is stored.
 fn place(one: Place, other: Place) -> bool {
     let route = one.route;
-    let held = one.held;
-    let frames = held.frames;
     let links = other.route;
-    let holds = other.held;
-    let slots = holds.frames;
-    let numbers = (one.number == other.number)
-        & (one.hops == other.hops)
-        & (held.delay.0 == holds.delay.0);
-    numbers & eight(route, links) & eight(frames, slots)
+    let numbers = (one.number == other.number) & (one.hops == other.hops);
+    numbers & eight(route, links) & held(one.held, other.held)
 }
 
 // All 96 places of a table.

@@ -1,5 +1,6 @@
 // What is shown of a line, and of the answer to its call.
 use bytes::scan;
+use forwarding::Held;
 use libc::STDOUT_FILENO;
 use refusals::Verdict;
 use sessions::Counted;
@@ -70,48 +71,62 @@ fn places(eight: [u8; 8], n: usize) {
     }
 }
 
-// The answer to a set-up or a quote over a route of n links. A refused one must have 0 for delay, count and frames.
+// The frames and the cycles of n hops.
+fn hops(held: Held, n: usize) {
+    let frames = held.frames;
+    let cycles = held.cycles;
+    places(frames, n);
+    text(b" /");
+    places(cycles, n);
+}
+
+// What a refused answer holds: delay, frames and cycles must be 0.
+fn nothing(held: Held) {
+    let frames = held.frames;
+    let cycles = held.cycles;
+    stray(held.delay.0 as u64);
+    places(frames, 0);
+    places(cycles, 0);
+}
+
+// The answer to a set-up or a quote over a route of n links. A refused one must have 0 for the count too.
 pub(super) fn answer(answer: Quoted, n: usize) {
     let said = answer.verdict;
     let held = answer.held;
-    let frames = held.frames;
     verdict(said);
     match said {
         Verdict::Passed => {
             next(held.delay.0 as u64);
             next(answer.count as u64);
-            places(frames, n);
+            hops(held, n);
         }
         Verdict::Refused(_) => {
-            stray(held.delay.0 as u64);
             stray(answer.count as u64);
-            places(frames, 0);
+            nothing(held);
         }
     }
 }
 
-// What a lookup shows: for the letter E all eight places of its route and its frames. A refused one must have 0 for hops, route, frames and delay.
+// What a lookup shows: for the letter E all eight places of its route, its frames and its cycles. A refused one must have 0 for hops and route too.
 pub(super) fn session(shown: Shown, letter: u8) {
     let n = if letter == b'E' { 8 } else { shown.hops };
     let said = shown.verdict;
     let route = shown.route;
     let held = shown.held;
-    let frames = held.frames;
     let stroke: &[u8] = b" /";
     verdict(said);
     match said {
         Verdict::Passed => {
             places(route, n);
             text(stroke);
-            places(frames, n);
+            hops(held, n);
             text(stroke);
             next(held.delay.0 as u64);
         }
         Verdict::Refused(_) => {
             stray(shown.hops as u64);
             places(route, 0);
-            places(frames, 0);
-            stray(held.delay.0 as u64);
+            nothing(held);
         }
     }
 }
