@@ -1,11 +1,10 @@
 -- What lookup and free frames answer on the state after call records. Assumes nothing.
 use mathlib.Core.Path.{_≡_, refl, sym, ap, _∙_}
-use mathlib.Core.List.{List, []}
+use mathlib.Core.List.{List}
 use Prim.Native.Nat.{ℕ, _+_, _≤_}
-use native.Mathlib.Omega.{arith}
 use lib.ListN.{length}
 use Rattle.places.specs.Places.{firsts}
-use Rattle.places.proofs.Firsts.{firsts-back}
+use Rattle.places.proofs.Firsts.{so-many-back}
 use Rattle.refusals.specs.declared.Refusal.{Refusal}
 use Rattle.refusals.specs.declared.Verdict.the-variants.{Passed, Refused}
 use Rattle.refusals.specs.Refusals.{Outcome, given, refused, onGiven, refusalNumber}
@@ -44,12 +43,14 @@ module _ (v : View) (n : ℕ) (s : Session) (e : lookup v n ≡ given s) where
   pub few-hops : length (s .route) ≤ 8
   few-hops = route-long (v .network) (s .route) (good .route) .1
 
-  -- a list with a number for each link, back from eight places
-  back : (xs : List ℕ) → length xs ≡ length (s .route) → firsts (length (s .route)) (firsts 8 xs 0) 0 ≡ xs
-  back xs h = ap (λ (k : ℕ). firsts k (firsts 8 xs 0) 0) (sym h) ∙ firsts-back 8 xs 0 (omega (arith, few-hops, h))
-
   numbers-shown : placeNumbers (length (s .route)) (firsts 8 (s .route) 0) (heldPlaces (s .held)) ≡ sessionNumbers s
-  numbers-shown = rw (back (s .route) refl, back (s .held .frames) (frame-each (v .network) s good), back (s .held .cycles) (cycle-each (v .network) s good))
+  numbers-shown =
+      let n : ℕ = length (s .route) in
+      rw (
+        so-many-back 8 n (s .route) 0 refl few-hops,
+        so-many-back 8 n (s .held .frames) 0 (frame-each (v .network) s good) few-hops,
+        so-many-back 8 n (s .held .cycles) 0 (cycle-each (v .network) s good) few-hops,
+      )
 
 module _ (v : View) (n : ℕ) (q : Shown) (tells : Tells shownOf notShown (lookup v n) q) where
   pub shown-fits : InPlaces (q .verdict) (q .hops)

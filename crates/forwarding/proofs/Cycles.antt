@@ -3,18 +3,18 @@ use mathlib.Core.Path.{_≡_, refl, sym, _∙_, ap}
 use mathlib.Core.Bool.{Bool, true, false, cond}
 use mathlib.Core.List.{List, [], _∷_}
 use Prim.Native.Nat.{ℕ, zero, suc, _+_, _-_, _*_, _%_, _<_, _≤_}
-use native.Mathlib.Nat.{add-mul, one-mul, mul-assoc, mul-comm, mod-eq-of-lt, mod-eq-sub-mod, le-of-suc-le-suc, not-suc-le-zero}
+use native.Mathlib.Nat.{add-mul, mul-assoc, mul-comm, mod-eq-of-lt, mod-eq-sub-mod, le-of-suc-le-suc, not-suc-le-zero}
 use native.Mathlib.Decide.{decLt}
 use native.Mathlib.Omega.{arith}
 use lib.Dec.{ltb}
 use lib.ListN.{length, getD}
-use borrow.Author.Tests.{lt-ltb, le-ltb, ltb-true, ltb-false}
+use borrow.Author.Tests.{lt-ltb, le-ltb}
 use Rattle.lists.proofs.Count.{and-both}
 use Rattle.forwarding.specs.declared.Hop.{Hop}
 use Rattle.forwarding.specs.Forwarding.{leastHold, hold, referenceInto, holdInto, isFree, mayHold, isAllowed, frameTime}
 use Rattle.forwarding.specs.Hops.{noHop, HopReady, AllReady}
 use Rattle.forwarding.specs.Schedule.{GoesOn, IsSchedule}
-use Rattle.forwarding.specs.Cycles.{nextCycle, onwardCycles, scheduleCycles, CyclePerHop, LaterHop, Lies, CyclesLie, beginsAt, Follows, CyclesFollow, NotBelow, CyclesNeverFall, CyclesBounded}
+use Rattle.forwarding.specs.Cycles.{nextCycle, onwardCycles, CyclePerHop, LaterHop, Lies, CyclesLie, beginsAt, Follows, CyclesFollow, NotBelow, CyclesNeverFall, CyclesBounded}
 use Rattle.forwarding.proofs.Holds.{hold-fits, least-in, reference-in}
 use Rattle.forwarding.proofs.Transitions.{may-hold, cycle-frames}
 use Rattle.forwarding.proofs.Rates.{next-mul, whole-frame}

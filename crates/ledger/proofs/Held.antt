@@ -1,15 +1,14 @@
 -- What a schedule holds, field by field, and that a node is a frame: no other file unfolds what is held over hops. Assumes nothing.
-use mathlib.Core.Path.{_≡_, refl, sym, ap, ap₂, _∙_}
+use mathlib.Core.Path.{_≡_, refl, ap, ap₂, _∙_}
 use mathlib.Core.Bool.{Bool, true, _&&_}
 use mathlib.Core.List.{List, [], _∷_}
 use Prim.Native.Nat.{ℕ, suc}
-use native.Mathlib.Omega.{arith}
 use lib.ListN.{length}
 use lib.Dec.{eqb}
 use borrow.Author.Tests.{eq-eqb, eqb-true}
 use Rattle.lists.proofs.Count as tests
 use Rattle.places.specs.Places.{firsts}
-use Rattle.places.proofs.Firsts.{firsts-back}
+use Rattle.places.proofs.Firsts.{so-many-back}
 use Rattle.forwarding.specs.declared.Delay.{Delay}
 use Rattle.forwarding.specs.declared.Held.{Held}
 use Rattle.forwarding.specs.declared.Hop.{Hop}
@@ -64,11 +63,8 @@ held-free net ss route delay nodes = ap (λ (cs : List ℕ). record { frames = n
 pub held-stored : HeldStored
 unfolding heldOver
 held-stored hops delay nodes s few =
-    ap₂ (λ (fs cs : List ℕ). record { frames = fs; cycles = cs; delay = delay }) (back nodes (schedule-length hops nodes s))
-    (back (scheduleCycles hops nodes) (cycle-per-hop hops nodes s))
-  where
-    back : (xs : List ℕ) → length xs ≡ length hops → firsts (length hops) (firsts 8 xs 0) 0 ≡ xs
-    back xs n = ap (λ (k : ℕ). firsts k (firsts 8 xs 0) 0) (sym n) ∙ firsts-back 8 xs 0 (omega (arith, n, few))
+    ap₂ (λ (fs cs : List ℕ). record { frames = fs; cycles = cs; delay = delay }) (so-many-back 8 (length hops) nodes 0 (schedule-length hops nodes s) few)
+    (so-many-back 8 (length hops) (scheduleCycles hops nodes) 0 (cycle-per-hop hops nodes s) few)
 
 -- ---- the fields of what a schedule holds: its frames, which its nodes are, and its delay
 pub frames-over : (hops : List Hop) (delay : ℕ) (nodes : List ℕ) → heldOver hops delay nodes .frames ≡ nodes

@@ -74,6 +74,10 @@ module _ {A : Type 0} where
   firsts-back zero (x ∷ xs) d h = absurd (not-suc-le-zero h)
   firsts-back (suc n) (x ∷ xs) d h = ap (λ (t : List A). x ∷ t) (firsts-back n xs d (le-of-suc-le-suc h))
 
+  -- the same of so many elements
+  pub so-many-back : (n m : ℕ) (xs : List A) (d : A) → length xs ≡ m → m ≤ n → firsts m (firsts n xs d) d ≡ xs
+  so-many-back n m xs d e h = ap (λ (k : ℕ). firsts k (firsts n xs d) d) (sym e) ∙ firsts-back n xs d (omega (arith, e))
+
   snoc : (n : ℕ) (l : List A) (d : A) → firsts (suc n) l d ≡ firsts n l d ++ (getD l n d ∷ [])
   unfolding firsts
   snoc zero [] d = refl

@@ -1,24 +1,23 @@
 -- W-202 at the calls: beside the frames of an answer and of a lookup stand their cycles. Assumes nothing.
 use mathlib.Core.Path.{_≡_, refl, sym, ap, subst, _∙_}
 use mathlib.Core.List.{List, []}
-use Prim.Native.Nat.{ℕ, _<_, _≤_}
+use Prim.Native.Nat.{ℕ, _≤_}
 use native.Mathlib.Omega.{arith}
-use lib.ListN.{length, getD, length-map}
+use lib.ListN.{length, length-map}
 use Rattle.places.specs.Places.{firsts}
-use Rattle.places.proofs.Firsts.{getD-firsts, firsts-back}
+use Rattle.places.proofs.Firsts.{getD-firsts, firsts-back, so-many-back}
 use Rattle.refusals.specs.Refusals.{Outcome, given, refused, pass}
 use Rattle.refusals.specs.declared.Verdict.the-variants.{Passed, Refused}
 use Rattle.network.specs.Network.{Topology, topologyOf}
 use Rattle.network.specs.Checks.{networkCheck}
 use Rattle.forwarding.specs.declared.Hop.{Hop}
-use Rattle.forwarding.specs.declared.Held.{Held}
 use Rattle.forwarding.specs.Schedule.{IsSchedule}
 use Rattle.forwarding.specs.Cycles.{scheduleCycles, LaterHop, Lies, NotBelow}
 use Rattle.forwarding.proofs.Cycles.{cycles-lie, cycles-never-fall, cycles-bounded}
 use Rattle.ledger.specs.Held.{Holding, heldPlaces}
 use Rattle.ledger.specs.Sessions.{Session, hopOf, hopsOf}
 use Rattle.ledger.specs.Routes.{routeCheck}
-use Rattle.ledger.specs.Calls.{Call, linksOf, Reply, schedule, freed, refusal, reply, lookup}
+use Rattle.ledger.specs.Calls.{linksOf, Reply, schedule, freed, refusal, reply, lookup}
 use Rattle.ledger.proofs.Held.{schedule-length, frames-over, cycles-over, cycles-free}
 use Rattle.ledger.proofs.Intact.{intact-is, on-frames, good-cycles}
 use Rattle.ledger.proofs.Schedules.{schedule-unclosed}
@@ -27,7 +26,7 @@ use Rattle.ledger.proofs.Shown.{lookup-given, shown-good}
 use Rattle.routes.proofs.Routes.{route-long}
 use Rattle.routes.proofs.Hops.{route-all-ready}
 use Rattle.state.specs.declared.Quoted.{Quoted}
-use Rattle.state.specs.State.{viewOf, quotedOf, Quotes}
+use Rattle.state.specs.State.{viewOf, Quotes}
 use Rattle.sessions.specs.declared.Shown.{Shown}
 use Rattle.sessions.specs.Calls.{Tells, shownOf, notShown}
 use Rattle.sessions.specs.Cycles.{CyclesBeside, LookupCycles, AnswerCycles}
@@ -42,7 +41,7 @@ module _ (net : Topology) (route : List ℕ) (held : Holding) (passed : networkC
   frame-each = schedule-length (hopsOf net [] route) (held .frames) s ∙ length-map route (hopOf net [])
 
   back : firsts (length route) (firsts 8 (held .frames) 0) 0 ≡ held .frames
-  back = ap (λ (n : ℕ). firsts n (firsts 8 (held .frames) 0) 0) (sym frame-each) ∙ firsts-back 8 (held .frames) 0 (omega (arith, few, frame-each))
+  back = so-many-back 8 (length route) (held .frames) 0 frame-each few
 
   pub beside : CyclesBeside net route (heldPlaces held)
   beside = record {

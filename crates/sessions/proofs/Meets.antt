@@ -9,7 +9,7 @@ use lib.Dec.{eqb}
 use borrow.Author.Tests.{eqb-false}
 use Rattle.lists.proofs.Count as tests
 use Rattle.places.specs.Places.{firsts}
-use Rattle.places.proofs.Firsts.{firsts-back}
+use Rattle.places.proofs.Firsts.{firsts-back, so-many-back}
 use Rattle.trellis.specs.Answer.{found, blocked}
 use Rattle.trellis.specs.Answer as trellis
 use Rattle.refusals.specs.Refusals.{refusalNumber, refusalCount, Outcome, Ruling, given, refused, pass, Pass, refuseIf, refusedOr, ruling}
@@ -177,7 +177,7 @@ table-back : (net : Topology) (ss : List Session) → Intact net ss → liveOf (
 table-back net ss h =
     let n : length (map placeFor ss) ≡ length ss = length-map ss placeFor in
     ap (map sessionOf)
-    (ap (λ (k : ℕ). firsts k (firsts 96 (map placeFor ss) noPlace) noPlace) (sym n) ∙ firsts-back 96 (map placeFor ss) noPlace (omega (arith, n, h .few)))
+    (so-many-back 96 (length ss) (map placeFor ss) noPlace n (h .few))
     ∙ places-back net (h .network) ss (h .sessions)
 
 -- ---- the states that calls leave

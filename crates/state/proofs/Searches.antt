@@ -6,7 +6,7 @@ use native.Mathlib.Omega.{arith}
 use lib.ListN.{length, take, length-map}
 use Rattle.trellis.specs.Answer.{nodesOf}
 use Rattle.places.specs.Places.{firsts}
-use Rattle.places.proofs.Firsts.{length-firsts, firsts-back, firsts-take}
+use Rattle.places.proofs.Firsts.{length-firsts, so-many-back, firsts-take}
 use Rattle.refusals.specs.Refusals.{given, pass}
 use Rattle.network.specs.Network.{topologyOf}
 use Rattle.network.specs.Checks.{networkCheck}
@@ -61,8 +61,7 @@ module _ (network : Network) (ss : List Session) (route : List ℕ) (passed : ne
     pub hops-back : firsts (length route) eight noHop ≡ hops
     hops-back =
         ap (λ (l : List Hop). firsts (length route) l noHop) e
-        ∙ ap (λ (n : ℕ). firsts n (firsts 8 hops noHop) noHop) (sym (length-map route (hopOf (topologyOf network) ss)))
-        ∙ firsts-back 8 hops noHop (omega (arith, length-map route (hopOf (topologyOf network) ss), route-long (topologyOf network) route checked .1))
+        ∙ so-many-back 8 (length route) hops noHop (length-map route (hopOf (topologyOf network) ss)) (route-long (topologyOf network) route checked .1)
 
     pub hops-searched : (r : Finding) → Finds (network .ticks) eight (length route) r → Searched (topologyOf network .ticks) (length route) hops r
     hops-searched r a =

@@ -10,7 +10,7 @@ use lib.Seq.{length-take-le}
 use lib.Dec.{eqb}
 use borrow.Author.Tests.{lt-ltb, ne-eqb}
 use Rattle.places.specs.Places.{firsts}
-use Rattle.places.proofs.Firsts.{length-firsts, firsts-back, firsts-take}
+use Rattle.places.proofs.Firsts.{length-firsts, so-many-back, firsts-take}
 use Rattle.refusals.specs.Refusals.{refusalNumber, Ruling, given, refused, pass, ruling}
 use Rattle.refusals.specs.declared.Refusal.{Refusal}
 use Rattle.refusals.specs.declared.Verdict.{Verdict}
@@ -154,7 +154,7 @@ module _ (network : Network) (place : Place) where
                   cycles-back cycles ec =
                       let xs : List ℕ = scheduleCycles (firsts (place .hops) laid noHop) (firsts (place .hops) (place .held .frames) 0) in
                       let many : length xs ≡ place .hops = cycle-per-hop (firsts (place .hops) laid noHop) (firsts (place .hops) (place .held .frames) 0) (walked-laid .schedule) ∙ length-firsts (place .hops) laid noHop in
-                      ap (λ (l : List ℕ). firsts (place .hops) l 0) ec ∙ ap (λ (n : ℕ). firsts n (firsts 8 xs 0) 0) (sym many) ∙ firsts-back 8 xs 0 (omega (arith, many, few))
+                      ap (λ (l : List ℕ). firsts (place .hops) l 0) ec ∙ so-many-back 8 (place .hops) xs 0 many few
 
             pub session-unfit : w ≡ Unfit → false ≡ goodSession (topologyOf network) (sessionOf place)
             unfolding is-schedule its-delay

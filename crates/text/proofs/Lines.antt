@@ -1,13 +1,9 @@
 -- Each text as the pieces that are put for it. Assumes nothing.
 use mathlib.Core.Path.{_≡_, refl}
 use mathlib.Core.List.{List, [], _∷_, _++_, append-nil}
-use Prim.Native.Nat.{ℕ, _≤_}
-use native.Mathlib.Omega.{arith}
-use lib.ListN.{length, take}
+use Prim.Native.Nat.{ℕ}
 use borrow.Author.Tests.{eq-eqb, ne-eqb}
-use Rattle.places.proofs.Firsts.{firsts-take}
-use Rattle.forwarding.specs.declared.Held.{Held}
-use Rattle.ledger.specs.Held.{Holding, holdingOf}
+use Rattle.ledger.specs.Held.{Holding}
 use Rattle.ledger.specs.Calls.{schedule, freed, refusal}
 use Rattle.text.specs.Characters.{space, newline, slash, okWord, noWord}
 use Rattle.text.specs.Digits.{dec, spaced, spacedAll}

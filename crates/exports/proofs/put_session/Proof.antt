@@ -1,5 +1,4 @@
 -- `exports::put_session` meets its contract. Assumes nothing.
-use native.Mathlib.Omega.{arith}
 use borrow.Author.Needs.{needs}
 use Rattle.exports.proofs.Numbers.{second-room, links-room, frames-room, cycles-room, session-long, session-put}
 use Rattle.exports.proofs.put_session.Statement.{statement}

@@ -1,8 +1,6 @@
 -- `exports::show` meets its contract. Assumes nothing.
 use borrow.Author.Needs.{needs}
-use mathlib.Core.Path.{_≡_}
 use native.Mathlib.Omega.{arith}
-use lib.ListN.{length}
 use Rattle.exports.proofs.Answers.{refused-number}
 use Rattle.exports.proofs.Numbers.{shown-few, short-shown, shown-room, refused-shown, long-shown}
 use Rattle.exports.proofs.show.Statement.{statement}
