@@ -11,28 +11,29 @@ use lib.ListN.{length, getD}
 use borrow.Author.Tests.{lt-ltb, le-ltb}
 use Rattle.lists.proofs.Count.{and-both}
 use Rattle.forwarding.specs.declared.Hop.{Hop}
-use Rattle.forwarding.specs.Forwarding.{leastHold, hold, referenceInto, holdInto, isFree, mayHold, isAllowed, frameTime}
+use Rattle.forwarding.specs.Forwarding.{leastHold, referenceInto, holdInto, isFree, mayHold, isAllowed, frameTime}
 use Rattle.forwarding.specs.Hops.{noHop, HopReady, AllReady}
 use Rattle.forwarding.specs.Schedule.{GoesOn, IsSchedule}
-use Rattle.forwarding.specs.Cycles.{nextCycle, onwardCycles, CyclePerHop, LaterHop, Lies, CyclesLie, beginsAt, Follows, CyclesFollow, NotBelow, CyclesNeverFall, CyclesBounded}
+use Rattle.forwarding.specs.Cycles.{nextCycle, onwardCycles, scheduleCycles, CyclePerHop, LaterHop, Lies, CyclesLie, beginsAt, Follows, CyclesFollow, NotBelow, CyclesNeverFall, CyclesBounded}
 use Rattle.forwarding.proofs.Holds.{hold-fits, least-in, reference-in}
 use Rattle.forwarding.proofs.Transitions.{may-hold, cycle-frames}
 use Rattle.forwarding.proofs.Rates.{next-mul, whole-frame}
 
 -- ---- one transition
 module _ (g h : Hop) (k i c : ℕ) where
-  pub same-cycle : (x : ℕ) → x ≡ referenceInto g h k + holdInto g h k i → x < h .frames → c ≡ nextCycle g h k i c
+  next-is : nextCycle g h k i c ≡ cond (ltb (referenceInto g h k + holdInto g h k i) (h .frames)) c (c + 1)
   unfolding nextCycle
-  same-cycle x e l = rw (lt-ltb (referenceInto g h k + holdInto g h k i) (h .frames) (rw (← e) l))
+  next-is = refl
+
+  pub same-cycle : (x : ℕ) → x ≡ referenceInto g h k + holdInto g h k i → x < h .frames → c ≡ nextCycle g h k i c
+  same-cycle x e l = sym (next-is ∙ rw (lt-ltb (referenceInto g h k + holdInto g h k i) (h .frames) (rw (← e) l)))
 
   pub cycle-after : (x : ℕ) → x ≡ referenceInto g h k + holdInto g h k i → h .frames ≤ x → c + 1 ≡ nextCycle g h k i c
-  unfolding nextCycle
-  cycle-after x e l = rw (le-ltb (referenceInto g h k + holdInto g h k i) (h .frames) (rw (← e) l))
+  cycle-after x e l = sym (next-is ∙ rw (le-ltb (referenceInto g h k + holdInto g h k i) (h .frames) (rw (← e) l)))
 
   -- the same cycle or the one after it
   pub next-or-same : (c ≤ nextCycle g h k i c) × (nextCycle g h k i c ≤ c + 1)
-  unfolding nextCycle
-  next-or-same = go (ltb (referenceInto g h k + holdInto g h k i) (h .frames))
+  next-or-same = rw next-is (go (ltb (referenceInto g h k + holdInto g h k i) (h .frames)))
     where
       go : (b : Bool) → (c ≤ cond b c (c + 1)) × (cond b c (c + 1) ≤ c + 1)
       go true = (omega arith, omega arith)
@@ -78,25 +79,38 @@ follows T g h k i c d pg ph e =
     let there : beginsAt T h d i ≡ beginsAt T h c (referenceInto g h k + holdInto g h k i) = ap (λ (x : ℕ). x * frameTime T (h .frames)) e in
     omega (arith, there, begins-split T g c (k + 1) pg, begins-split T h c (referenceInto g h k + holdInto g h k i) ph, whole-frame T g h k pg ph i)
 
--- what holds of every transition of a schedule and the cycles of its two hops holds of every later hop
-module _ (T : ℕ) (P : Hop → Hop → ℕ → ℕ → ℕ → ℕ → Type 0) where
-  abbrev Each : Type 0
-  Each = (g h : Hop) (k i c : ℕ) → HopReady T g → HopReady T h → k < g .frames → i < h .frames → isAllowed g h k i ≡ true → P g h k i c (nextCycle g h k i c)
+-- something holds of every hop: of ready ones that they are, and of any nothing
+abbrev Every : (Hop → Type 0) → List Hop → Type 0
+Every Q [] = Unit {0}
+Every Q (h ∷ hs) = Q h × Every Q hs
 
-  on-each : Each → (g : Hop) (k c : ℕ) (hs : List Hop) (is : List ℕ) → HopReady T g → AllReady T hs → k < g .frames → GoesOn g k hs is → (j : ℕ) → j < length hs
+every-ready : (T : ℕ) (hops : List Hop) → AllReady T hops → Every (HopReady T) hops
+every-ready T [] ps = tt
+every-ready T (h ∷ hs) ps = (ps .0, every-ready T hs (ps .1))
+
+every-hop : (hops : List Hop) → Every (λ h. Unit {0}) hops
+every-hop [] = tt
+every-hop (h ∷ hs) = (tt, every-hop hs)
+
+-- what holds of every transition of a schedule and the cycles of its two hops, where Q holds of both hops, holds of every later hop
+module _ (Q : Hop → Type 0) (P : Hop → Hop → ℕ → ℕ → ℕ → ℕ → Type 0) where
+  abbrev Each : Type 0
+  Each = (g h : Hop) (k i c : ℕ) → Q g → Q h → k < g .frames → i < h .frames → isAllowed g h k i ≡ true → P g h k i c (nextCycle g h k i c)
+
+  on-each : Each → (g : Hop) (k c : ℕ) (hs : List Hop) (is : List ℕ) → Q g → Every Q hs → k < g .frames → GoesOn g k hs is → (j : ℕ) → j < length hs
       → P (getD (g ∷ hs) j noHop) (getD hs j noHop) (getD (k ∷ is) j 0) (getD is j 0) (getD (c ∷ onwardCycles g k c hs is) j 0) (getD (onwardCycles g k c hs is) j 0)
   on-each f g k c [] is pg ps l o j q = absurd (not-suc-le-zero q)
   on-each f g k c (h ∷ hs) [] pg ps l o j q = absurd o
   on-each f g k c (h ∷ hs) (i ∷ is) pg ps l o zero q = f g h k i c pg (ps .0) l (o .0) (o .1)
   on-each f g k c (h ∷ hs) (i ∷ is) pg ps l o (suc j) q = on-each f h i (nextCycle g h k i c) hs is (ps .0) (ps .1) (o .0) (o .2) j (le-of-suc-le-suc q)
 
-  later-each : Each → (hops : List Hop) (fs : List ℕ) → AllReady T hops → IsSchedule hops fs → LaterHop P hops fs
+  later-each : Each → (hops : List Hop) (fs : List ℕ) → Every Q hops → IsSchedule hops fs → LaterHop P hops fs (scheduleCycles hops fs)
   later-each f [] fs ps s j q = absurd s
   later-each f (h ∷ hs) [] ps s j q = absurd s
   later-each f (h ∷ hs) (k ∷ is) ps s j q = on-each f h k 0 hs is (ps .0) (ps .1) (s .0) (s .2) j (le-of-suc-le-suc q)
 
 -- an allowed transition
-allowed-lies : (T : ℕ) → Each T Lies
+allowed-lies : (T : ℕ) → Each (HopReady T) Lies
 allowed-lies T g h k i c pg ph p l a =
     let D : ℕ = holdInto g h k i in
     let few : D ≤ h .range = may-hold h D (and-both (mayHold h D) (isFree h i) a .0) in
@@ -104,15 +118,16 @@ allowed-lies T g h k i c pg ph p l a =
 
 -- THE CYCLE IS THE ONE IN WHICH THE FRAME LIES
 pub cycles-lie : CyclesLie
-cycles-lie T = later-each T Lies (allowed-lies T)
+cycles-lie T hops fs ps = later-each (HopReady T) Lies (allowed-lies T) hops fs (every-ready T hops ps)
 
--- AND THE FRAMES IN THEIR CYCLES COME ONE AFTER THE OTHER
+-- THE FRAMES IN THEIR CYCLES COME ONE AFTER THE OTHER
 pub cycles-follow : CyclesFollow
-cycles-follow T = later-each T (Follows T) (λ g h k i c pg ph p l a. follows T g h k i c (nextCycle g h k i c) pg ph (allowed-lies T g h k i c pg ph p l a))
+cycles-follow T hops fs ps =
+    later-each (HopReady T) (Follows T) (λ g h k i c pg ph p l a. follows T g h k i c (nextCycle g h k i c) pg ph (allowed-lies T g h k i c pg ph p l a)) hops fs (every-ready T hops ps)
 
 -- CYCLES NEVER FALL along a route
 pub cycles-never-fall : CyclesNeverFall
-cycles-never-fall T = later-each T NotBelow (λ g h k i c pg ph p l a. next-or-same g h k i c .0)
+cycles-never-fall hops fs = later-each (λ h. Unit {0}) NotBelow (λ g h k i c pg ph p l a. next-or-same g h k i c .0) hops fs (every-hop hops)
 
 -- ---- how many they are, and how large
 on-many : (g : Hop) (k c : ℕ) (hs : List Hop) (is : List ℕ) → GoesOn g k hs is → length (onwardCycles g k c hs is) ≡ length hs

@@ -2,15 +2,18 @@
 use mathlib.Core.Path.{_≡_, refl, _∙_, ap, ap₂}
 use mathlib.Core.Bool.{Bool, true, false, false≢true, _&&_}
 use mathlib.Core.List.{List, [], _∷_, _++_, reverse, append-nil}
-use Prim.Native.Nat.{ℕ, _+_}
+use Prim.Native.Nat.{ℕ, zero, suc, _+_, _<_}
+use native.Mathlib.Nat.{not-suc-le-zero, le-of-suc-le-suc}
 use native.Mathlib.Omega.{arith}
 use lib.Dec.{ltb}
+use lib.ListN.{length, getD}
 use borrow.Author.Tests.{lt-ltb, ltb-true}
 use Rattle.lists.proofs.Count.{and-both, both-and}
 use Rattle.trellis.specs.Trellis.{never, after, costOf, entry, IsPath, pathCost, pathKey}
 use Rattle.trellis.proofs.Forwards.{Onward, onwardCost, onwardBack, go-on, go-on-cost, go-on-key, FromStart, from-start}
 use Rattle.forwarding.specs.declared.Hop.{Hop}
 use Rattle.forwarding.specs.Forwarding.{isFree, holdInto, isAllowed, delay}
+use Rattle.forwarding.specs.Hops.{noHop}
 use Rattle.forwarding.specs.Schedule.{GoesOn, IsSchedule, goesOn, isSchedule, TestTells, onwardDelay, scheduleDelay, goingBack, scheduleKey}
 use Rattle.forwarding.specs.Route.{startIf, starts, stages, routeTrellis, SchedulesArePaths}
 
@@ -119,3 +122,16 @@ schedule-told (h ∷ hs) (k ∷ is) s =
 
 pub test-tells : TestTells
 test-tells hops fs = (told-schedule hops fs, schedule-told hops fs)
+
+-- ---- each frame of a schedule is one of its hop
+onward-frame : (g : Hop) (k : ℕ) (hs : List Hop) (is : List ℕ) → GoesOn g k hs is → (j : ℕ) → j < length hs → getD is j 0 < getD hs j noHop .frames
+onward-frame g k [] is o j l = absurd (not-suc-le-zero l)
+onward-frame g k (h ∷ hs) [] o j l = absurd o
+onward-frame g k (h ∷ hs) (i ∷ is) o zero l = o .0
+onward-frame g k (h ∷ hs) (i ∷ is) o (suc j) l = onward-frame h i hs is (o .2) j (le-of-suc-le-suc l)
+
+pub schedule-frame : (hops : List Hop) (fs : List ℕ) → IsSchedule hops fs → (j : ℕ) → j < length hops → getD fs j 0 < getD hops j noHop .frames
+schedule-frame [] fs s j l = absurd s
+schedule-frame (h ∷ hs) [] s j l = absurd s
+schedule-frame (h ∷ hs) (k ∷ is) s zero l = s .0
+schedule-frame (h ∷ hs) (k ∷ is) s (suc j) l = onward-frame h k hs is (s .2) j (le-of-suc-le-suc l)

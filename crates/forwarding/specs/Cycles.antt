@@ -30,35 +30,38 @@ scheduleCycles (h ∷ hs) (k ∷ is) = 0 ∷ onwardCycles h k 0 hs is
 abbrev pub CyclePerHop : Type 0
 CyclePerHop = (hops : List Hop) (fs : List ℕ) → IsSchedule hops fs → length (scheduleCycles hops fs) ≡ length hops
 
--- ---- what holds of a later hop: g and h are the two hops, k and i their frames, c and d their cycles
-abbrev pub LaterHop : (Hop → Hop → ℕ → ℕ → ℕ → ℕ → Type 0) → List Hop → List ℕ → Type 0
-LaterHop P hops fs = (j : ℕ) → suc j < length hops
-    → P (getD hops j noHop) (getD hops (suc j) noHop) (getD fs j 0) (getD fs (suc j) 0) (getD (scheduleCycles hops fs) j 0) (getD (scheduleCycles hops fs) (suc j) 0)
+-- ---- what holds of every later hop: g and h are the hop before and the hop, k and i their frames, c and d their cycles
+abbrev pub LaterHop : (Hop → Hop → ℕ → ℕ → ℕ → ℕ → Type 0) → List Hop → List ℕ → List ℕ → Type 0
+LaterHop P hops fs cs = (j : ℕ) → suc j < length hops
+    → P (getD hops j noHop) (getD hops (suc j) noHop) (getD fs j 0) (getD fs (suc j) 0) (getD cs j 0) (getD cs (suc j) 0)
 
--- THE CYCLE IS THE ONE IN WHICH THE FRAME LIES: counted in frames of its link, frame i of cycle d comes r + D frames after cycle c begins
+-- counted in frames of its link, frame i of cycle d comes r + D frames after cycle c begins
 abbrev pub Lies : Hop → Hop → ℕ → ℕ → ℕ → ℕ → Type 0
 Lies g h k i c d = d * h .frames + i ≡ c * h .frames + (referenceInto g h k + holdInto g h k i)
 
+-- THE CYCLE IS THE ONE IN WHICH THE FRAME LIES
 abbrev pub CyclesLie : Type 0
-CyclesLie = (T : ℕ) (hops : List Hop) (fs : List ℕ) → AllReady T hops → IsSchedule hops fs → LaterHop Lies hops fs
+CyclesLie = (T : ℕ) (hops : List Hop) (fs : List ℕ) → AllReady T hops → IsSchedule hops fs → LaterHop Lies hops fs (scheduleCycles hops fs)
 
 -- the tick at which frame i of cycle c of a hop begins, from the beginning of cycle 0 on
 abbrev pub beginsAt : ℕ → Hop → ℕ → ℕ → ℕ
 beginsAt T h c i = (c * h .frames + i) * frameTime T (h .frames)
 
--- AND THE FRAMES IN THEIR CYCLES COME ONE AFTER THE OTHER: none begins before the one on the hop before has ended (W-201)
+-- a frame in its cycle begins no earlier than the one on the hop before ends
 abbrev pub Follows : ℕ → Hop → Hop → ℕ → ℕ → ℕ → ℕ → Type 0
 Follows T g h k i c d = beginsAt T g c (k + 1) ≤ beginsAt T h d i
 
+-- THE FRAMES IN THEIR CYCLES COME ONE AFTER THE OTHER: "send nothing of a frame before its last bit has arrived" (W-201), over all cycles
 abbrev pub CyclesFollow : Type 0
-CyclesFollow = (T : ℕ) (hops : List Hop) (fs : List ℕ) → AllReady T hops → IsSchedule hops fs → LaterHop (Follows T) hops fs
+CyclesFollow = (T : ℕ) (hops : List Hop) (fs : List ℕ) → AllReady T hops → IsSchedule hops fs → LaterHop (Follows T) hops fs (scheduleCycles hops fs)
 
--- CYCLES NEVER FALL along a route
+-- a hop's cycle is not below that of the hop before
 abbrev pub NotBelow : Hop → Hop → ℕ → ℕ → ℕ → ℕ → Type 0
 NotBelow g h k i c d = c ≤ d
 
+-- CYCLES NEVER FALL along a route
 abbrev pub CyclesNeverFall : Type 0
-CyclesNeverFall = (T : ℕ) (hops : List Hop) (fs : List ℕ) → AllReady T hops → IsSchedule hops fs → LaterHop NotBelow hops fs
+CyclesNeverFall = (hops : List Hop) (fs : List ℕ) → IsSchedule hops fs → LaterHop NotBelow hops fs (scheduleCycles hops fs)
 
 -- AND HOP j'S IS AT MOST j, so that of eight hops each has one digit
 abbrev pub CyclesBounded : Type 0

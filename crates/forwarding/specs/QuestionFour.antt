@@ -1,21 +1,23 @@
--- Document 01, "Question four": the starred cases, for a cycle of 48 ticks, with the answers of W-201. Assumes nothing.
+-- Document 01, "Question four": the starred cases, for a cycle of 48 ticks, with the answers of W-201 and the cycles of W-202. Assumes nothing.
 use mathlib.Core.Path.{_≡_}
 use mathlib.Core.Bool.{Bool, true, false, _||_}
 use mathlib.Core.List.{List, [], _∷_, List·Memᴰ}
 use Prim.Native.Nat.{ℕ}
 use lib.Dec.{eqb}
-use Rattle.trellis.specs.Answer.{Answer, found, blocked}
+use Rattle.trellis.specs.Answer.{Answer, found, blocked, nodesOf}
 use Rattle.words.specs.Word.{wordOf}
 use Rattle.forwarding.specs.declared.Hop.{Hop}
 use Rattle.forwarding.specs.Route.{routeAnswer}
+use Rattle.forwarding.specs.Cycles.{scheduleCycles}
 
--- a route, and its answer: delay, count and frames, or blocked (18) with the count
+-- a route, and its answer: delay, count and frames, or blocked (18) with the count; and the cycles of the frames
 pub record Case : Type 0 where
   pub route : List Hop
   pub expected : Answer
+  pub cycles : List ℕ
 
-abbrev case : List Hop → Answer → Case
-case hops a = record { route = hops; expected = a }
+abbrev case : List Hop → Answer → List ℕ → Case
+case hops a cs = record { route = hops; expected = a; cycles = cs }
 
 -- "Braces name the only free frames", one or two of them; or all frames are free, or none
 abbrev only : ℕ → ℕ → Bool
@@ -57,26 +59,27 @@ B8 = link 8 8
 abbrev computed {ℓ} : {X : Type ℓ} → X → X
 computed x = x
 
--- row by row as in the document; W-201: "A{3} C{7} is now refused as blocked, A{3} C{10} has delay 9 and A{3} C{11} has delay 12"
+-- row by row as in the document; W-201: "A{3} C{7} is now refused as blocked, A{3} C{10} has delay 9 and A{3} C{11} has delay 12"; W-202: A B, which is the
+-- first line of the example, "ends 7 0 / 0 1"
 unfoldable pub starred : List Case
 starred =
-    case (A allFree ∷ []) (found 0 0 (0 ∷ []))
-    ∷ case (A noneFree ∷ []) (blocked 0)
-    ∷ case (A allFree ∷ B allFree ∷ []) (found 6 16 (7 ∷ 0 ∷ []))
-    ∷ case (A (only 3) ∷ B (only 5) ∷ []) (found 12 1 (3 ∷ 5 ∷ []))
-    ∷ case (A (only 3) ∷ B (only 6) ∷ []) (blocked (computed 0))
-    ∷ case (A (only 3) ∷ B (only 3) ∷ []) (blocked (computed 0))
-    ∷ case (A (only 3) ∷ B8 (only 3) ∷ []) (found 48 (computed 1) (computed (3 ∷ 3 ∷ [])))
-    ∷ case (A (onlyTwo 1 2) ∷ B (only 3) ∷ []) (found 6 2 (2 ∷ 3 ∷ []))
-    ∷ case (A (only 0) ∷ B (onlyTwo 1 2) ∷ E (only 4) ∷ []) (found 24 3 (0 ∷ 2 ∷ 4 ∷ []))
-    ∷ case (A (only 0) ∷ B (onlyTwo 1 2) ∷ E (only 3) ∷ []) (found 18 4 (0 ∷ 2 ∷ 3 ∷ []))
-    ∷ case (A (only 3) ∷ C (only 7) ∷ []) (blocked (computed 0))
-    ∷ case (A (only 3) ∷ C (only 10) ∷ []) (found 9 (computed 1) (computed (3 ∷ 10 ∷ [])))
-    ∷ case (A (only 3) ∷ C (only 11) ∷ []) (found 12 (computed 1) (computed (3 ∷ 11 ∷ [])))
-    ∷ case (A (only 3) ∷ C (only 6) ∷ []) (blocked (computed 0))
-    ∷ case (A (onlyTwo 4 5) ∷ D (only 3) ∷ []) (found 12 2 (4 ∷ 3 ∷ []))
+    case (A allFree ∷ []) (found 0 0 (0 ∷ [])) (computed (0 ∷ []))
+    ∷ case (A noneFree ∷ []) (blocked 0) []
+    ∷ case (A allFree ∷ B allFree ∷ []) (found 6 16 (7 ∷ 0 ∷ [])) (0 ∷ 1 ∷ [])
+    ∷ case (A (only 3) ∷ B (only 5) ∷ []) (found 12 1 (3 ∷ 5 ∷ [])) (computed (0 ∷ 0 ∷ []))
+    ∷ case (A (only 3) ∷ B (only 6) ∷ []) (blocked (computed 0)) []
+    ∷ case (A (only 3) ∷ B (only 3) ∷ []) (blocked (computed 0)) []
+    ∷ case (A (only 3) ∷ B8 (only 3) ∷ []) (found 48 (computed 1) (computed (3 ∷ 3 ∷ []))) (computed (0 ∷ 1 ∷ []))
+    ∷ case (A (onlyTwo 1 2) ∷ B (only 3) ∷ []) (found 6 2 (2 ∷ 3 ∷ [])) (computed (0 ∷ 0 ∷ []))
+    ∷ case (A (only 0) ∷ B (onlyTwo 1 2) ∷ E (only 4) ∷ []) (found 24 3 (0 ∷ 2 ∷ 4 ∷ [])) (computed (0 ∷ 0 ∷ 0 ∷ []))
+    ∷ case (A (only 0) ∷ B (onlyTwo 1 2) ∷ E (only 3) ∷ []) (found 18 4 (0 ∷ 2 ∷ 3 ∷ [])) (computed (0 ∷ 0 ∷ 0 ∷ []))
+    ∷ case (A (only 3) ∷ C (only 7) ∷ []) (blocked (computed 0)) []
+    ∷ case (A (only 3) ∷ C (only 10) ∷ []) (found 9 (computed 1) (computed (3 ∷ 10 ∷ []))) (computed (0 ∷ 0 ∷ []))
+    ∷ case (A (only 3) ∷ C (only 11) ∷ []) (found 12 (computed 1) (computed (3 ∷ 11 ∷ []))) (computed (0 ∷ 0 ∷ []))
+    ∷ case (A (only 3) ∷ C (only 6) ∷ []) (blocked (computed 0)) []
+    ∷ case (A (onlyTwo 4 5) ∷ D (only 3) ∷ []) (found 12 2 (4 ∷ 3 ∷ [])) (computed (0 ∷ 0 ∷ []))
     ∷ []
 
--- THE STARRED CASES: each answer of the table is the rule's
+-- THE STARRED CASES: each answer of the table is the rule's, and so are the cycles of its frames
 abbrev pub StarredRight : Type 0
-StarredRight = (c : Case) → List·Memᴰ c starred → routeAnswer 48 (c .route) ≡ c .expected
+StarredRight = (c : Case) → List·Memᴰ c starred → (routeAnswer 48 (c .route) ≡ c .expected) × (scheduleCycles (c .route) (nodesOf (c .expected)) ≡ c .cycles)

@@ -3,7 +3,7 @@ use mathlib.Core.Path.{_≡_, refl, ap, ap₂, _∙_}
 use mathlib.Core.Bool.{Bool, true, _&&_}
 use mathlib.Core.List.{List, [], _∷_}
 use Prim.Native.Nat.{ℕ, suc}
-use lib.ListN.{length}
+use lib.ListN.{length, length-map}
 use lib.Dec.{eqb}
 use borrow.Author.Tests.{eq-eqb, eqb-true}
 use Rattle.lists.proofs.Count as tests
@@ -33,6 +33,10 @@ pub schedule-length : (hops : List Hop) (fs : List ℕ) → IsSchedule hops fs �
 schedule-length [] fs s = absurd s
 schedule-length (h ∷ hops) [] s = absurd s
 schedule-length (h ∷ hops) (k ∷ fs) s = ap suc (on-length h k hops fs (s .2))
+
+-- over the hops of a route, one for each link
+pub route-length : (net : Topology) (ss : List Session) (route fs : List ℕ) → IsSchedule (hopsOf net ss route) fs → length fs ≡ length route
+route-length net ss route fs s = schedule-length (hopsOf net ss route) fs s ∙ length-map route (hopOf net ss)
 
 -- WHAT A SCHEDULE HOLDS TELLS ITS NODES
 pub nodes-held : NodesHeld

@@ -22,7 +22,7 @@ use Rattle.ledger.specs.Sessions.{Session, View, hopOf, hopsOf}
 use Rattle.ledger.specs.Routes.{routeCheck}
 use Rattle.ledger.specs.Sound.{passes, goodNetwork, fewSessions, numberTwice, goodHeld, goodSession, frameTwice, sound, derived, intact}
 use Rattle.ledger.specs.Demand.{fresh, FreshIntact}
-use Rattle.ledger.proofs.Held.{schedule-length, cycles-over, frames-in, same-is, is-same}
+use Rattle.ledger.proofs.Held.{route-length, cycles-over, frames-in, same-is, is-same}
 
 -- the test whether a check passes
 pub passes-given : (r : Ruling) → passes r ≡ true → r ≡ given pass
@@ -70,7 +70,7 @@ module _ (net : Topology) (s : Session) (g : GoodSession net s) where
   on-frames = subst (IsSchedule (hopsOf net [] (s .route))) (frames-in (hopsOf net [] (s .route)) (s .held)) (g .schedule)
 
   pub frame-each : length (s .held .frames) ≡ length (s .route)
-  frame-each = schedule-length (hopsOf net [] (s .route)) (s .held .frames) on-frames ∙ length-map (s .route) (hopOf net [])
+  frame-each = route-length net [] (s .route) (s .held .frames) on-frames
 
   pub good-cycles : s .held .cycles ≡ scheduleCycles (hopsOf net [] (s .route)) (s .held .frames)
   good-cycles =

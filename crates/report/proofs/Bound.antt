@@ -2,10 +2,11 @@
 use mathlib.Core.Path.{_≡_, refl, ap, _∙_}
 use mathlib.Core.Bool.{true}
 use mathlib.Core.List.{List, [], _∷_}
-use Prim.Native.Nat.{ℕ, zero, suc, _+_, _-_, _*_, _<_, _≤_, min}
+use Prim.Native.Nat.{ℕ, suc, _+_, _-_, _*_, _<_, _≤_, min}
 use native.Mathlib.Nat.{mul-le-mul}
 use native.Mathlib.Omega.{arith}
 use lib.ListN.{length, getD, take, length-append, length-map, length-take}
+use Rattle.places.proofs.Firsts.{getD-firsts}
 use Rattle.refusals.specs.Refusals.{Ruling, Outcome, given, refused, pass}
 use Rattle.network.specs.Network.{Topology}
 use Rattle.network.specs.Checks.{networkCheck}
@@ -13,9 +14,10 @@ use Rattle.network_file.specs.Reading.{readNetwork}
 use Rattle.network_file.proofs.RoundTrip.{read-passes}
 use Rattle.forwarding.specs.declared.Hop.{Hop}
 use Rattle.forwarding.specs.Forwarding.{choices}
-use Rattle.forwarding.specs.Hops.{AllReady}
-use Rattle.forwarding.specs.Schedule.{GoesOn, IsSchedule, boundFrom, CountOf}
+use Rattle.forwarding.specs.Hops.{noHop, AllReady}
+use Rattle.forwarding.specs.Schedule.{IsSchedule, boundFrom, CountOf}
 use Rattle.forwarding.proofs.Holds.{choices-in}
+use Rattle.forwarding.proofs.Schedules.{schedule-frame}
 use Rattle.forwarding.proofs.Bounds.{count-bound, delay-bound}
 use Rattle.forwarding.proofs.Cycles.{cycle-per-hop, cycles-bounded}
 use Rattle.ledger.specs.Held.{Holding, heldOver}
@@ -40,22 +42,7 @@ use Rattle.report.specs.Reports.{textBound, TextWithin}
 use Rattle.report.proofs.Numbers.{file-number, call-number}
 use Rattle.report.proofs.Running.{lines-more, lines-none}
 
--- ---- a schedule's frames and its count
-cons-small : (k : ℕ) (is : List ℕ) → k < 100 → ((i : ℕ) → getD is i 0 < 100) → (i : ℕ) → getD (k ∷ is) i 0 < 100
-cons-small k is h g zero = h
-cons-small k is h g (suc i) = g i
-
-onward-small : (T : ℕ) (g : Hop) (k : ℕ) (hs : List Hop) (is : List ℕ) → AllReady T hs → GoesOn g k hs is → (i : ℕ) → getD is i 0 < 100
-onward-small T g k [] [] p o = λ i. omega arith
-onward-small T g k [] (i ∷ is) p o = absurd o
-onward-small T g k (h ∷ hs) [] p o = absurd o
-onward-small T g k (h ∷ hs) (i ∷ is) p o = cons-small i is (omega (arith, o .0, p .0 .few-frames)) (onward-small T h i hs is (p .1) (o .2))
-
-schedule-small : (T : ℕ) (hops : List Hop) (fs : List ℕ) → AllReady T hops → IsSchedule hops fs → (i : ℕ) → getD fs i 0 < 100
-schedule-small T [] fs p s = absurd s
-schedule-small T (h ∷ hs) [] p s = absurd s
-schedule-small T (h ∷ hs) (k ∷ is) p s = cons-small k is (omega (arith, s .0, p .0 .few-frames)) (onward-small T h k hs is (p .1) (s .2))
-
+-- ---- a schedule's count
 bound-most : (T : ℕ) (g : Hop) (hs : List Hop) → g .frames ≤ 64 → AllReady T hs → boundFrom g hs ≤ 4096 * length hs
 bound-most T g [] few p = omega arith
 bound-most T g (h ∷ hs) few p =
@@ -71,6 +58,13 @@ module _ (net : Topology) (ss : List Session) (ok : networkCheck net ≡ given p
   hops-long : (route : List ℕ) → length (hopsOf net ss route) ≡ length route
   hops-long route = length-map route (hopOf net ss)
 
+  -- a frame of a schedule has two digits
+  frame-small : (route : List ℕ) → routeCheck net route ≡ given pass → (w : List ℕ) → IsSchedule (hopsOf net ss route) w → (i : ℕ) → i < length route → getD w i 0 < 100
+  frame-small route e w s i l =
+      let ready = route-ready net ss route ok e in
+      let hop = rw (getD-firsts 8 i (hopsOf net ss route) noHop (omega (arith, ready .few-hops))) at (ready .each i l) in
+      omega (arith, schedule-frame (hopsOf net ss route) w s i (omega (arith, hops-long route)), hop .few-frames)
+
   route-line : (place letter : ℕ) → place < 100000 → (route : List ℕ) → routeCheck net route ≡ given pass → (r : Reply) → LeastOrBlocked (net .ticks) (hopsOf net ss route) r
       → length (line place letter r) ≤ 22 + 7 * length route
   route-line place letter h route e r (least d count w q g) =
@@ -82,7 +76,8 @@ module _ (net : Topology) (ss : List Session) (ok : networkCheck net ≡ given p
       let held : Holding = heldOver hops d w in
       let f : length (held .frames) ≡ length hops = ap (λ (fs : List ℕ). length fs) (frames-over hops d w) ∙ schedule-length hops w (g .schedule) in
       let k : length (held .cycles) ≡ length hops = ap (λ (cs : List ℕ). length cs) (cycles-over hops d w) ∙ cycle-per-hop hops w (g .schedule) in
-      let frames : (i : ℕ) → i < length (held .frames) → getD (held .frames) i 0 < 100 = λ i l. rw (frames-over hops d w) (schedule-small (net .ticks) hops w p (g .schedule) i) in
+      let frames : (i : ℕ) → i < length (held .frames) → getD (held .frames) i 0 < 100 =
+      λ i l. rw (frames-over hops d w) (frame-small route e w (g .schedule) i (omega (arith, l, f, hops-long route))) in
       let cycles : (i : ℕ) → i < length (held .cycles) → getD (held .cycles) i 0 < 10 =
       λ i l. rw (cycles-over hops d w) (omega (arith, cycles-bounded hops w i, l, k, hops-long route, ready .few-hops)) in
       omega (arith, scheduled-long place letter held count h (omega (arith, most, g .delay-is, delay-over hops d w)) c frames cycles, f, k, hops-long route, ready .some-hop)

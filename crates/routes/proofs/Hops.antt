@@ -91,7 +91,7 @@ hop-ready net ss l g =
     let f = frames-passed (net .ticks) (linkAt net l .frames) (g .frames) in
     record { some-frame = f .0; few-frames = f .1; divides = f .2; in-cycle = range-passed (linkAt net l .frames) (linkAt net l .range) (g .range) .1 }
 
-map-place : (f : ℕ → Hop) (route : List ℕ) (j : ℕ) → j < length route → getD (map f route) j noHop ≡ f (getD route j 0)
+pub map-place : (f : ℕ → Hop) (route : List ℕ) (j : ℕ) → j < length route → getD (map f route) j noHop ≡ f (getD route j 0)
 map-place f [] j h = absurd (not-suc-le-zero h)
 map-place f (l ∷ route) zero h = refl
 map-place f (l ∷ route) (suc j) h = map-place f route j (le-of-suc-le-suc h)

@@ -20,7 +20,7 @@ ghost use Rattle.forwarding.specs.Cycles.{scheduleCycles};
 ghost use Rattle.ledger.specs.Lists.{anyOf};
 ghost use Rattle.ledger.specs.Routes.{badLength, unknown, unknownLink, linkTwice, apart, ratesApart, ratesOf, routeCheck};
 ghost use Rattle.routes.specs.Hops.{hopFrom, hopsFrom, delayIf, walkedDelay};
-ghost use Rattle.routes.specs.Inner.{stepIf, ScheduleLaid};
+ghost use Rattle.routes.specs.Inner.{stepIf, FramesLaid};
 
 // What frames over the hops of a route come to: a schedule's delay, or that they are no schedule.
 pub enum Walked {
@@ -211,9 +211,9 @@ pub fn walk(t: u16, hops: [Hop; 8], frames: [u8; 8], n: usize) -> Walked
     Walked::Delayed(total)
 }
 
-// The cycle of each hop of a schedule; unused places hold 0. Checks 7 and 12 bound the hops.
+// The cycles of frames, one for each of the first n hops; unused places hold 0. Checks 7 and 12 bound the hops, and a schedule has frames of theirs.
 pub fn cycles(hops: [Hop; 8], frames: [u8; 8], n: usize) -> [u8; 8]
-    requires { ⌜ ScheduleLaid hops frames n ⌝ }
+    requires { ⌜ FramesLaid hops frames n ⌝ }
     ensures { λ r. ⌜ r ≡ firsts 8 (scheduleCycles (firsts n hops noHop) (firsts n frames 0)) 0 ⌝ }
 {
     let first = hops[0];

@@ -1,7 +1,7 @@
 -- W-202 at the calls: beside the frames of an answer and of a lookup stand their cycles. Assumes nothing.
-use mathlib.Core.Path.{_≡_, refl, sym, ap, subst, _∙_}
+use mathlib.Core.Path.{_≡_, refl, sym, ap, _∙_}
 use mathlib.Core.List.{List, []}
-use Prim.Native.Nat.{ℕ, _≤_}
+use Prim.Native.Nat.{ℕ, suc, _<_, _≤_}
 use native.Mathlib.Omega.{arith}
 use lib.ListN.{length, length-map}
 use Rattle.places.specs.Places.{firsts}
@@ -11,14 +11,15 @@ use Rattle.refusals.specs.declared.Verdict.the-variants.{Passed, Refused}
 use Rattle.network.specs.Network.{Topology, topologyOf}
 use Rattle.network.specs.Checks.{networkCheck}
 use Rattle.forwarding.specs.declared.Hop.{Hop}
+use Rattle.forwarding.specs.Hops.{AllReady}
 use Rattle.forwarding.specs.Schedule.{IsSchedule}
-use Rattle.forwarding.specs.Cycles.{scheduleCycles, LaterHop, Lies, NotBelow}
-use Rattle.forwarding.proofs.Cycles.{cycles-lie, cycles-never-fall, cycles-bounded}
+use Rattle.forwarding.specs.Cycles.{scheduleCycles, LaterHop, Lies, Follows, NotBelow}
+use Rattle.forwarding.proofs.Cycles.{cycles-lie, cycles-follow, cycles-never-fall, cycles-bounded}
 use Rattle.ledger.specs.Held.{Holding, heldPlaces}
 use Rattle.ledger.specs.Sessions.{Session, hopOf, hopsOf}
 use Rattle.ledger.specs.Routes.{routeCheck}
 use Rattle.ledger.specs.Calls.{linksOf, Reply, schedule, freed, refusal, reply, lookup}
-use Rattle.ledger.proofs.Held.{schedule-length, frames-over, cycles-over, cycles-free}
+use Rattle.ledger.proofs.Held.{route-length, frames-over, cycles-over, cycles-free}
 use Rattle.ledger.proofs.Intact.{intact-is, on-frames, good-cycles}
 use Rattle.ledger.proofs.Schedules.{schedule-unclosed}
 use Rattle.ledger.proofs.Scheduled.{scheduled}
@@ -31,25 +32,36 @@ use Rattle.sessions.specs.declared.Shown.{Shown}
 use Rattle.sessions.specs.Calls.{Tells, shownOf, notShown}
 use Rattle.sessions.specs.Cycles.{CyclesBeside, LookupCycles, AnswerCycles}
 
+-- what holds of every later hop holds of it in eight places
+in-eight : (P : Hop → Hop → ℕ → ℕ → ℕ → ℕ → Type 0) (hops : List Hop) (fs cs : List ℕ) → length hops ≤ 8 → LaterHop P hops fs cs → LaterHop P hops (firsts 8 fs 0) (firsts 8 cs 0)
+in-eight P hops fs cs few p j h =
+    let l : j < 8 = omega arith in
+    let m : suc j < 8 = omega arith in
+    rw (getD-firsts 8 j fs 0 l, getD-firsts 8 (suc j) fs 0 m, getD-firsts 8 j cs 0 l, getD-firsts 8 (suc j) cs 0 m) (p j h)
+
 -- what holds the frames of a schedule with their cycles, laid into eight places
 module _ (net : Topology) (route : List ℕ) (held : Holding) (passed : networkCheck net ≡ given pass) (checked : routeCheck net route ≡ given pass)
     (s : IsSchedule (hopsOf net [] route) (held .frames)) (e : held .cycles ≡ scheduleCycles (hopsOf net [] route) (held .frames)) where
+  abbrev hops : List Hop
+  hops = hopsOf net [] route
+
   few : length route ≤ 8
   few = route-long net route checked .1
 
-  frame-each : length (held .frames) ≡ length route
-  frame-each = schedule-length (hopsOf net [] route) (held .frames) s ∙ length-map route (hopOf net [])
+  ready : AllReady (net .ticks) hops
+  ready = route-all-ready net [] route passed checked
 
-  back : firsts (length route) (firsts 8 (held .frames) 0) 0 ≡ held .frames
-  back = so-many-back 8 (length route) (held .frames) 0 frame-each few
+  -- of the schedule's cycles, and so of those that are held
+  laid : (P : Hop → Hop → ℕ → ℕ → ℕ → ℕ → Type 0) → LaterHop P hops (held .frames) (scheduleCycles hops (held .frames)) → LaterHop P hops (firsts 8 (held .frames) 0) (firsts 8 (held .cycles) 0)
+  laid P p = in-eight P hops (held .frames) (held .cycles) (omega (arith, few, length-map route (hopOf net []))) (rw e p)
 
   pub beside : CyclesBeside net route (heldPlaces held)
   beside = record {
-    cycles = ap (λ (cs : List ℕ). firsts 8 cs 0) (e ∙ ap (scheduleCycles (hopsOf net [] route)) (sym back));
-    lie = subst (LaterHop Lies (hopsOf net [] route)) (sym back) (cycles-lie (net .ticks) (hopsOf net [] route) (held .frames) (route-all-ready net [] route passed checked) s);
-    neverFall = subst (LaterHop NotBelow (hopsOf net [] route)) (sym back)
-        (cycles-never-fall (net .ticks) (hopsOf net [] route) (held .frames) (route-all-ready net [] route passed checked) s);
-    bounded = λ j h. rw (getD-firsts 8 j (held .cycles) 0 (omega (arith, few)), e) (cycles-bounded (hopsOf net [] route) (held .frames) j);
+    cycles = ap (λ (cs : List ℕ). firsts 8 cs 0) (e ∙ ap (scheduleCycles hops) (sym (so-many-back 8 (length route) (held .frames) 0 (route-length net [] route (held .frames) s) few)));
+    lie = laid Lies (cycles-lie (net .ticks) hops (held .frames) ready s);
+    follow = laid (Follows (net .ticks)) (cycles-follow (net .ticks) hops (held .frames) ready s);
+    neverFall = laid NotBelow (cycles-never-fall hops (held .frames) s);
+    bounded = λ j h. rw (getD-firsts 8 j (held .cycles) 0 (omega (arith, few)), e) (cycles-bounded hops (held .frames) j);
   }
 
 -- A LOOKUP SHOWS THE CYCLES OF THE FRAMES SHOWN

@@ -24,7 +24,7 @@ use Rattle.network.specs.declared.Network.{Network}
 use Rattle.forwarding.specs.declared.Delay.{Delay}
 use Rattle.forwarding.specs.declared.Held.{Held}
 use Rattle.forwarding.specs.declared.Hop.{Hop}
-use Rattle.forwarding.specs.Hops.{noHop, Ready}
+use Rattle.forwarding.specs.Hops.{noHop}
 use Rattle.forwarding.specs.Schedule.{IsSchedule}
 use Rattle.forwarding.specs.Cycles.{scheduleCycles}
 use Rattle.forwarding.specs.Route.{routeAnswer}
@@ -43,8 +43,9 @@ use Rattle.ledger.proofs.Held.{places-over}
 use Rattle.ledger.proofs.Answered.{admitted}
 use Rattle.ledger.proofs.Refused.{not-eighteen}
 use Rattle.ledger.proofs.Scheduled.{scheduled, scheduled-back}
-use Rattle.routes.specs.Inner.{ScheduleLaid}
+use Rattle.routes.specs.Inner.{FramesLaid}
 use Rattle.routes.proofs.Routes.{route-long}
+use Rattle.routes.proofs.HopCycles.{schedule-laid}
 use Rattle.table.specs.declared.Place.{Place}
 use Rattle.table.specs.declared.Table.{Table}
 use Rattle.table.specs.Table.{sessionOf, liveOf}
@@ -122,12 +123,6 @@ module _ (T n : ℕ) (hops : List Hop) (f : Finding) (s : Searched T n hops f) w
         subst (λ (x : Reply). Quotes x q) (sym held-found)
         (e ∙ ap (λ (h : Held). record { verdict = verdict.Passed; count = f .count; held = h }) found-places)
 
--- what a search found is laid into eight places
-pub found-laid : (T n : ℕ) (eight : List Hop) (f : Finding) → Ready T eight n → Searched T n (firsts n eight noHop) f → (d : Delay) → f .found ≡ result.Schedule d
-    → ScheduleLaid eight (f .frames) n
-found-laid T n eight f r s d e =
-    record { few-hops = r .few-hops; few-frames = λ j h. r .each j h .few-frames; schedule = schedule-found T n (firsts n eight noHop) f s d e }
-
 module _ (st : State) (ok : intact (viewOf st) ≡ true) where
   -- ---- a refusal by a check: it has no count, and leaves the very same state
   module _ (call : Call) (v : Verdict) (ev : ruling v ≡ callCheck (topologyOf (st .network)) (liveOf (st .table)) call) (r : Refusal) (e : v ≡ verdict.Refused r) where
@@ -187,11 +182,10 @@ module _ (st : State) (ok : intact (viewOf st) ≡ true) where
       back : firsts (length route) eight noHop ≡ hopsOf net ss route
       back = hops-back (st .network) ss route checked route-passed eight e8
 
-      pub set-up-laid : (d : Delay) → f .found ≡ result.Schedule d → ScheduleLaid eight (f .frames) (length route)
+      pub set-up-laid : (d : Delay) → f .found ≡ result.Schedule d → FramesLaid eight (f .frames) (length route)
       set-up-laid d e =
-          found-laid (net .ticks) (length route) eight f
-          (subst (λ (T : ℕ). Ready T eight (length route)) (sym (ticks-told (st .network))) (hops-ready (st .network) ss route checked route-passed eight e8))
-          (subst (λ (hops : List Hop). Searched (net .ticks) (length route) hops f) (sym back) s) d e
+          schedule-laid (st .network .ticks) (length route) eight (f .frames) (hops-ready (st .network) ss route checked route-passed eight e8)
+          (subst (λ (hops : List Hop). IsSchedule hops (firsts (length route) (f .frames) 0)) (sym back) (schedule-found (net .ticks) (length route) (hopsOf net ss route) f s d e))
 
       -- 18 leaves the very same state
       pub set-up-blocked : f .found ≡ result.Blocked → (q : Quoted) → q ≡ notQuoted (NoSchedule (f .count)) → Serves st (SetUp n route) (record { answer = q; state = st })

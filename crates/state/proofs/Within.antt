@@ -1,11 +1,10 @@
 -- The sessions of a state that isn't broken keep within their arrays. Assumes nothing.
-use mathlib.Core.Path.{_≡_, sym, ap, subst, _∙_}
+use mathlib.Core.Path.{_≡_, ap, subst, _∙_}
 use mathlib.Core.Bool.{true}
-use mathlib.Core.List.{List, [], _∷_}
-use Prim.Native.Nat.{ℕ, zero, suc, _<_, _≤_}
-use native.Mathlib.Nat.{not-suc-le-zero, le-of-suc-le-suc}
+use mathlib.Core.List.{List, []}
+use Prim.Native.Nat.{ℕ, _<_, _≤_}
 use native.Mathlib.Omega.{arith}
-use lib.ListN.{length, getD, List·getD-map}
+use lib.ListN.{length, getD, length-map, List·getD-map}
 use Rattle.places.specs.Places.{firsts}
 use Rattle.places.proofs.Firsts.{length-firsts, getD-firsts}
 use Rattle.refusals.specs.Refusals.{given, pass}
@@ -13,16 +12,14 @@ use Rattle.network.specs.Network.{Topology, topologyOf}
 use Rattle.network.specs.Checks.{networkCheck}
 use Rattle.network.proofs.Tests.{count-passed, frames-passed}
 use Rattle.network.proofs.Checks.{network-good}
-use Rattle.forwarding.specs.declared.Hop.{Hop}
-use Rattle.forwarding.specs.Schedule.{GoesOn, IsSchedule}
+use Rattle.forwarding.proofs.Schedules.{schedule-frame}
 use Rattle.ledger.specs.Lists.{allOf}
-use Rattle.ledger.specs.Held.{Holding}
 use Rattle.ledger.specs.Sessions.{Session, linkAt, hopOf, hopsOf}
 use Rattle.ledger.specs.Sound.{goodSession, intact}
 use Rattle.ledger.proofs.Lists.{all-member, member-at}
-use Rattle.ledger.proofs.Held.{frames-over}
-use Rattle.ledger.proofs.Intact.{Intact, intact-is, GoodSession, session-good}
+use Rattle.ledger.proofs.Intact.{Intact, intact-is, GoodSession, session-good, on-frames}
 use Rattle.routes.proofs.Links.{link-passed}
+use Rattle.routes.proofs.Hops.{map-place}
 use Rattle.routes.proofs.Routes.{route-long, route-known}
 use Rattle.table.specs.declared.Place.{Place}
 use Rattle.table.specs.declared.Table.{Table}
@@ -31,20 +28,6 @@ use Rattle.table.specs.Inner.{PlaceWithin, AllWithin}
 use Rattle.table.proofs.Live.{in-length}
 use Rattle.state.specs.declared.State.{State}
 use Rattle.state.specs.State.{viewOf}
-
--- ---- each frame of a schedule is one of its link
-module _ (net : Topology) where
-  onward-frame : (g : Hop) (k : ℕ) (route fs : List ℕ) → GoesOn g k (hopsOf net [] route) fs → (j : ℕ) → j < length route → getD fs j 0 < linkAt net (getD route j 0) .frames
-  onward-frame g k [] fs o j h = absurd (not-suc-le-zero h)
-  onward-frame g k (l ∷ route) [] o j h = absurd o
-  onward-frame g k (l ∷ route) (f ∷ fs) o zero h = o .0
-  onward-frame g k (l ∷ route) (f ∷ fs) o (suc j) h = onward-frame (hopOf net [] l) f route fs (o .2) j (le-of-suc-le-suc h)
-
-  schedule-frame : (route fs : List ℕ) → IsSchedule (hopsOf net [] route) fs → (j : ℕ) → j < length route → getD fs j 0 < linkAt net (getD route j 0) .frames
-  schedule-frame [] fs s j h = absurd s
-  schedule-frame (l ∷ route) [] s j h = absurd s
-  schedule-frame (l ∷ route) (f ∷ fs) s zero h = s .0
-  schedule-frame (l ∷ route) (f ∷ fs) s (suc j) h = onward-frame (hopOf net [] l) f route fs (s .2) j (le-of-suc-le-suc h)
 
 -- a good session keeps within the arrays
 module _ (net : Topology) (passed : networkCheck net ≡ given pass) where
@@ -55,15 +38,10 @@ module _ (net : Topology) (passed : networkCheck net ≡ given pass) where
         link = λ j h. omega (arith, known j h, count-passed (length (net .links)) (network-good net passed .count) .1, at-route j h);
         frame = λ j h.
             let f = frames-passed (net .ticks) (linkAt net (getD (sessionOf place .route) j 0) .frames) (link-passed net (getD (sessionOf place .route) j 0) passed (known j h) .frames) in
-            omega (arith, schedule-frame net (sessionOf place .route) (sessionOf place .held .frames) frames j (inside j h), f .1, getD-firsts (place .hops) j (place .held .frames) 0 h);
+            let of = schedule-frame (hopsOf net [] (sessionOf place .route)) (sessionOf place .held .frames) (on-frames net (sessionOf place) g) j (rw (length-map (sessionOf place .route) (hopOf net [])) (inside j h)) in
+            omega (arith, rw (map-place (hopOf net []) (sessionOf place .route) j (inside j h)) at of, f .1, getD-firsts (place .hops) j (place .held .frames) 0 h);
       }
     where
-      -- its frames are its nodes
-      frames : IsSchedule (hopsOf net [] (sessionOf place .route)) (sessionOf place .held .frames)
-      frames =
-          subst (IsSchedule (hopsOf net [] (sessionOf place .route)))
-          (sym (ap (λ (x : Holding). x .frames) (g .held) ∙ frames-over _ _ _)) (g .schedule)
-
       inside : (j : ℕ) → j < place .hops → j < length (sessionOf place .route)
       inside j h = omega (arith, h, length-firsts (place .hops) (place .route) 0)
 

@@ -25,7 +25,7 @@ ghost use Rattle.ledger.specs.Sessions.{isLive, hopsOf};
 ghost use Rattle.ledger.specs.Routes.{routeCheck};
 ghost use Rattle.ledger.specs.Sound.{intact};
 ghost use Rattle.ledger.specs.Calls.{SetUp, Quote, answerOver, callCheck, reply};
-ghost use Rattle.routes.specs.Inner.{ScheduleLaid};
+ghost use Rattle.routes.specs.Inner.{FramesLaid};
 ghost use Rattle.table.specs.Table.{sessionOf, liveOf};
 ghost use Rattle.table.specs.Inner.{AllWithin};
 ghost use Rattle.state.specs.State.{viewOf, emptyTable, freshState, notQuoted, Quotes, Serves, Releases};
@@ -108,7 +108,7 @@ fn free_hops(network: Network, table: Table, route: &[u8]) -> [Hop; 8]
 
 // The answer that gives the schedule that a search found over the first n hops, with this delay: the one place where what is held is made.
 fn scheduled(hops: [Hop; 8], n: usize, finding: Finding, delay: Delay) -> Quoted
-    requires { ⌜ ScheduleLaid hops (finding .frames) n ⌝ }
+    requires { ⌜ FramesLaid hops (finding .frames) n ⌝ }
     ensures { λ r. ⌜ r ≡ foundQuoted (firsts n hops noHop) n finding delay ⌝ }
 {
     let frames = finding.frames;

@@ -32,7 +32,8 @@ use Rattle.ledger.specs.Routes.{badLength, routeCheck}
 use Rattle.ledger.specs.Sound.{goodHeld, goodSession}
 use Rattle.ledger.proofs.Held.{frames-in, same-held}
 use Rattle.routes.specs.Hops.{hopsFrom, delayIf, walkedDelay}
-use Rattle.routes.specs.Inner.{ScheduleLaid}
+use Rattle.routes.specs.Inner.{FramesLaid}
+use Rattle.routes.proofs.HopCycles.{schedule-laid}
 use Rattle.routes.specs.declared.Walked.{Walked}
 use Rattle.routes.specs.declared.Walked.the-variants.{Delayed, Unfit}
 use Rattle.table.specs.declared.Place.{Place}
@@ -130,17 +131,16 @@ module _ (network : Network) (place : Place) where
                   fits false x k = (cc, cc)
 
               -- the frames are a schedule over the hops in eight places
-              pub walked-laid : ScheduleLaid laid (place .held .frames) (place .hops)
+              schedule : IsSchedule (firsts (place .hops) laid noHop) (firsts (place .hops) (place .held .frames) 0)
               unfolding is-schedule hops
-              walked-laid =
-                  record {
-                    few-hops = walk-ready .few-hops;
-                    few-frames = λ j h. walk-ready .each j h .few-frames;
-                    schedule = subst (λ (hs : List Hop). IsSchedule hs (firsts (place .hops) (place .held .frames) 0)) (sym walked-hops)
-                        (told-schedule hops (sessionOf place .held .frames) (walked-fits .0));
-                  }
+              schedule =
+                  subst (λ (hs : List Hop). IsSchedule hs (firsts (place .hops) (place .held .frames) 0)) (sym walked-hops)
+                  (told-schedule hops (sessionOf place .held .frames) (walked-fits .0))
 
-              -- and so are their cycles, of which the first are the schedule's
+              pub walked-laid : FramesLaid laid (place .held .frames) (place .hops)
+              walked-laid = schedule-laid (network .ticks) (place .hops) laid (place .held .frames) walk-ready schedule
+
+              -- and the first of the cycles are the schedule's
               pub session-walked : (cycles : List ℕ) → cycles ≡ firsts 8 (scheduleCycles (firsts (place .hops) laid noHop) (firsts (place .hops) (place .held .frames) 0)) 0 → (b : Bool)
                   → b ≡ (sameList eqb (firsts (place .hops) (place .held .cycles) 0) (firsts (place .hops) cycles 0) && eqb (place .held .delay .0) (d .0))
                   → b ≡ goodSession (topologyOf network) (sessionOf place)
@@ -153,7 +153,7 @@ module _ (network : Network) (place : Place) where
                       → firsts (place .hops) cycles 0 ≡ scheduleCycles (firsts (place .hops) laid noHop) (firsts (place .hops) (place .held .frames) 0)
                   cycles-back cycles ec =
                       let xs : List ℕ = scheduleCycles (firsts (place .hops) laid noHop) (firsts (place .hops) (place .held .frames) 0) in
-                      let many : length xs ≡ place .hops = cycle-per-hop (firsts (place .hops) laid noHop) (firsts (place .hops) (place .held .frames) 0) (walked-laid .schedule) ∙ length-firsts (place .hops) laid noHop in
+                      let many : length xs ≡ place .hops = cycle-per-hop (firsts (place .hops) laid noHop) (firsts (place .hops) (place .held .frames) 0) schedule ∙ length-firsts (place .hops) laid noHop in
                       ap (λ (l : List ℕ). firsts (place .hops) l 0) ec ∙ so-many-back 8 (place .hops) xs 0 many few
 
             pub session-unfit : w ≡ Unfit → false ≡ goodSession (topologyOf network) (sessionOf place)

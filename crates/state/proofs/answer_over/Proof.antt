@@ -3,10 +3,11 @@ use borrow.Author.Needs.{needs}
 use mathlib.Core.Path.{_≡_}
 use native.Mathlib.Omega.{arith}
 use lib.ListN.{length}
+use Rattle.routes.proofs.HopCycles.{schedule-laid}
 use Rattle.state.proofs.answer_over.Statement.{statement}
 use Rattle.state.proofs.answer_over.Tie as tie
 use Rattle.state.proofs.Searches.{searched}
-use Rattle.state.proofs.SetUps.{quotes-blocked, quotes-found, found-laid}
+use Rattle.state.proofs.SetUps.{quotes-blocked, schedule-found, quotes-found}
 
 search-requires : tie.Need-search-requires
 search-requires c κs = search needs
@@ -32,7 +33,7 @@ scheduled-requires c κs =
     let made = c .before .before .before in
     let start = made .before in
     let long : length (start .args .hops) ≡ 8 = search needs in
-    found-laid _ _ (start .args .hops) _ (start .pre) (searched _ _ (start .args .hops) _ (omega (arith, long, start .pre .few-hops)) (made .search .ensures)) _ (c .before .found .given .1)
+    schedule-laid _ _ (start .args .hops) _ (start .pre) (schedule-found _ _ _ _ (searched _ _ (start .args .hops) _ (omega (arith, long, start .pre .few-hops)) (made .search .ensures)) _ (c .before .found .given .1))
 
 returns-2 : tie.Need-returns-2
 returns-2 c =
