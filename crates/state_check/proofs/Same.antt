@@ -1,6 +1,6 @@
--- Places of two arrays compared one after the other. Assumes nothing.
+-- Places of two arrays compared one after the other, and two tests in turn. Assumes nothing.
 use mathlib.Core.Path.{_≡_, sym, _∙_}
-use mathlib.Core.Bool.{true, false}
+use mathlib.Core.Bool.{Bool, true, false, _&&_}
 use mathlib.Core.List.{List}
 use Prim.Native.Nat.{ℕ, _+_, _<_, _≤_}
 use lib.ListN.{getD, drop}
@@ -23,3 +23,10 @@ module _ (n : ℕ) (one other : List ℕ) (j : ℕ) (p : SameSoFar n one other j
 
   pub all-same : n ≤ j → true ≡ sameList eqb (firsts n one 0) (firsts n other 0)
   all-same h = sym (p ∙ rw (no-first n j one 0 h, no-first n j other 0 h))
+
+-- two tests in turn: where the first holds the second decides, and where it fails that is the answer
+pub second-decides : (b x y : Bool) → b ≡ x → b ≡ true → y ≡ (x && y)
+second-decides b x y e t = rw (sym e ∙ t)
+
+pub first-fails : (b x y : Bool) → b ≡ x → b ≡ false → b ≡ (x && y)
+first-fails b x y e f = rw (sym e ∙ f) f
