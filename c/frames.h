@@ -4,7 +4,7 @@
  *
  *     cc -Ic program.c target/staticlib/libexports.a
  *
- * for x86-64. No function needs more than 80 KiB of stack.
+ * for x86-64. No function needs more than 72 KiB of stack.
  *
  * A slice is a pointer and then the number of its elements, which for `out` of frames_lookup are numbers of two bytes. Where
  * that number is 0 the pointer may be NULL, at every slice of every function. `out` must not overlap another slice. Nothing is

@@ -18,12 +18,13 @@ ghost use Rattle.ledger.specs.Calls.{otherThan};
 ghost use Rattle.table.specs.Table.{sessionOf, liveOf, placeOf};
 ghost use Rattle.table.specs.Inner.{Within, PlaceWithin, AllWithin, Marked, markedIn};
 
-// A session as it is stored ("Calls on sessions"): its number, how many hops it has, their links, hop 0 first, and what it holds.
+// A session as it is stored ("Calls on sessions"): how many hops it has, their links, hop 0 first, what it holds, and its number. The number stands beside the
+// delay, of the same size, so that a place has 40 bytes and not 48.
 pub struct Place {
-    pub number: u16,
     pub hops: usize,
     pub route: [u8; 8],
     pub held: Held,
+    pub number: u16,
 }
 
 // The live sessions: how many, and their places.
