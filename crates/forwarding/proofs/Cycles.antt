@@ -3,7 +3,7 @@ use mathlib.Core.Path.{_≡_, refl, sym, _∙_, ap}
 use mathlib.Core.Bool.{Bool, true, false, cond}
 use mathlib.Core.List.{List, [], _∷_}
 use Prim.Native.Nat.{ℕ, zero, suc, _+_, _-_, _*_, _%_, _<_, _≤_}
-use native.Mathlib.Nat.{add-mul, mul-assoc, mul-comm, mod-eq-of-lt, mod-eq-sub-mod, le-of-suc-le-suc, not-suc-le-zero}
+use native.Mathlib.Nat.{add-mul, mul-assoc, mul-comm, mod-eq-of-lt, le-of-suc-le-suc, not-suc-le-zero}
 use native.Mathlib.Decide.{decLt}
 use native.Mathlib.Omega.{arith}
 use lib.Dec.{ltb}
@@ -15,7 +15,7 @@ use Rattle.forwarding.specs.Forwarding.{leastHold, referenceInto, holdIn
 use Rattle.forwarding.specs.Hops.{noHop, HopReady, AllReady}
 use Rattle.forwarding.specs.Schedule.{GoesOn, IsSchedule}
 use Rattle.forwarding.specs.Cycles.{nextCycle, onwardCycles, scheduleCycles, CyclePerHop, LaterHop, Lies, CyclesLie, beginsAt, Follows, CyclesFollow, NotBelow, CyclesNeverFall, CyclesBounded}
-use Rattle.forwarding.proofs.Holds.{hold-fits, least-in, reference-in}
+use Rattle.forwarding.proofs.Holds.{mod-once, hold-fits, least-in, reference-in}
 use Rattle.forwarding.proofs.Transitions.{may-hold, cycle-frames}
 use Rattle.forwarding.proofs.Rates.{next-mul, whole-frame}
 
@@ -53,7 +53,7 @@ module _ (g h : Hop) (k i c : ℕ) where
     meets = hold-fits (leastHold h) (h .frames) (referenceInto g h k) i l .meets
 
     -- a hold of at most a cycle
-    pub lies : holdInto g h k i ≤ h .frames → Lies g h k i c (nextCycle g h k i c)
+    lies : holdInto g h k i ≤ h .frames → Lies g h k i c (nextCycle g h k i c)
     lies few =
         let K : ℕ = h .frames in
         let x : ℕ = referenceInto g h k + holdInto g h k i in
@@ -61,7 +61,7 @@ module _ (g h : Hop) (k i c : ℕ) where
         elim (decLt x K) [
           | yes b ↦ let e : x ≡ i = sym (mod-eq-of-lt b) ∙ meets in rw (← same-cycle x refl b, e)
           | no b ↦
-              let e : x - K ≡ i = sym (mod-eq-of-lt (omega arith)) ∙ sym (mod-eq-sub-mod (omega arith)) ∙ meets in
+              let e : x - K ≡ i = sym (mod-once K x (omega arith) (omega arith)) ∙ meets in
               rw (← cycle-after x refl (omega arith)) (omega (arith, next-mul c K, e))
         ]
 

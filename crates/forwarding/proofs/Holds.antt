@@ -19,7 +19,7 @@ pub record FitsFrom (Y K r i D : ℕ) : Type 0 where
   pub most : D < Y + K
   pub meets : (r + D) % K ≡ i
 
-mod-once : (K n : ℕ) → K ≤ n → n < K + K → n % K ≡ n - K
+pub mod-once : (K n : ℕ) → K ≤ n → n < K + K → n % K ≡ n - K
 mod-once K n h l = mod-eq-sub-mod h ∙ mod-eq-of-lt (omega arith)
 
 -- the two cases of a gap: on in this cycle, or in the next
