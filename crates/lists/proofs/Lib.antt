@@ -1,3 +1,4 @@
 pub mod Count
+pub mod Sums
 pub mod Order
 pub mod Once

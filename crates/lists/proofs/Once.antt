@@ -1,4 +1,4 @@
--- Lists without repetition that have the same members are equally long. Assumes nothing.
+-- Lists without repetition that have the same members are equally long; and lists without members. Assumes nothing.
 use mathlib.Core.Path.{_≡_, refl, sym, ap}
 use mathlib.Core.List.{List, [], _∷_, _++_, List·Memᴰ, List·Memᴰ·head, List·Memᴰ·tail, List·Memᴰ·cases-cons, List·Memᴰ·not-nil, List·Memᴰ·append-cases, Memᴰ·append-left, Memᴰ·append-right, Memᴰ·cast}
 use mathlib.Core.Logic.{⊎-elim}
@@ -38,3 +38,12 @@ module _ {A : Type 0} where
 
   pub same-members : (xs ys : List A) → EachOnce xs → EachOnce ys → ((x : A) → List·Memᴰ x xs → List·Memᴰ x ys) → ((x : A) → List·Memᴰ x ys → List·Memᴰ x xs) → length xs ≡ length ys
   same-members xs ys o p f g = le-antisymm (once-length xs ys o f) (once-length ys xs p g)
+
+  -- a list has no member exactly when its length is 0
+  pub empty-none : (l : List A) → length l ≡ 0 → (x : A) → List·Memᴰ x l → ⊥
+  empty-none [] e x m = List·Memᴰ·not-nil m
+  empty-none (y ∷ l) e x m = omega arith
+
+  pub none-empty : (l : List A) → ((x : A) → List·Memᴰ x l → ⊥) → length l ≡ 0
+  none-empty [] h = refl
+  none-empty (y ∷ l) h = absurd (h y (List·Memᴰ·head refl))

@@ -1,0 +1,68 @@
+-- Laws of sums: a common factor, a part of a sum, and sums that go round a cycle. Assumes nothing.
+use mathlib.Core.Path.{_≡_, sym, _∙_, ap}
+use mathlib.Core.Bool.{Bool, true, false}
+use Prim.Native.Nat.{ℕ, zero, suc, _+_, _-_, _*_, _%_, _<_, _≤_}
+use native.Mathlib.Nat.{add-mul, zero-mul, one-mul, add-mod-right, mod-eq-of-lt}
+use native.Mathlib.Omega.{arith}
+use lib.Dec.{ltb}
+use borrow.Author.Tests.{lt-ltb, le-ltb}
+use Rattle.lists.specs.Count.{oneIf, sumBelow}
+use Rattle.lists.proofs.Count.{sum-cong, sum-split, sum-const}
+
+pub sum-times : (n c : ℕ) (f : ℕ → ℕ) → sumBelow n (λ k. f k * c) ≡ sumBelow n f * c
+sum-times zero c f = sym (zero-mul c)
+sum-times (suc n) c f = rw (add-mul (sumBelow n f) (f n) c) (ap (λ (x : ℕ). x + f n * c) (sum-times n c f))
+
+pub one-times-le : (b : Bool) (x : ℕ) → oneIf b * x ≤ x
+one-times-le true x = omega (arith, one-mul x)
+one-times-le false x = omega (arith, zero-mul x)
+
+-- the first members of a sum
+pub sum-first : (n m : ℕ) (f : ℕ → ℕ) → n ≤ m → sumBelow n f ≤ sumBelow m f
+sum-first n m f h =
+    let e : n + (m - n) ≡ m = omega arith in
+    omega (arith, sum-split n (m - n) f, ap (λ (x : ℕ). sumBelow x f) e)
+
+-- of a sum, the members below w
+pub sum-narrow : (n w : ℕ) (f : ℕ → ℕ) → w ≤ n → sumBelow n (λ d. oneIf (ltb d w) * f d) ≡ sumBelow w f
+sum-narrow n w f h =
+    let e : w + (n - w) ≡ n = omega arith in
+    omega (
+      arith,
+      ap (λ (x : ℕ). sumBelow x (λ d. oneIf (ltb d w) * f d)) e,
+      sum-split w (n - w) (λ d. oneIf (ltb d w) * f d),
+      sum-cong w (λ d. oneIf (ltb d w) * f d) f (λ d l. rw (lt-ltb d w l) (one-mul (f d))),
+      sum-cong (n - w) (λ d. oneIf (ltb (w + d) w) * f (w + d)) (λ d. 0) (λ d l. rw (le-ltb (w + d) w (omega arith)) (zero-mul (f (w + d)))),
+      sum-const (n - w) 0,
+    )
+
+-- ---- c places of a cycle of K, from place a on
+module _ (K a c : ℕ) (f : ℕ → ℕ) where
+  -- up to the end of the cycle
+  pub round-within : a + c ≤ K → sumBelow c (λ d. f ((a + d) % K)) + sumBelow a f ≡ sumBelow (a + c) f
+  round-within h =
+      omega (
+        arith,
+        sum-split a c f,
+        sum-cong c (λ d. f ((a + d) % K)) (λ d. f (a + d)) (λ d l. ap f (mod-eq-of-lt (omega arith))),
+      )
+
+  -- and across it
+  pub round-across : a < K → K ≤ a + c → c ≤ K → sumBelow c (λ d. f ((a + d) % K)) + sumBelow a f ≡ sumBelow K f + sumBelow (a + c - K) f
+  round-across p h l =
+      let b : ℕ = K - a in
+      let e : ℕ = a + c - K in
+      let parts : b + e ≡ c = omega arith in
+      let whole : a + b ≡ K = omega arith in
+      omega (
+        arith,
+        ap (λ (x : ℕ). sumBelow x (λ d. f ((a + d) % K))) parts,
+        sum-split b e (λ d. f ((a + d) % K)),
+        sum-cong b (λ d. f ((a + d) % K)) (λ d. f (a + d)) (λ d m. ap f (mod-eq-of-lt (omega arith))),
+        sum-cong e (λ d. f ((a + (b + d)) % K)) f (λ d m. ap f (again d (omega arith))),
+        sum-split a b f,
+        ap (λ (x : ℕ). sumBelow x f) whole,
+      )
+    where
+      again : (d : ℕ) → d < K → (a + (K - a + d)) % K ≡ d
+      again d m = let s : a + (K - a + d) ≡ d + K = omega arith in rw s (add-mod-right d K ∙ mod-eq-of-lt m)
