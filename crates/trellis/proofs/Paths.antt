@@ -3,15 +3,15 @@ use mathlib.Core.Path.{_≡_, refl, sym, _∙_, ap}
 use mathlib.Core.Bool.{Bool, true, false, _&&_}
 use mathlib.Core.List.{List, [], _∷_, _++_, map, List·Memᴰ, List·Memᴰ·head, List·Memᴰ·tail, Memᴰ·append-left, Memᴰ·append-right, List·Memᴰ·append-cases, List·Memᴰ·eq-of-singleton, List·Memᴰ·not-nil, Memᴰ·map, Memᴰ·of-map, Memᴰ·cast, head-eq-of-cons-eq, tail-eq-of-cons-eq}
 use mathlib.Core.Logic.{⊎-elim}
-use Prim.Native.Nat.{ℕ, zero, suc, _+_, _<_}
-use native.Mathlib.Nat.{eq-or-lt-of-le, le-of-suc-le-suc, not-suc-le-zero}
+use Prim.Native.Nat.{ℕ, zero, suc, _+_, _*_, _<_}
+use native.Mathlib.Nat.{eq-or-lt-of-le, le-of-suc-le-suc, not-suc-le-zero, mul-one, one-mul, zero-mul}
 use native.Mathlib.Omega.{arith}
 use lib.Dec.{ltb}
-use lib.ListN.{length, length-append}
+use lib.ListN.{length, length-append, length-map}
 use borrow.Author.Tests.{ltb-true, lt-ltb}
 use Rattle.lists.specs.Once.{EachOnce}
 use Rattle.lists.specs.Count.{oneIf, sumBelow}
-use Rattle.lists.proofs.Count.{and-both, both-and}
+use Rattle.lists.proofs.Count.{sum-cong, and-both, both-and}
 use Rattle.trellis.specs.Trellis.{Reach, never, after, Trellis, entry, _▸_, width, Leads, IsPath}
 use Rattle.trellis.specs.Paths.{reached, listIf, gather, pathsTo, allPaths, AllPathsListed}
 use Rattle.trellis.specs.Considered.{hasMember, endsPath}
@@ -52,37 +52,16 @@ gather-of (suc n) g m =
     (λ r. record { place = n; below = omega arith; there = r }) (List·Memᴰ·append-cases (gather n g) m)
 
 -- how many
+length-some {ℓ} : {A : Type ℓ} (b : Bool) (l : List A) → length (listIf b l) ≡ oneIf b * length l
+length-some true l = sym (one-mul (length l))
+length-some false l = sym (zero-mul (length l))
+
 pub length-if {ℓ} : {A : Type ℓ} (b : Bool) (x : A) → length (listIf b (x ∷ [])) ≡ oneIf b
-length-if true x = refl
-length-if false x = refl
+length-if b x = length-some b (x ∷ []) ∙ mul-one (oneIf b)
 
 pub length-gather {ℓ} : {A : Type ℓ} (n : ℕ) (g : ℕ → List A) → length (gather n g) ≡ sumBelow n (λ k. length (g k))
 length-gather zero g = refl
 length-gather (suc n) g = length-append (gather n g) (g n) ∙ ap (λ (x : ℕ). x + length (g n)) (length-gather n g)
-
--- every listed one is a path, and every path is listed
-pub listed-leads : (t : Trellis) (i : ℕ) (p : List ℕ) → List·Memᴰ p (pathsTo t i) → Leads t i p
-listed-leads (entry n s) i p m =
-    let w = listed-if-of (ltb i n && reached (s i)) ([] ∷ []) m in
-    let e = List·Memᴰ·eq-of-singleton (w .1) in
-    let v = and-both (ltb i n) (reached (s i)) (w .0) in
-    rw e (ltb-true i n (v .0), reached-some (s i) (v .1))
-listed-leads (t ▸ st) i p m =
-    let w = listed-if-of (ltb i (st .size)) (gather (width t) (λ k. listIf (st .allowed k i) (map (λ p. k ∷ p) (pathsTo t k)))) m in
-    let v = gather-of (width t) (λ k. listIf (st .allowed k i) (map (λ p. k ∷ p) (pathsTo t k))) (w .1) in
-    let u = listed-if-of (st .allowed (v .place) i) (map (λ p. v .place ∷ p) (pathsTo t (v .place))) (v .there) in
-    let q = Memᴰ·of-map (λ p. v .place ∷ p) (pathsTo t (v .place)) (u .1) in
-    rw (← q .2) (ltb-true i (st .size) (w .0), u .0, listed-leads t (v .place) (q .0) (q .1))
-
-pub leads-listed : (t : Trellis) (i : ℕ) (p : List ℕ) → Leads t i p → List·Memᴰ p (pathsTo t i)
-leads-listed (entry n s) i [] h =
-    listed-if-in (ltb i n && reached (s i)) ([] ∷ []) (both-and (ltb i n) (reached (s i)) (lt-ltb i n (h .0)) (ap reached (h .1 .1))) (List·Memᴰ·head refl)
-leads-listed (entry n s) i (k ∷ p) h = absurd h
-leads-listed (t ▸ st) i [] h = absurd h
-leads-listed (t ▸ st) i (k ∷ p) h =
-    listed-if-in (ltb i (st .size)) (gather (width t) (λ k. listIf (st .allowed k i) (map (λ p. k ∷ p) (pathsTo t k)))) (lt-ltb i (st .size) (h .0))
-    (gather-in (width t) (λ k. listIf (st .allowed k i) (map (λ p. k ∷ p) (pathsTo t k))) k (path-below t k p (h .2))
-    (listed-if-in (st .allowed k i) (map (λ p. k ∷ p) (pathsTo t k)) (h .1) (Memᴰ·map (λ p. k ∷ p) (leads-listed t k p (h .2)))))
 
 -- each once
 once-append {ℓ} : {A : Type ℓ} (xs ys : List A) → EachOnce xs → EachOnce ys → ((x : A) → List·Memᴰ x xs → List·Memᴰ x ys → ⊥) → EachOnce (xs ++ ys)
@@ -115,32 +94,80 @@ same-head j k ls ms x a b =
     let v = Memᴰ·of-map (λ p. k ∷ p) ms b in
     head-eq-of-cons-eq (u .2 ∙ sym (v .2))
 
+-- ---- lists that begin with a node below K that passes a test, and go on as `rest` says: their members, each once, and how many
+module _ (K : ℕ) (p : ℕ → Bool) (rest : ℕ → List (List ℕ)) where
+  abbrev headed : ℕ → List (List ℕ)
+  headed k = listIf (p k) (map (λ is. k ∷ is) (rest k))
+
+  pub headed-in : (k : ℕ) (is : List ℕ) → k < K → p k ≡ true → List·Memᴰ is (rest k) → List·Memᴰ (k ∷ is) (gather K headed)
+  headed-in k is l e m = gather-in K headed k l (listed-if-in (p k) (map (λ is. k ∷ is) (rest k)) e (Memᴰ·map (λ is. k ∷ is) m))
+
+  pub record Headed (fs : List ℕ) : Type 0 where
+    pub node : ℕ
+    pub later : List ℕ
+    pub is : node ∷ later ≡ fs
+    pub below : node < K
+    pub passes : p node ≡ true
+    pub goes-on : List·Memᴰ later (rest node)
+
+  pub headed-of : (fs : List ℕ) → List·Memᴰ fs (gather K headed) → Headed fs
+  headed-of fs m =
+      let w = gather-of K headed m in
+      let u = listed-if-of (p (w .place)) (map (λ is. w .place ∷ is) (rest (w .place))) (w .there) in
+      let q = Memᴰ·of-map (λ is. w .place ∷ is) (rest (w .place)) (u .1) in
+      record { node = w .place; later = q .0; is = q .2; below = w .below; passes = u .0; goes-on = q .1 }
+
+  pub headed-once : ((k : ℕ) → EachOnce (rest k)) → EachOnce (gather K headed)
+  headed-once o =
+      once-gather K headed (λ k. once-if (p k) (map (λ is. k ∷ is) (rest k)) (once-map k (rest k) (o k)))
+      (λ j k x a b. same-head j k (rest j) (rest k) x
+      (listed-if-of (p j) (map (λ is. j ∷ is) (rest j)) a .1) (listed-if-of (p k) (map (λ is. k ∷ is) (rest k)) b .1))
+
+  pub headed-length : length (gather K headed) ≡ sumBelow K (λ k. oneIf (p k) * length (rest k))
+  headed-length =
+      length-gather K headed
+      ∙ sum-cong K (λ k. length (headed k)) (λ k. oneIf (p k) * length (rest k))
+      (λ k l. length-some (p k) (map (λ is. k ∷ is) (rest k)) ∙ ap (λ (x : ℕ). oneIf (p k) * x) (length-map (rest k) (λ is. k ∷ is)))
+
+-- every listed one is a path, and every path is listed
+pub listed-leads : (t : Trellis) (i : ℕ) (p : List ℕ) → List·Memᴰ p (pathsTo t i) → Leads t i p
+listed-leads (entry n s) i p m =
+    let w = listed-if-of (ltb i n && reached (s i)) ([] ∷ []) m in
+    let e = List·Memᴰ·eq-of-singleton (w .1) in
+    let v = and-both (ltb i n) (reached (s i)) (w .0) in
+    rw e (ltb-true i n (v .0), reached-some (s i) (v .1))
+listed-leads (t ▸ st) i p m =
+    let w = listed-if-of (ltb i (st .size)) (gather (width t) (λ k. listIf (st .allowed k i) (map (λ p. k ∷ p) (pathsTo t k)))) m in
+    let b : Headed (width t) (λ k. st .allowed k i) (pathsTo t) p = headed-of (width t) (λ k. st .allowed k i) (pathsTo t) p (w .1) in
+    rw (← b .is) (ltb-true i (st .size) (w .0), b .passes, listed-leads t (b .node) (b .later) (b .goes-on))
+
+pub leads-listed : (t : Trellis) (i : ℕ) (p : List ℕ) → Leads t i p → List·Memᴰ p (pathsTo t i)
+leads-listed (entry n s) i [] h =
+    listed-if-in (ltb i n && reached (s i)) ([] ∷ []) (both-and (ltb i n) (reached (s i)) (lt-ltb i n (h .0)) (ap reached (h .1 .1))) (List·Memᴰ·head refl)
+leads-listed (entry n s) i (k ∷ p) h = absurd h
+leads-listed (t ▸ st) i [] h = absurd h
+leads-listed (t ▸ st) i (k ∷ p) h =
+    listed-if-in (ltb i (st .size)) (gather (width t) (λ k. listIf (st .allowed k i) (map (λ p. k ∷ p) (pathsTo t k)))) (lt-ltb i (st .size) (h .0))
+    (headed-in (width t) (λ k. st .allowed k i) (pathsTo t) k p (path-below t k p (h .2)) (h .1) (leads-listed t k p (h .2)))
+
 pub paths-once : (t : Trellis) (i : ℕ) → EachOnce (pathsTo t i)
 paths-once (entry n s) i = once-if (ltb i n && reached (s i)) ([] ∷ []) (λ m. List·Memᴰ·not-nil m, tt)
 paths-once (t ▸ st) i =
     once-if (ltb i (st .size)) (gather (width t) (λ k. listIf (st .allowed k i) (map (λ p. k ∷ p) (pathsTo t k))))
-    (once-gather (width t) (λ k. listIf (st .allowed k i) (map (λ p. k ∷ p) (pathsTo t k)))
-    (λ k. once-if (st .allowed k i) (map (λ p. k ∷ p) (pathsTo t k)) (once-map k (pathsTo t k) (paths-once t k)))
-    (λ j k x a b. same-head j k (pathsTo t j) (pathsTo t k) x
-    (listed-if-of (st .allowed j i) (map (λ p. j ∷ p) (pathsTo t j)) a .1)
-    (listed-if-of (st .allowed k i) (map (λ p. k ∷ p) (pathsTo t k)) b .1)))
+    (headed-once (width t) (λ k. st .allowed k i) (pathsTo t) (λ k. paths-once t k))
 
--- each path once
+-- each path once, and every path is in the list of all
 pub all-once : (t : Trellis) → EachOnce (allPaths t)
-all-once t =
-    once-gather (width t) (λ i. map (λ p. i ∷ p) (pathsTo t i)) (λ i. once-map i (pathsTo t i) (paths-once t i))
-    (λ j k x a b. same-head j k (pathsTo t j) (pathsTo t k) x a b)
+all-once t = headed-once (width t) (λ i. true) (pathsTo t) (λ i. paths-once t i)
 
 pub path-listed : (t : Trellis) (p : List ℕ) → IsPath t p → List·Memᴰ p (allPaths t)
 path-listed t [] h = absurd h
-path-listed t (i ∷ p) h =
-    gather-in (width t) (λ i. map (λ p. i ∷ p) (pathsTo t i)) i (path-below t i p h) (Memᴰ·map (λ p. i ∷ p) (leads-listed t i p h))
+path-listed t (i ∷ p) h = headed-in (width t) (λ i. true) (pathsTo t) i p (path-below t i p h) refl (leads-listed t i p h)
 
 pub listed-path : (t : Trellis) (p : List ℕ) → List·Memᴰ p (allPaths t) → IsPath t p
 listed-path t p m =
-    let w = gather-of (width t) (λ i. map (λ p. i ∷ p) (pathsTo t i)) m in
-    let q = Memᴰ·of-map (λ p. w .place ∷ p) (pathsTo t (w .place)) (w .there) in
-    rw (← q .2) (listed-leads t (w .place) (q .0) (q .1))
+    let b : Headed (width t) (λ i. true) (pathsTo t) p = headed-of (width t) (λ i. true) (pathsTo t) p m in
+    rw (← b .is) (listed-leads t (b .node) (b .later) (b .goes-on))
 
 -- `endsPath` says whether a path ends in the node
 some-first : (l : List (List ℕ)) → hasMember l ≡ true → (p : List ℕ) × List·Memᴰ p l
