@@ -158,7 +158,7 @@ module _ (g h : Hop) (k i f Y : ℕ) (e : f ≡ referenceInto g h k) (y : Y ≡ 
   hold-counted = gap-counted Y (h .frames) f i (from-within .0) (from-within .1) l ∙ rw (e, y)
 
 -- a sum over the frames of a link by their gaps is a sum over all gaps
-gap-sum : (K a : ℕ) (G : ℕ → ℕ) → a < K → sumBelow K (λ i. G (gap K a i)) ≡ sumBelow K G
+pub gap-sum : (K a : ℕ) (G : ℕ → ℕ) → a < K → sumBelow K (λ i. G (gap K a i)) ≡ sumBelow K G
 gap-sum K a G h = subst (λ (n : ℕ). sumBelow n (λ i. G (gap K a i)) ≡ sumBelow n G) whole both
   where
     b : ℕ

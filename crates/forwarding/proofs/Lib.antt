@@ -7,4 +7,6 @@ pub mod ByHops
 pub mod Counted
 pub mod Bounds
 pub mod Answers
+pub mod Windows
+pub mod Ways
 pub mod Starred

@@ -6,4 +6,5 @@ pub mod Cycles
 pub mod Route
 pub mod LeastDelay
 pub mod QuestionFour
+pub mod Ways
 pub mod Inner

@@ -1,0 +1,75 @@
+-- W-203, "How many ways through": the list of all schedules of a route, and how many they are. Assumes nothing.
+use mathlib.Core.Path.{_≡_}
+use mathlib.Core.Bool.{true}
+use mathlib.Core.List.{List, [], _∷_, map, List·Memᴰ}
+use mathlib.Core.Logic.{_↔_}
+use Prim.Native.Nat.{ℕ, _*_, _^_, _<_, _≤_}
+use lib.ListN.{length}
+use Rattle.lists.specs.Once.{EachOnce}
+use Rattle.trellis.specs.Paths.{listIf, gather}
+use Rattle.trellis.specs.Answer.{blocked}
+use Rattle.forwarding.specs.declared.Hop.{Hop}
+use Rattle.forwarding.specs.Forwarding.{isFree, isAllowed, choices}
+use Rattle.forwarding.specs.Hops.{AllReady}
+use Rattle.forwarding.specs.Schedule.{IsSchedule}
+use Rattle.forwarding.specs.Route.{routeAnswer}
+use Rattle.forwarding.specs.QuestionFour.{Case, starred}
+
+-- `gather K` puts the lists of the frames below K one after the other, and `listIf` leaves out those of a frame that fails its test
+
+-- all ways on from frame k of the hop g, each as its frames: "an allowed transition into each later hop", to a frame of it
+abbrev pub waysOn : Hop → ℕ → List Hop → List (List ℕ)
+waysOn g k [] = [] ∷ []
+waysOn g k (h ∷ hs) = gather (h .frames) (λ i. listIf (isAllowed g h k i) (map (λ is. i ∷ is) (waysOn h i hs)))
+
+-- THE LIST OF ALL SCHEDULES of a route: "a free frame at hop 0", and all ways on from it
+unfoldable pub schedules : List Hop → List (List ℕ)
+schedules [] = []
+schedules (h ∷ hs) = gather (h .frames) (λ k. listIf (isFree h k) (map (λ is. k ∷ is) (waysOn h k hs)))
+
+-- A LIST OF FRAMES STANDS IN IT EXACTLY WHEN IT IS A SCHEDULE, whatever the numbers of frames
+abbrev pub SchedulesListed : Type 0
+SchedulesListed = (hops : List Hop) (fs : List ℕ) → List·Memᴰ fs (schedules hops) ↔ IsSchedule hops fs
+
+-- "each once"
+abbrev pub SchedulesOnce : Type 0
+SchedulesOnce = (hops : List Hop) → EachOnce (schedules hops)
+
+-- THE NUMBER OF WAYS: "the exact number of schedules over a route in the frames now free", the length of that list
+unfoldable pub routeWays : List Hop → ℕ
+routeWays hops = length (schedules hops)
+
+-- AND OF EVERY OTHER LIST that has each schedule once and nothing else
+abbrev pub WaysOnly : Type 0
+WaysOnly = (hops : List Hop) (list : List (List ℕ)) → EachOnce list → ((fs : List ℕ) → List·Memᴰ fs list ↔ IsSchedule hops fs) → length list ≡ routeWays hops
+
+-- "The count is 0 exactly when a quote is refused as blocked", of the answer over the same hops
+abbrev pub WaysBlocked : Type 0
+WaysBlocked = (T : ℕ) (hops : List Hop) → (routeWays hops ≡ 0) ↔ ((n : ℕ) × (routeAnswer T hops ≡ blocked n))
+
+-- "no frame on it is closed or held": each frame of each hop is free
+abbrev pub AllFree : List Hop → Type 0
+AllFree [] = Unit {0}
+AllFree (h ∷ hs) = ((i : ℕ) → i < h .frames → isFree h i ≡ true) × AllFree hs
+
+-- "the product of the later Z": as many holds as Z (`ChoicesAreZ`)
+abbrev pub laterChoices : List Hop → ℕ
+laterChoices [] = 1
+laterChoices (h ∷ hs) = choices h * laterChoices hs
+
+-- "K of hop 0 times the product of the later Z"
+abbrev pub openWays : List Hop → ℕ
+openWays [] = 0
+openWays (h ∷ hs) = h .frames * laterChoices hs
+
+-- "Where no frame on it is closed or held this equals K of hop 0 times the product of the later Z"
+abbrev pub WaysOpen : Type 0
+WaysOpen = (T : ℕ) (hops : List Hop) → AllReady T hops → AllFree hops → routeWays hops ≡ openWays hops
+
+-- "The largest number is 64 to the power 8", for a route of at most 8 links
+abbrev pub WaysMost : Type 0
+WaysMost = (T : ℕ) (hops : List Hop) → length hops ≤ 8 → AllReady T hops → routeWays hops ≤ 64 ^ 8
+
+-- the ways of the starred routes of question four, row by row, counted by hand
+abbrev pub StarredWays : Type 0
+StarredWays = map (λ (c : Case). routeWays (c .route)) starred ≡ 8 ∷ 0 ∷ 16 ∷ 1 ∷ 0 ∷ 0 ∷ 1 ∷ 2 ∷ 1 ∷ 2 ∷ 0 ∷ 1 ∷ 1 ∷ 0 ∷ 2 ∷ []
