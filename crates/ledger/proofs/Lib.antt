@@ -15,3 +15,4 @@ pub mod Whole
 pub mod Quoted
 pub mod Freeing
 pub mod Scheduled
+pub mod Ways

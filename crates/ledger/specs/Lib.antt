@@ -5,5 +5,6 @@ pub mod Inner
 pub mod Routes
 pub mod Sound
 pub mod Calls
+pub mod Ways
 pub mod Ledger
 pub mod Demand
