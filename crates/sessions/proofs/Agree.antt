@@ -6,6 +6,7 @@ use Rattle.refusals.specs.declared.Refusal.{Refusal}
 use Rattle.refusals.proofs.Refusals.{refusal-only}
 use Rattle.ledger.specs.Sessions.{View}
 use Rattle.ledger.specs.Calls.{Call, Quote, Reply, schedule, freed, refusal, reply, next, lookup, freeCount}
+use Rattle.ledger.specs.Ways.{waysOf}
 use Rattle.ledger.specs.Ledger.{AnsweredCall, did, callOf}
 use Rattle.ledger.specs.Demand.{Runs, over, callThen}
 use Rattle.ledger.proofs.Quoted.{quote-depends}
@@ -13,9 +14,10 @@ use Rattle.state.specs.declared.Quoted.{Quoted}
 use Rattle.state.specs.State.{viewOf, notQuoted, Quotes}
 use Rattle.state.proofs.Replies.{quotes-back}
 use Rattle.sessions.specs.Calls.{Tells, shownOf, notShown, countedOf, notCounted}
+use Rattle.sessions.specs.Ways.{numberedOf, notNumbered}
 use Rattle.sessions.specs.Stored.{ArrangementFree, StoredQuoteDepends}
 use Rattle.sessions.proofs.Stored.{stored-by-rules, number-tells}
-use Rattle.sessions.proofs.Meets.{Named, lookup-named, count-named}
+use Rattle.sessions.proofs.Meets.{Named, lookup-named, count-named, ways-named}
 
 -- ---- two answers to one outcome are the same
 tells-same : {A B : Type 0} (of : A → B) (not : Refusal → B) (o : Outcome A) → Named o → (a b : B) → Tells of not o a → Tells of not o b → a ≡ b
@@ -48,6 +50,9 @@ arrangement-free st other e =
       counts = λ l r q a b.
           tells-same countedOf notCounted (freeCount (viewOf st) l) (count-named (viewOf st) l) (r .counted) (q .counted) (a .counted)
           (subst (λ (v : View). Tells countedOf notCounted (freeCount v l) (q .counted)) (sym e) (b .counted));
+      ways = λ route r q a b.
+          tells-same numberedOf notNumbered (waysOf (viewOf st) route) (ways-named (viewOf st) route) (r .numbered) (q .numbered) (a .numbered)
+          (subst (λ (v : View). Tells numberedOf notNumbered (waysOf v route) (q .numbered)) (sym e) (b .numbered));
       lists = λ steps others last end a b.
           runs-same (stored-by-rules st last steps a)
           (subst (λ (v : View). Runs v others (viewOf end)) (sym e) (stored-by-rules other end others b));

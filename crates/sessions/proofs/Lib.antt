@@ -1,5 +1,7 @@
 pub mod First
 pub mod Showing
+pub mod Surveying
+pub mod Counting
 pub mod Beginning
 pub mod Beside
 pub mod Stored

@@ -23,6 +23,7 @@ use Rattle.network.specs.Checks.{badCount, badCycle, badFrames, badRange, badCl
 use Rattle.network.specs.declared.Link.{Link}
 use Rattle.forwarding.specs.declared.Hop.{Hop}
 use Rattle.forwarding.specs.Route.{routeAnswer}
+use Rattle.forwarding.specs.Ways.{routeWays}
 use Rattle.words.specs.Word.{freeFrames}
 use Rattle.ledger.specs.Lists.{allOf}
 use Rattle.ledger.specs.Held.{Holding, heldOver, heldPlaces}
@@ -30,6 +31,7 @@ use Rattle.ledger.specs.Sessions.{Session, View, isLive, linkAt, freeOf, hopsOf
 use Rattle.ledger.specs.Routes.{badLength, unknown, unknownLink, linkTwice, ratesOf, ratesApart, routeCheck}
 use Rattle.ledger.specs.Sound.{goodSession, intact, brokenCheck}
 use Rattle.ledger.specs.Calls.{Call, SetUp, Quote, Release, Reply, freed, refusal, replyOf, answerOver, unless, full, callCheck, granted, reply, Effect, enters, strikes, leaves, effect, liveAfter, left, next, lookIn, lookup, freeCount}
+use Rattle.ledger.specs.Ways.{waysOf}
 use Rattle.ledger.specs.Ledger.{did}
 use Rattle.ledger.specs.Demand.{fresh}
 use Rattle.ledger.proofs.Intact.{Intact, GoodSession, session-good, intact-is, fresh-intact}
@@ -46,7 +48,9 @@ use Rattle.state.specs.declared.Served.{Served}
 use Rattle.state.specs.State.{viewOf, freshState, quotedOf, notQuoted, Quotes, releasedIn, Leaves, Serves}
 use Rattle.state.proofs.Replies.{refusal-leaves, stays, moves}
 use Rattle.sessions.specs.Calls.{begunOn, Tells, shownOf, notShown, countedOf, notCounted}
+use Rattle.sessions.specs.Ways.{numberedOf, notNumbered}
 use Rattle.sessions.specs.Stored.{StoredRun, over, set-up, quote, release, ContractsMet, BeginMet, StoredSteps, EveryListStored}
+use Rattle.sessions.proofs.Surveying.{told-bounded}
 
 -- ---- what a check refuses with has its refusal, and isn't 18
 abbrev pub Named : {A : Type 0} → Outcome A → Type 0
@@ -138,6 +142,10 @@ module _ (v : View) where
   unfolding reply
   quoted-for call w = quoted-unless (checks call) (granted (v .network) (v .live) call) (checks-named call) w
 
+  pub ways-named : (route : List ℕ) → Named (waysOf v route)
+  unfolding waysOf
+  ways-named route = named-or (checks (Quote route)) (given (routeWays (hopsOf (v .network) (v .live) route))) (checks-named (Quote route)) tt
+
   set-up-quoted : (n : ℕ) (route : List ℕ) → (q : Quoted) × Quotes (reply v (SetUp n route)) q
   unfolding granted
   set-up-quoted n route = quoted-for (SetUp n route) (quoted-over (v .network .ticks) (hopsOf (v .network) (v .live) route))
@@ -219,6 +227,9 @@ contracts-met st =
       free-frames = λ l.
           let q = told-for countedOf notCounted (freeCount (viewOf st) l) (count-named (viewOf st) l) in
           (record { counted = q .0; state = st }, record { counted = q .1; same = refl });
+      ways = λ route.
+          let q = told-for numberedOf notNumbered (waysOf (viewOf st) route) (ways-named (viewOf st) route) in
+          (record { numbered = q .0; state = st }, record { numbered = q .1; most = told-bounded (viewOf st) route (q .0) (q .1); same = refl });
     }
 
 -- ---- `begin`

@@ -23,8 +23,10 @@ use Rattle.state.specs.State.{viewOf, quotedIn, releasedIn, Serves, Releases}
 use Rattle.sessions.specs.declared.Begun.{Begun}
 use Rattle.sessions.specs.declared.Looked.{Looked}
 use Rattle.sessions.specs.declared.Tallied.{Tallied}
+use Rattle.sessions.specs.declared.Surveyed.{Surveyed}
 use Rattle.sessions.specs.Calls.{Begins, shownOf, notShown, Looks, Tallies}
 use Rattle.sessions.specs.Cycles.{CyclesBeside}
+use Rattle.sessions.specs.Ways.{Surveys}
 
 -- a list of calls on stored states, each call meeting its contract on the state that the one before it returned: "After a refused call too, the
 -- next gets the state that was returned"; the steps are the calls with their answers, as the program gave them
@@ -73,6 +75,7 @@ pub record CanBeMet (st : State) : Type 0 where
   pub release : (number : ℕ) → (r : Released) × Releases st number r
   pub lookup : (number : ℕ) → (r : Looked) × Looks st number r
   pub free-frames : (link : ℕ) → (r : Tallied) × Tallies st link r
+  pub ways : (route : List ℕ) → (r : Surveyed) × Surveys st route r
 
 abbrev pub ContractsMet : Type 0
 ContractsMet = (st : State) → CanBeMet st
@@ -92,10 +95,11 @@ pub record StoredSteps (st : State) (calls : List Call) : Type 0 where
 abbrev pub EveryListStored : Type 0
 EveryListStored = (st : State) (calls : List Call) → StoredSteps st calls
 
--- two stored states agree: lookup and the free frames answer the same on both, and so does every list of calls, whose last states show the same
+-- two stored states agree: lookup, the free frames and the number of ways answer the same on both, and so does every list of calls, whose last states show the same
 pub record Agree (st other : State) : Type 0 where
   pub lookups : (n : ℕ) (r q : Looked) → Looks st n r → Looks other n q → r .shown ≡ q .shown
   pub counts : (l : ℕ) (r q : Tallied) → Tallies st l r → Tallies other l q → r .counted ≡ q .counted
+  pub ways : (route : List ℕ) (r q : Surveyed) → Surveys st route r → Surveys other route q → r .numbered ≡ q .numbered
   pub lists : (steps others : List AnsweredCall) (last end : State) → StoredRun st steps last → StoredRun other others end
       → map callOf steps ≡ map callOf others → (steps ≡ others) × (viewOf last ≡ viewOf end)
 

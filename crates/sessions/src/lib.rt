@@ -11,13 +11,15 @@ use state::Served;
 use state::State;
 use table::Place;
 ghost use mathlib.Core.Path.{_≡_};
-ghost use mathlib.Core.Bool.{false};
+ghost use mathlib.Core.Bool.{true, false};
 ghost use Prim.Native.Nat.{_≤_};
 ghost use Rattle.ledger.specs.Sound.{intact};
 ghost use Rattle.ledger.specs.Calls.{Call, SetUp, Quote};
+ghost use Rattle.ledger.specs.Ways.{waysOf};
 ghost use Rattle.table.specs.Table.{sessionOf};
 ghost use Rattle.state.specs.State.{viewOf, Serves, Releases};
-ghost use Rattle.sessions.specs.Calls.{shutNetwork, Begins, shownOf, notShown, Looks, notCounted, Tallies};
+ghost use Rattle.sessions.specs.Calls.{shutNetwork, Begins, Tells, shownOf, notShown, Looks, notCounted, Tallies};
+ghost use Rattle.sessions.specs.Ways.{numberedOf, notNumbered, Surveys};
 
 // What `begin` answers: the verdict of the network's checks, and a state that holds no sessions.
 pub struct Begun {
@@ -48,6 +50,18 @@ pub struct Counted {
 // The number of free frames of a link, and the state, which is the same.
 pub struct Tallied {
     pub counted: Counted,
+    pub state: State,
+}
+
+// The number of ways through a route, 0 where it is refused.
+pub struct Numbered {
+    pub verdict: Verdict,
+    pub ways: u64,
+}
+
+// The number of ways through a route, and the state, which is the same.
+pub struct Surveyed {
+    pub numbered: Numbered,
     pub state: State,
 }
 
@@ -227,4 +241,47 @@ pub fn free_frames(st: State, link: u8) -> Tallied
         count: words::free_frames(of.frames, of.closed, held[at]),
     };
     Tallied { counted, state: st }
+}
+
+// A number of ways that is refused.
+fn not_numbered(refusal: Refusal) -> Numbered
+    ensures { λ r. ⌜ r ≡ notNumbered refusal ⌝ }
+{
+    Numbered {
+        verdict: Verdict::Refused(refusal),
+        ways: 0,
+    }
+}
+
+// The number of ways where check 0 has passed: the quote's other checks, and the schedules over the frames now free, counted.
+fn count_ways(st: State, route: &[u8]) -> Numbered
+    requires { ⌜ intact (viewOf st) ≡ true ⌝ }
+    ensures { λ r. ⌜ Tells numberedOf notNumbered (waysOf (viewOf st) (now (route .entry))) r ⌝ }
+{
+    match routes::check_route(st.network, route) {
+        Verdict::Refused(refusal) => return not_numbered(refusal),
+        Verdict::Passed => {}
+    }
+    let hops = state::free_hops(st.network, st.table, route);
+    Numbered {
+        verdict: Verdict::Passed,
+        ways: ways::number_over(hops, route.len()),
+    }
+}
+
+// How many ways through: the number of schedules over the route in the frames now free, nothing held. Refuses with 0 or 12 to 15, as a quote does; where that is
+// blocked the number is 0.
+pub fn number_of_ways(st: State, route: &[u8]) -> Surveyed
+    ensures { λ r. ⌜ Surveys st (now (route .entry)) r ⌝ }
+{
+    if state_check::broken(st) {
+        return Surveyed {
+            numbered: not_numbered(Refusal::BrokenState),
+            state: st,
+        };
+    }
+    Surveyed {
+        numbered: count_ways(st, route),
+        state: st,
+    }
 }

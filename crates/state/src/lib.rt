@@ -98,7 +98,7 @@ pub fn refused(refusal: Refusal) -> Quoted
 }
 
 // The hops of a route that passed its checks, over the frames now free.
-fn free_hops(network: Network, table: Table, route: &[u8]) -> [Hop; 8]
+pub fn free_hops(network: Network, table: Table, route: &[u8]) -> [Hop; 8]
     requires { ⌜ (networkCheck (topologyOf network) ≡ given pass) × (routeCheck (topologyOf network) (now route) ≡ given pass) × AllWithin table ⌝ }
     ensures { λ r. ⌜ r ≡ firsts 8 (hopsOf (topologyOf network) (liveOf table) (now (route .entry))) noHop ⌝ }
 {

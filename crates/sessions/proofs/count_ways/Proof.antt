@@ -1,0 +1,52 @@
+-- `sessions::count_ways` meets its contract. Assumes nothing.
+use borrow.Author.Needs.{needs}
+use Rattle.sessions.proofs.count_ways.Statement.{statement}
+use Rattle.sessions.proofs.count_ways.Tie as tie
+use mathlib.Core.Path.{sym, ap, _∙_}
+use Rattle.refusals.specs.Refusals.{ruling}
+use Rattle.ledger.proofs.Intact.{intact-is}
+use Rattle.table.specs.Table.{liveOf}
+use Rattle.state.proofs.Within.{all-within}
+use Rattle.state.proofs.Searches.{hops-ready}
+use Rattle.sessions.proofs.Counting.{check-answers, number-answers}
+
+check-route-requires : tie.Need-check-route-requires
+check-route-requires c κs = intact-is _ (c .before .pre) .network
+
+enum-known-refusal : tie.Need-enum-known-refusal
+enum-known-refusal c = search needs
+
+not-numbered-requires : tie.Need-not-numbered-requires
+not-numbered-requires c κs = search needs
+
+returns : tie.Need-returns
+returns c = let start = c .before .before .before .before .before .before in
+    check-answers (start .args .st) _ (start .pre) _ (c .before .before .before .before .check-route .ensures) _ (c .before .before .refusal .given .1) _ (c .not-numbered .ensures)
+
+enum-told : tie.Need-enum-told
+enum-told c = search needs
+
+free-hops-requires : tie.Need-free-hops-requires
+free-hops-requires c κs = let start = c .before .before .before .before in
+    (intact-is _ (start .pre) .network, sym (c .before .before .check-route .ensures) ∙ ap ruling (c .enum-told .given .1), all-within (start .args .st) (start .pre))
+
+number-over-requires : tie.Need-number-over-requires
+number-over-requires c κs = let start = c .before .before .before .before .before in
+    (_, hops-ready _ (liveOf (start .args .st .table)) _ (intact-is _ (start .pre) .network) (sym (c .before .before .before .check-route .ensures) ∙ ap ruling (c .before .enum-told .given .1)) _ (c .free-hops .ensures))
+
+returns-2 : tie.Need-returns-2
+returns-2 c = let start = c .before .before .before .before .before .before in
+    number-answers (start .args .st) _ (start .pre) _ (c .before .before .before .before .check-route .ensures) (c .before .before .enum-told .given .1) _ (c .before .free-hops .ensures) _ (c .number-over .ensures)
+
+pub count-ways-spec : {M : Type 1} → statement M
+count-ways-spec =
+    tie.close
+    (tie.spec
+    check-route-requires
+    enum-known-refusal
+    not-numbered-requires
+    returns
+    enum-told
+    free-hops-requires
+    number-over-requires
+    returns-2)
