@@ -3,3 +3,4 @@ pub mod Shows
 pub mod Sizes
 pub mod Numbers
 pub mod Values
+pub mod Ways

@@ -79,7 +79,7 @@ module _ (file calls : List ℕ) (l : Loaded) (reads : Reads (readNetwork file) 
   after-refused r e = file-refused file l reads r e (λ net. given (viewAfterAll (fresh net) (callsIn (counted calls))))
 
   module _ (bytes : IsBytes file) (e : l .verdict ≡ Passed) (st : State) (b : Becomes (l .network) (viewAfterAll (fresh (topologyOf (l .network))) (callsIn (counted calls))) st) where
-    after-is : stateAfter file calls ≡ given (viewOf st)
+    pub after-is : stateAfter file calls ≡ given (viewOf st)
     unfolding stateAfter
     after-is = file-passed file l reads bytes e (λ net. given (viewAfterAll (fresh net) (callsIn (counted calls)))) ∙ ap given (sym (b .view))
 

@@ -1,10 +1,10 @@
 -- How long what is written is at most, how large a count, and which buffers always serve. Assumes nothing.
 use mathlib.Core.Path.{_≡_, refl, ap}
 use mathlib.Core.Bool.{Bool, true, false}
-use mathlib.Core.List.{List, _++_}
-use Prim.Native.Nat.{ℕ, _<_, _≤_}
+use mathlib.Core.List.{List, [], _∷_, _++_}
+use Prim.Native.Nat.{ℕ, _^_, _<_, _≤_}
 use native.Mathlib.Omega.{arith}
-use lib.ListN.{length, length-append}
+use lib.ListN.{length, getD, length-append}
 use lib.Dec.{ltb}
 use borrow.Author.Tests.{le-ltb, ltb-true}
 use Rattle.lists.specs.Count.{countBelow}
@@ -23,6 +23,7 @@ use Rattle.ledger.specs.Sessions.{Session, View, linkAt, freeOf}
 use Rattle.ledger.specs.Routes.{unknown}
 use Rattle.ledger.specs.Sound.{intact, brokenCheck}
 use Rattle.ledger.specs.Calls.{lookup, freeCount}
+use Rattle.ledger.specs.Ways.{waysOf}
 use Rattle.ledger.specs.Demand.{fresh}
 use Rattle.ledger.proofs.Intact.{intact-is, frame-each, cycle-each}
 use Rattle.ledger.proofs.Shown.{shown-good}
@@ -30,12 +31,13 @@ use Rattle.call_records.specs.Records.{callsIn, counted}
 use Rattle.call_records.specs.Served.{viewAfterAll}
 use Rattle.routes.proofs.Tests.{known-passed}
 use Rattle.routes.proofs.Links.{link-passed}
+use Rattle.sessions.proofs.Surveying.{ways-bounded}
 use Rattle.report.specs.Transcript.{transcript}
 use Rattle.report.specs.Reports.{textBound, reported}
 use Rattle.report.proofs.Bound.{text-bound}
-use Rattle.report.proofs.Numbers.{file-number, network-number, lookup-number}
+use Rattle.report.proofs.Numbers.{file-number, network-number, lookup-number, ways-number}
 use Rattle.report.proofs.Whole.{bound-most}
-use Rattle.exports.specs.Exported.{stateAfter, sessionNumbers, lookupAfter, freeAfter, writtenAgain, linksFrom, writtenOf, AnswersSized, ValuesSized}
+use Rattle.exports.specs.Exported.{stateAfter, sessionNumbers, lookupAfter, freeAfter, waysAfter, writtenAgain, linksFrom, writtenOf, AnswersSized, ValuesSized}
 use Rattle.exports.proofs.Answers.{after-intact}
 use Rattle.exports.proofs.Shows.{few-hops}
 
@@ -96,34 +98,17 @@ module _ (file : List ℕ) (room : ℕ) where
           omega (arith, is, file-number file n q)
 
 -- ---- a session
-module _ (v : View) (number room : ℕ) where
-  numbers-few : (s : Session) → lookup v number ≡ given s → length (sessionNumbers s) ≤ 26
-  numbers-few s q =
-      let good = shown-good v number s q in
-      omega (
-        arith,
-        few-hops v number s q,
-        frame-each (v .network) s good,
-        cycle-each (v .network) s good,
-        length-append (s .route) (s .held .frames ++ s .held .cycles),
-        length-append (s .held .frames) (s .held .cycles),
-      )
-
-  shown-sized : (x : List ℕ) → onGiven (lookup v number) (λ s. inRoom (length (sessionNumbers s)) room (sessionNumbers s)) ≡ given x → length x ≤ 26
-  shown-sized x e = go (lookup v number) refl e
-    where
-      go : (o : Outcome Session) → lookup v number ≡ o → onGiven o (λ s. inRoom (length (sessionNumbers s)) room (sessionNumbers s)) ≡ given x → length x ≤ 26
-      go (refused n) q f = let z : _≡_ {A = ℕ} 0 1 = cc in omega arith
-      go (given s) q f = omega (arith, numbers-few s q, ap length (room-gives (ltb room (length (sessionNumbers s))) (sessionNumbers s) x f))
-
-  shown-served : 26 ≤ room → onGiven (lookup v number) (λ s. inRoom (length (sessionNumbers s)) room (sessionNumbers s)) ≡ refused 20 → ⊥
-  shown-served h e = go (lookup v number) refl e
-    where
-      go : (o : Outcome Session) → lookup v number ≡ o → onGiven o (λ s. inRoom (length (sessionNumbers s)) room (sessionNumbers s)) ≡ refused 20 → ⊥
-      go (refused n) q f =
-          let is : n ≡ 20 = cc in
-          omega (arith, is, lookup-number v number n q)
-      go (given s) q f = omega (arith, numbers-few s q, room-short (length (sessionNumbers s)) room (sessionNumbers s) f, h)
+numbers-few : (v : View) (number : ℕ) (s : Session) → lookup v number ≡ given s → length (sessionNumbers s) ≤ 26
+numbers-few v number s q =
+    let good = shown-good v number s q in
+    omega (
+      arith,
+      few-hops v number s q,
+      frame-each (v .network) s good,
+      cycle-each (v .network) s good,
+      length-append (s .route) (s .held .frames ++ s .held .cycles),
+      length-append (s .held .frames) (s .held .cycles),
+    )
 
 free-few : (v : View) (link n : ℕ) → intact v ≡ true → freeCount v link ≡ given n → n ≤ 64
 unfolding freeCount freeFrames
@@ -152,23 +137,50 @@ module _ (file calls : List ℕ) (bytes : IsBytes file) where
           let is : k ≡ n = cc in
           omega (arith, is, file-number file k q)
 
+  -- what is put into a buffer of what a call on it gives, by its numbers
+  module _ {A : Type 0} (call : View → Outcome A) (numbers : A → List ℕ) (room : ℕ) where
+    abbrev put : View → Outcome (List ℕ)
+    put v = onGiven (call v) (λ a. inRoom (length (numbers a)) room (numbers a))
+
+    record Gives (x : List ℕ) : Type 0 where
+      pub view : View
+      pub what : A
+      pub is : call view ≡ given what
+      pub puts : numbers what ≡ x
+
+    put-given : (x : List ℕ) → onGiven (stateAfter file calls) put ≡ given x → Gives x
+    put-given x e = go (stateAfter file calls) e
+      where
+        at : (v : View) (o : Outcome A) → call v ≡ o → onGiven o (λ a. inRoom (length (numbers a)) room (numbers a)) ≡ given x → Gives x
+        at v (given a) q f = record { view = v; what = a; is = q; puts = room-gives (ltb room (length (numbers a))) (numbers a) x f }
+        at v (refused n) q f = let z : _≡_ {A = ℕ} 0 1 = cc in absurd (omega arith)
+
+        go : (o : Outcome View) → onGiven o put ≡ given x → Gives x
+        go (given v) f = at v (call v) refl f
+        go (refused n) f = let z : _≡_ {A = ℕ} 0 1 = cc in absurd (omega arith)
+
+    put-served : (most : ℕ) → ((v : View) (a : A) → call v ≡ given a → length (numbers a) ≤ most) → ((v : View) (n : ℕ) → call v ≡ refused n → n ≤ 19)
+        → most ≤ room → onGiven (stateAfter file calls) put ≡ refused 20 → ⊥
+    put-served most few plain h e = go (stateAfter file calls) refl e
+      where
+        at : (v : View) (o : Outcome A) → call v ≡ o → onGiven o (λ a. inRoom (length (numbers a)) room (numbers a)) ≡ refused 20 → ⊥
+        at v (given a) q f = omega (arith, few v a q, room-short (length (numbers a)) room (numbers a) f, h)
+        at v (refused n) q f = let is : n ≡ 20 = cc in omega (arith, is, plain v n q)
+
+        go : (o : Outcome View) → stateAfter file calls ≡ o → onGiven o put ≡ refused 20 → ⊥
+        go (given v) q f = at v (call v) refl f
+        go (refused n) q f = let is : n ≡ 20 = cc in omega (arith, is, after-number n q)
+
   session-sized : (number room : ℕ) (x : List ℕ) → lookupAfter file calls number room ≡ given x → length x ≤ 26
   unfolding lookupAfter
-  session-sized number room x e = go (stateAfter file calls) e
-    where
-      go : (o : Outcome View) → onGiven o (λ v. onGiven (lookup v number) (λ s. inRoom (length (sessionNumbers s)) room (sessionNumbers s))) ≡ given x → length x ≤ 26
-      go (given v) f = shown-sized v number room x f
-      go (refused n) f = let z : _≡_ {A = ℕ} 0 1 = cc in omega arith
+  session-sized number room x e =
+      let g = put-given (λ v. lookup v number) sessionNumbers room x e in
+      omega (arith, numbers-few (g .view) number (g .what) (g .is), ap length (g .puts))
 
   session-served : (number room : ℕ) → 26 ≤ room → lookupAfter file calls number room ≡ refused 20 → ⊥
   unfolding lookupAfter
-  session-served number room h e = go (stateAfter file calls) refl e
-    where
-      go : (o : Outcome View) → stateAfter file calls ≡ o → onGiven o (λ v. onGiven (lookup v number) (λ s. inRoom (length (sessionNumbers s)) room (sessionNumbers s))) ≡ refused 20 → ⊥
-      go (given v) q f = shown-served v number room h f
-      go (refused n) q f =
-          let is : n ≡ 20 = cc in
-          omega (arith, is, after-number n q)
+  session-served number room h e =
+      put-served (λ v. lookup v number) sessionNumbers room 26 (λ v. numbers-few v number) (λ v. lookup-number v number) h e
 
   free-sized : (link n : ℕ) → freeAfter file calls link ≡ given n → n ≤ 64
   unfolding freeAfter
@@ -177,6 +189,16 @@ module _ (file calls : List ℕ) (bytes : IsBytes file) where
       go : (o : Outcome View) → stateAfter file calls ≡ o → onGiven o (λ v. freeCount v link) ≡ given n → n ≤ 64
       go (given v) q f = free-few v link n (after-intact file calls bytes v q) f
       go (refused k) q f = let z : _≡_ {A = ℕ} 0 1 = cc in omega arith
+
+  ways-sized : (route : List ℕ) (room : ℕ) (x : List ℕ) → waysAfter file calls route room ≡ given x → (length x ≡ 1) × (getD x 0 0 ≤ 64 ^ 8)
+  unfolding waysAfter
+  ways-sized route room x e =
+      let g = put-given (λ v. waysOf v route) (λ n. n ∷ []) room x e in
+      rw (← g .puts) (refl, ways-bounded (g .view) route (g .what) (g .is))
+
+  ways-served : (route : List ℕ) (room : ℕ) → 1 ≤ room → waysAfter file calls route room ≡ refused 20 → ⊥
+  unfolding waysAfter
+  ways-served route room h e = put-served (λ v. waysOf v route) (λ n. n ∷ []) room 1 (λ v n q. omega arith) (λ v. ways-number v route) h e
 
   text-sized : (room : ℕ) (x : List ℕ) → reported file calls room ≡ given x → length x ≤ 720918
   unfolding reported
@@ -194,6 +216,8 @@ answers-sized file calls bytes = record {
   session = session-sized file calls bytes;
   sessionServed = session-served file calls bytes;
   free = free-sized file calls bytes;
+  ways = ways-sized file calls bytes;
+  waysServed = ways-served file calls bytes;
   again = again-sized file;
   againServed = again-served file;
 }

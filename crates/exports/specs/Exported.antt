@@ -2,8 +2,8 @@
 use mathlib.Core.Path.{_≡_}
 use mathlib.Core.Bool.{true}
 use mathlib.Core.List.{List, [], _∷_, _++_, map}
-use Prim.Native.Nat.{ℕ, _+_, _≤_}
-use lib.ListN.{length}
+use Prim.Native.Nat.{ℕ, _+_, _^_, _≤_}
+use lib.ListN.{length, getD}
 use Rattle.refusals.specs.Refusals.{Outcome, given, refused, onGiven}
 use Rattle.numbers.specs.Numbers.{IsBytes}
 use Rattle.network.specs.Network.{Topology}
@@ -14,6 +14,7 @@ use Rattle.network_file.specs.Writing.{writeNetwork}
 use Rattle.ledger.specs.Sessions.{Session, View}
 use Rattle.ledger.specs.Sound.{intact}
 use Rattle.ledger.specs.Calls.{lookup, freeCount}
+use Rattle.ledger.specs.Ways.{waysOf}
 use Rattle.ledger.specs.Ledger.{AnsweredCall, callOf}
 use Rattle.ledger.specs.Demand.{fresh, Demand3}
 use Rattle.call_records.specs.Records.{callsIn, counted}
@@ -63,6 +64,10 @@ lookupAfter file calls number room =
 unfoldable pub freeAfter : List ℕ → List ℕ → ℕ → Outcome ℕ
 freeAfter file calls link = onGiven (stateAfter file calls) (λ v. freeCount v link)
 
+-- THE NUMBER OF WAYS of a route on the state after call records, into a buffer of so many numbers; it is one number, and can be larger than a refusal's answer
+unfoldable pub waysAfter : List ℕ → List ℕ → List ℕ → ℕ → Outcome (List ℕ)
+waysAfter file calls route room = onGiven (stateAfter file calls) (λ v. onGiven (waysOf v route) (λ n. inRoom 1 room (n ∷ [])))
+
 -- WHAT A FILE SAYS, WRITTEN AGAIN into a buffer of so many bytes: the refusal of the file, or what the writer writes
 unfoldable pub writtenAgain : List ℕ → ℕ → Outcome (List ℕ)
 writtenAgain file room = onGiven (readNetwork file) (λ t. writeNetwork t room)
@@ -78,17 +83,19 @@ linksFrom (k ∷ ks) (z ∷ zs) (c ∷ cs) = record { frames = k; range = z; clo
 unfoldable pub writtenOf : ℕ → List ℕ → List ℕ → List ℕ → ℕ → Outcome (List ℕ)
 writtenOf T ks zs cs room = writeNetwork (record { ticks = T; links = linksFrom ks zs cs }) room
 
--- how long what is written on a file and call bytes is at most, and how large a count; and how many places always serve
+-- how long what is written on a file and call bytes is at most, and how large a count or a number; and how many places always serve
 pub record AnswerSizes (file calls : List ℕ) : Type 0 where
   pub text : (room : ℕ) (x : List ℕ) → reported file calls room ≡ given x → length x ≤ 720918
   pub textServed : (room : ℕ) → 720918 ≤ room → reported file calls room ≡ given (transcript file calls)
   pub session : (number room : ℕ) (x : List ℕ) → lookupAfter file calls number room ≡ given x → length x ≤ 26
   pub sessionServed : (number room : ℕ) → 26 ≤ room → lookupAfter file calls number room ≡ refused 20 → ⊥
   pub free : (link n : ℕ) → freeAfter file calls link ≡ given n → n ≤ 64
+  pub ways : (route : List ℕ) (room : ℕ) (x : List ℕ) → waysAfter file calls route room ≡ given x → (length x ≡ 1) × (getD x 0 0 ≤ 64 ^ 8)
+  pub waysServed : (route : List ℕ) (room : ℕ) → 1 ≤ room → waysAfter file calls route room ≡ refused 20 → ⊥
   pub again : (room : ℕ) (x : List ℕ) → writtenAgain file room ≡ given x → length x ≤ 355
   pub againServed : (room : ℕ) → 355 ≤ room → writtenAgain file room ≡ refused 20 → ⊥
 
--- EVERY ANSWER BELOW 1,000,000 IS A LENGTH OR A COUNT, and every other a refusal; and 720,918 bytes, 26 numbers and 355 bytes always serve
+-- EVERY ANSWER BELOW 1,000,000 IS A LENGTH OR A COUNT, and every other a refusal; and 720,918 bytes, 26 numbers, one number and 355 bytes always serve
 abbrev pub AnswersSized : Type 0
 AnswersSized = (file calls : List ℕ) → IsBytes file → AnswerSizes file calls
 

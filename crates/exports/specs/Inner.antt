@@ -1,5 +1,5 @@
 -- Words of the contracts of inner functions. They are no part of what is promised: the exported functions promise in the words of `specs/Exported`. Assumes nothing.
-use mathlib.Core.List.{List, _∷_, _++_}
+use mathlib.Core.List.{List, [], _∷_, _++_}
 use Prim.Native.Nat.{ℕ}
 use lib.ListN.{length}
 use Rattle.places.specs.Places.{firsts}
@@ -26,3 +26,8 @@ countBy (Refused r) n = refused (refusalNumber r)
 
 abbrev pub countRead : Counted → Outcome ℕ
 countRead q = countBy (q .verdict) (q .count)
+
+-- a number of ways that is written, by its verdict
+abbrev pub waysNumbers : Verdict → ℕ → ℕ → Outcome (List ℕ)
+waysNumbers Passed n room = inRoom 1 room (n ∷ [])
+waysNumbers (Refused r) n room = refused (refusalNumber r)

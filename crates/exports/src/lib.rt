@@ -7,6 +7,7 @@ use network_file::Written;
 use refusals::Refusal;
 use refusals::Verdict;
 use sessions::Counted;
+use sessions::Numbered;
 use sessions::Shown;
 ghost use mathlib.Core.Path.{_≡_};
 ghost use mathlib.Core.List.{_++_};
@@ -20,8 +21,8 @@ ghost use Rattle.network_file.specs.Lent.{lengthRead};
 ghost use Rattle.report.specs.Transcript.{transcript};
 ghost use Rattle.report.specs.Reports.{textBound, reported};
 ghost use Rattle.report.specs.Inner.{InPlaces};
-ghost use Rattle.exports.specs.Exported.{asNumber, Exports, lookupAfter, freeAfter, writtenAgain, linksFrom, writtenOf};
-ghost use Rattle.exports.specs.Inner.{placeNumbers, shownNumbers, countRead};
+ghost use Rattle.exports.specs.Exported.{asNumber, Exports, lookupAfter, freeAfter, waysAfter, writtenAgain, linksFrom, writtenOf};
+ghost use Rattle.exports.specs.Inner.{placeNumbers, shownNumbers, countRead, waysNumbers};
 
 // A refusal as one number.
 fn refused(refusal: Refusal) -> u64
@@ -156,6 +157,41 @@ pub extern "C" fn frames_free_frames(file: &[u8], calls: &[u8], link: u8) -> u64
             let tallied = sessions::free_frames(replay::state_after(network, calls), link);
             let counted = tallied.counted;
             count_number(counted)
+        }
+    }
+}
+
+// A number of ways, as the one number at the start of a buffer: that it is one, or the refusal, 20 where the buffer has no place.
+fn put_ways(numbered: Numbered, out: &mut [u64]) -> u64
+    ensures { λ r. ⌜ Exports (waysNumbers (numbered .verdict) (numbered .ways) (length (now (out .entry)))) (now (out .entry)) (now (out .exit)) r ⌝ }
+{
+    let verdict = numbered.verdict;
+    match verdict {
+        Verdict::Refused(refusal) => refused(refusal),
+        Verdict::Passed => {
+            if out.len() < 1 {
+                return refused(Refusal::ShortBuffer);
+            }
+            out[0] = numbered.ways;
+            1
+        }
+    }
+}
+
+// The number of ways through a route, given as its link numbers, on the state after call records. It is put into a buffer, since it can be larger than an answer that is a refusal.
+#[no_mangle]
+pub extern "C" fn frames_ways(file: &[u8], calls: &[u8], route: &[u8], out: &mut [u64]) -> u64
+    ensures { λ r. ⌜ Exports (waysAfter (now (file .entry)) (now (calls .entry)) (now (route .entry)) (length (now (out .entry)))) (now (out .entry)) (now (out .exit)) r ⌝ }
+{
+    let loaded = network_file::read_network(file);
+    let verdict = loaded.verdict;
+    match verdict {
+        Verdict::Refused(refusal) => refused(refusal),
+        Verdict::Passed => {
+            let network = loaded.network;
+            let surveyed = sessions::number_of_ways(replay::state_after(network, calls), route);
+            let numbered = surveyed.numbered;
+            put_ways(numbered, out)
         }
     }
 }

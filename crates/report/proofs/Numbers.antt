@@ -15,10 +15,12 @@ use Rattle.records.specs.declared.Field.{Field}
 use Rattle.records.specs.Reading.{needed, valuesIn, strayBits, restated, readMapped, readRecord}
 use Rattle.network_file.specs.Fields.{linkLayout, linkOf}
 use Rattle.network_file.specs.Reading.{readLink, readLinks, readNetwork}
-use Rattle.ledger.specs.Sessions.{Session, View, isLive}
+use Rattle.forwarding.specs.Ways.{routeWays}
+use Rattle.ledger.specs.Sessions.{Session, View, isLive, hopsOf}
 use Rattle.ledger.specs.Routes.{badLength, unknownLink, linkTwice, ratesApart, ratesOf, routeCheck}
-use Rattle.ledger.specs.Sound.{intact}
+use Rattle.ledger.specs.Sound.{intact, brokenCheck}
 use Rattle.ledger.specs.Calls.{Call, SetUp, Quote, Release, full, callCheck, lookIn, lookup}
+use Rattle.ledger.specs.Ways.{waysOf}
 
 -- a call that is refused is refused with m at most
 abbrev Most : {A : Type 0} → ℕ → Outcome A → Type 0
@@ -135,3 +137,12 @@ look-most n (s ∷ ss) = most-cond 19 (eqb (s .number) n) (given s) (lookIn n ss
 pub lookup-number : (v : View) (number k : ℕ) → lookup v number ≡ refused k → k ≤ 19
 unfolding lookup
 lookup-number v number k e = refused-most 19 (lookup v number) k (most-check 19 (not (intact v)) 0 (lookIn number (v .live)) (omega arith) (look-most number (v .live))) e
+
+-- ---- the number of ways: 0 and 12 to 15
+pub ways-number : (v : View) (route : List ℕ) (k : ℕ) → waysOf v route ≡ refused k → k ≤ 19
+unfolding waysOf
+ways-number v route k e =
+    let c : Ruling = callCheck (v .network) (v .live) (Quote route) in
+    refused-most 19 (waysOf v route) k
+    (most-or 19 (refusedOr (brokenCheck v) c) (given (routeWays (hopsOf (v .network) (v .live) route)))
+    (most-check 19 (not (intact v)) 0 c (omega arith) (call-most (v .network) (v .live) (Quote route))) tt) e
