@@ -1,11 +1,13 @@
--- Laws of `firsts`. Assumes nothing.
+-- Laws of `firsts`, and of an array that is filled from the front. Assumes nothing.
 use mathlib.Core.Path.{_≡_, refl, sym, ap, _∙_}
 use mathlib.Core.List.{List, [], _∷_, _++_}
 use Prim.Native.Nat.{ℕ, zero, suc, _+_, _<_, _≤_}
 use native.Mathlib.Numerals.{add-one}
 use native.Mathlib.Omega.{arith}
 use native.Mathlib.Nat.{not-suc-le-zero, le-of-suc-le-suc}
+use borrow.Author.Count.{below-more}
 use lib.ListN.{length, getD, take, drop, set, replicate, drop-of-length-le}
+use lib.Seq.{getD-set-same, getD-set-other}
 use Rattle.places.specs.Places.{firsts}
 
 module _ {A : Type 0} where
@@ -103,3 +105,8 @@ module _ {A : Type 0} where
   firsts-take zero l d h = refl
   firsts-take (suc n) [] d h = absurd (not-suc-le-zero h)
   firsts-take (suc n) (x ∷ l) d h = ap (λ (t : List A). x ∷ t) (firsts-take n l d (le-of-suc-le-suc h))
+
+  -- one place more: the places below n hold what f says, and so do those below n + 1 once place n is stored
+  pub one-stored : (l : List A) (n : ℕ) (x d : A) (f : ℕ → A) → n < length l → ((k : ℕ) → k < n → getD l k d ≡ f k) → x ≡ f n → (k : ℕ) → k < n + 1 → getD (set l n x) k d ≡ f k
+  one-stored l n x d f h each e =
+      below-more (λ k. getD (set l n x) k d ≡ f k) n (λ k m. getD-set-other l n k x d (λ z. omega arith) ∙ each k m) (getD-set-same l n x d h ∙ e)

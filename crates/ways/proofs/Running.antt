@@ -1,16 +1,15 @@
 -- Running sums, filled from the front, and a window's sum by them. Assumes nothing.
 use mathlib.Core.Path.{_≡_, refl, _∙_, ap₂}
 use mathlib.Core.List.{List}
-use mathlib.Core.Logic.{⊎-elim}
 use Prim.Native.Nat.{ℕ, _+_, _-_, _%_, _^_, _<_, _≤_}
-use native.Mathlib.Nat.{le-trans, eq-or-lt-of-le}
+use native.Mathlib.Nat.{le-trans}
 use native.Mathlib.Numerals.{add-one}
 use native.Mathlib.Omega.{arith}
 use lib.ListN.{getD, set, replicate, length-set, length-replicate}
-use lib.Seq.{getD-set-same, getD-set-other}
 use Rattle.lists.specs.Count.{sumBelow}
 use Rattle.lists.proofs.Sums.{sum-first, round-within, round-across}
 use Rattle.words.specs.Word.{bitOf}
+use Rattle.places.proofs.Firsts.{one-stored}
 use Rattle.forwarding.proofs.Ways.{sum-most}
 use Rattle.ways.specs.Inner.{freeWays, SmallRow, SumsTo, CycleSums}
 
@@ -24,8 +23,7 @@ module _ (f : ℕ → ℕ) where
   pub one-summed : (i : ℕ) (sums : List ℕ) (v : ℕ) → i < 64 → SumsTo f i sums → v ≡ sumBelow (i + 1) f → SumsTo f (i + 1) (set sums (i + 1) v)
   one-summed i sums v l s e = record {
     long = length-set sums (i + 1) v ∙ s .long;
-    each = λ m n. ⊎-elim (λ q. rw (q, getD-set-same sums (i + 1) v 0 (omega (arith, s .long))) e)
-        (λ q. getD-set-other sums (i + 1) m v 0 (λ x. omega arith) ∙ s .each m (omega arith)) (eq-or-lt-of-le n);
+    each = λ m n. one-stored sums (i + 1) v 0 (λ m. sumBelow m f) (omega (arith, s .long)) (λ m l. s .each m (omega arith)) e m (omega arith);
   }
 
 -- no sum over a row passes 64 to the power 8
@@ -41,10 +39,10 @@ module _ (f : ℕ → ℕ) (K : ℕ) (sums : List ℕ) (s : CycleSums f K sums) 
   )
 
   -- the sum over a window of c places from place a on
-  module _ (a c : ℕ) (p : a < K) where
+  module _ (a c : ℕ) where
     pub window-within : a + c ≤ K → getD sums (a + c) 0 - getD sums a 0 ≡ sumBelow c (λ d. f ((a + d) % K))
     window-within h = omega (arith, s .0 .each (a + c) h, s .0 .each a (omega arith), round-within K a c f h)
 
-    pub window-across : K < a + c → c ≤ K → getD sums K 0 + getD sums (a + c - K) 0 - getD sums a 0 ≡ sumBelow c (λ d. f ((a + d) % K))
-    window-across h l =
+    pub window-across : a < K → K < a + c → c ≤ K → getD sums K 0 + getD sums (a + c - K) 0 - getD sums a 0 ≡ sumBelow c (λ d. f ((a + d) % K))
+    window-across p h l =
         omega (arith, s .0 .each K (omega arith), s .0 .each (a + c - K) (omega arith), s .0 .each a (omega arith), round-across K a c f p (omega arith) l)

@@ -35,7 +35,7 @@ returns : tie.Need-returns
 returns c = λ f s.
     let start = c .before .before .before in
     let a = start .args in
-    window-within f (a .frames) (a .sums .now) s (a .first) (a .count) (start .pre .0) (omega arith)
+    window-within f (a .frames) (a .sums .now) s (a .first) (a .count) (omega arith)
 
 mul-result-2 : tie.Need-mul-result-2
 mul-result-2 c = search needs
