@@ -1,15 +1,15 @@
 -- The hold is the only number from the least hold on that fits; the frames within a range of holds are counted. Assumes nothing.
 use mathlib.Core.Path.{_≡_, refl, sym, _∙_, ap, subst}
 use mathlib.Core.Bool.{Bool, true, false}
-use mathlib.Core.Logic.{⊎-elim}
-use Prim.Native.Nat.{ℕ, zero, suc, _+_, _-_, _*_, _%_, _<_, _≤_}
-use native.Mathlib.Nat.{mod-lt, mod-eq-of-lt, add-mod-right, mod-eq-sub-mod, mod-add-mod, div-lt-iff-lt-mul, mul-le-mul-right, mul-pos, mul-comm, add-assoc, add-comm, eq-or-lt-of-le}
+use Prim.Native.Nat.{ℕ, _+_, _-_, _*_, _%_, _<_, _≤_}
+use native.Mathlib.Nat.{mod-lt, mod-eq-of-lt, add-mod-right, mod-eq-sub-mod, mod-add-mod, div-lt-iff-lt-mul, mul-le-mul-right, mul-pos, mul-comm, add-assoc, add-comm, mul-one}
 use native.Mathlib.Decide.{decLt}
 use native.Mathlib.Omega.{arith}
 use lib.Dec.{ltb}
 use borrow.Author.Tests.{ltb-true, ltb-false, lt-ltb, le-ltb}
 use Rattle.lists.specs.Count.{oneIf, sumBelow, countBelow}
-use Rattle.lists.proofs.Count.{sum-cong, sum-split, count-all}
+use Rattle.lists.proofs.Count.{sum-cong, sum-split, sum-const}
+use Rattle.lists.proofs.Sums.{sum-narrow}
 use Rattle.forwarding.specs.declared.Hop.{Hop}
 use Rattle.forwarding.specs.Forwarding.{reference, referenceInto, leastHold, gap, hold, holdInto, HoldOnly, choices, ChoicesAreZ}
 
@@ -182,13 +182,6 @@ gap-sum K a G h = subst (λ (n : ℕ). sumBelow n (λ i. G (gap K a i)) ≡ sumB
     both : sumBelow (a + b) (λ i. G (gap K a i)) ≡ sumBelow (a + b) G
     both = omega (arith, sum-split a b (λ i. G (gap K a i)), over, on, turned)
 
--- the numbers below n that are below z, of which there are z
-count-below : (n z : ℕ) → z ≤ n → countBelow n (λ d. ltb d z) ≡ z
-count-below zero z h = omega arith
-count-below (suc n) z h =
-    ⊎-elim (λ e. count-all (suc n) (λ d. ltb d z) (λ k m. lt-ltb k z (omega arith)) ∙ sym e)
-    (λ l. omega (arith, count-below n z (omega arith), ap oneIf (le-ltb n z (omega arith)))) (eq-or-lt-of-le h)
-
 -- two tests that say the same are equal
 same-test : (a b c d : ℕ) → (a < b → c < d) → (b ≤ a → d ≤ c) → ltb a b ≡ ltb c d
 same-test a b c d f g = go (ltb a b) refl
@@ -205,5 +198,5 @@ pub count-holds : (Y W K r : ℕ) → 0 < K → W ≤ K → countBelow K (λ i. 
 unfolding hold
 count-holds Y W K r p h =
     gap-sum K ((r + Y) % K) (λ x. oneIf (ltb (Y + x) (Y + W))) (mod-lt (r + Y) p)
-    ∙ sum-cong K (λ x. oneIf (ltb (Y + x) (Y + W))) (λ x. oneIf (ltb x W)) (λ x m. ap oneIf (test-shift Y x W))
-    ∙ count-below K W h
+    ∙ sum-cong K (λ x. oneIf (ltb (Y + x) (Y + W))) (λ x. oneIf (ltb x W) * 1) (λ x m. ap oneIf (test-shift Y x W) ∙ sym (mul-one (oneIf (ltb x W))))
+    ∙ sum-narrow K W (λ x. 1) h ∙ sum-const W 1 ∙ mul-one W

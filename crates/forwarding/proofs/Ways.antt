@@ -19,12 +19,17 @@ use Rattle.forwarding.specs.Hops.{HopReady, AllReady}
 use Rattle.forwarding.specs.Schedule.{GoesOn, IsSchedule}
 use Rattle.forwarding.specs.Route.{transitions}
 use Rattle.forwarding.specs.QuestionFour.{starred}
-use Rattle.forwarding.specs.Ways.{waysOn, schedules, SchedulesListed, SchedulesOnce, routeWays, WaysOnly, WaysBlocked, AllFree, laterChoices, WaysOpen, WaysMost, StarredWays}
+use Rattle.forwarding.specs.Ways.{waysOn, schedules, SchedulesListed, SchedulesOnce, routeWays, WaysOnly, WaysBlocked, EveryFrameFree, laterChoices, WaysOpen, WaysMost, StarredWays}
+use Rattle.forwarding.proofs.Holds.{choices-in}
 use Rattle.forwarding.proofs.Windows.{firstFrame, window-sum}
 use Rattle.forwarding.proofs.Counted.{transitions-counted}
 use Rattle.forwarding.proofs.Answers.{blocked-none, none-blocked}
 
 -- ---- the ways on from a frame are the lists of frames that go on from it, each once
+on-once : (g : Hop) (k : ℕ) (hs : List Hop) → EachOnce (waysOn g k hs)
+on-once g k [] = (λ m. List·Memᴰ·not-nil m, tt)
+on-once g k (h ∷ hs) = headed-once (h .frames) (isAllowed g h k) (λ i. waysOn h i hs) (λ i. on-once h i hs)
+
 listed-on : (g : Hop) (k : ℕ) (hs : List Hop) (is : List ℕ) → List·Memᴰ is (waysOn g k hs) → GoesOn g k hs is
 listed-on g k [] is m = rw (List·Memᴰ·eq-of-singleton m) tt
 listed-on g k (h ∷ hs) is m =
@@ -36,10 +41,6 @@ on-listed g k [] [] o = List·Memᴰ·head refl
 on-listed g k [] (i ∷ is) o = absurd o
 on-listed g k (h ∷ hs) [] o = absurd o
 on-listed g k (h ∷ hs) (i ∷ is) o = headed-in (h .frames) (isAllowed g h k) (λ i. waysOn h i hs) i is (o .0) (o .1) (on-listed h i hs is (o .2))
-
-on-once : (g : Hop) (k : ℕ) (hs : List Hop) → EachOnce (waysOn g k hs)
-on-once g k [] = (λ m. List·Memᴰ·not-nil m, tt)
-on-once g k (h ∷ hs) = headed-once (h .frames) (isAllowed g h k) (λ i. waysOn h i hs) (λ i. on-once h i hs)
 
 -- A LIST OF FRAMES STANDS IN THE LIST EXACTLY WHEN IT IS A SCHEDULE
 listed-schedule : (hops : List Hop) (fs : List ℕ) → List·Memᴰ fs (schedules hops) → IsSchedule hops fs
@@ -94,12 +95,12 @@ all-ways h hs = headed-length (h .frames) (isFree h) (λ k. waysOn h k hs)
 open-stage : (T : ℕ) (g h : Hop) (k w : ℕ) → HopReady T h → ((i : ℕ) → i < h .frames → isFree h i ≡ true)
     → sumBelow (h .frames) (λ i. oneIf (isAllowed g h k i) * w) ≡ choices h * w
 open-stage T g h k w p o =
-    window-sum g h k (p .some-frame) (p .in-cycle) (λ i. w)
+    window-sum g h k (p .some-frame) (choices-in h (p .in-cycle)) (λ i. w)
     ∙ sum-cong (choices h) (λ d. oneIf (isFree h ((firstFrame g h k + d) % h .frames)) * w) (λ d. w)
     (λ d l. rw (o ((firstFrame g h k + d) % h .frames) (mod-lt _ (p .some-frame))) (one-mul w))
     ∙ sum-const (choices h) w
 
-open-on : (T : ℕ) (g : Hop) (k : ℕ) (hs : List Hop) → AllReady T hs → AllFree hs → length (waysOn g k hs) ≡ laterChoices hs
+open-on : (T : ℕ) (g : Hop) (k : ℕ) (hs : List Hop) → AllReady T hs → EveryFrameFree hs → length (waysOn g k hs) ≡ laterChoices hs
 open-on T g k [] p o = refl
 open-on T g k (h ∷ hs) p o =
     on-ways g k h hs

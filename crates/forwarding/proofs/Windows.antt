@@ -9,7 +9,7 @@ use Rattle.lists.proofs.Count.{sum-cong}
 use Rattle.lists.proofs.Sums.{sum-narrow}
 use Rattle.forwarding.specs.declared.Hop.{Hop}
 use Rattle.forwarding.specs.Forwarding.{referenceInto, leastHold, gap, isFree, mayHold, holdInto, isAllowed, choices}
-use Rattle.forwarding.proofs.Holds.{gap-meets, gap-sum, into-gap, choices-in, test-shift}
+use Rattle.forwarding.proofs.Holds.{gap-meets, gap-sum, into-gap, test-shift}
 use Rattle.forwarding.proofs.Transitions.{may-choice}
 
 both-times : (a b : Bool) (x : ℕ) → oneIf (a && b) * x ≡ oneIf a * (oneIf b * x)
@@ -20,7 +20,7 @@ both-times false b x = zero-mul x ∙ sym (zero-mul (oneIf b * x))
 abbrev pub firstFrame : Hop → Hop → ℕ → ℕ
 firstFrame g h k = (referenceInto g h k + leastHold h) % h .frames
 
-module _ (g h : Hop) (k : ℕ) (p : 0 < h .frames) (l : h .range ≤ h .frames) where
+module _ (g h : Hop) (k : ℕ) (p : 0 < h .frames) (l : choices h ≤ h .frames) where
   abbrev first : ℕ
   first = firstFrame g h k
 
@@ -40,7 +40,7 @@ module _ (g h : Hop) (k : ℕ) (p : 0 < h .frames) (l : h .range ≤ h .frames) 
       (λ i m. both-times (mayHold h (holdInto g h k i)) (isFree h i) (f i) ∙ ap (λ (b : Bool). oneIf b * F i) (near i)
       ∙ ap (λ (x : ℕ). oneIf (ltb (gap K first i) (choices h)) * F x) (sym (gap-meets K first i first-in m)))
       ∙ gap-sum K first G first-in
-      ∙ sum-narrow K (choices h) (λ d. F ((first + d) % K)) (choices-in h l)
+      ∙ sum-narrow K (choices h) (λ d. F ((first + d) % K)) l
     where
       K : ℕ
       K = h .frames

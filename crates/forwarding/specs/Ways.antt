@@ -48,9 +48,9 @@ abbrev pub WaysBlocked : Type 0
 WaysBlocked = (T : ℕ) (hops : List Hop) → (routeWays hops ≡ 0) ↔ ((n : ℕ) × (routeAnswer T hops ≡ blocked n))
 
 -- "no frame on it is closed or held": each frame of each hop is free
-abbrev pub AllFree : List Hop → Type 0
-AllFree [] = Unit {0}
-AllFree (h ∷ hs) = ((i : ℕ) → i < h .frames → isFree h i ≡ true) × AllFree hs
+abbrev pub EveryFrameFree : List Hop → Type 0
+EveryFrameFree [] = Unit {0}
+EveryFrameFree (h ∷ hs) = ((i : ℕ) → i < h .frames → isFree h i ≡ true) × EveryFrameFree hs
 
 -- "the product of the later Z": as many holds as Z (`ChoicesAreZ`)
 abbrev pub laterChoices : List Hop → ℕ
@@ -64,7 +64,7 @@ openWays (h ∷ hs) = h .frames * laterChoices hs
 
 -- "Where no frame on it is closed or held this equals K of hop 0 times the product of the later Z"
 abbrev pub WaysOpen : Type 0
-WaysOpen = (T : ℕ) (hops : List Hop) → AllReady T hops → AllFree hops → routeWays hops ≡ openWays hops
+WaysOpen = (T : ℕ) (hops : List Hop) → AllReady T hops → EveryFrameFree hops → routeWays hops ≡ openWays hops
 
 -- "The largest number is 64 to the power 8", for a route of at most 8 links
 abbrev pub WaysMost : Type 0

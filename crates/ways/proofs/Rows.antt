@@ -1,15 +1,14 @@
 -- The row of the hop before, filled from the front, each number by a window. Assumes nothing.
 use mathlib.Core.Path.{_≡_, sym, _∙_}
 use mathlib.Core.List.{List}
-use mathlib.Core.Logic.{⊎-elim}
 use Prim.Native.Nat.{ℕ, _+_, _*_, _%_, _<_}
-use native.Mathlib.Nat.{eq-or-lt-of-le}
 use native.Mathlib.Omega.{arith}
 use lib.ListN.{getD, set, replicate, length-set, length-replicate}
-use lib.Seq.{getD-set-same, getD-set-other}
 use Rattle.lists.specs.Count.{oneIf, sumBelow}
+use Rattle.places.proofs.Firsts.{one-stored}
 use Rattle.forwarding.specs.declared.Hop.{Hop}
 use Rattle.forwarding.specs.Forwarding.{referenceInto, leastHold, isFree, isAllowed, choices}
+use Rattle.forwarding.proofs.Holds.{choices-in}
 use Rattle.forwarding.proofs.Windows.{window-sum}
 use Rattle.ways.specs.Inner.{freeWays, LeadsInto, RowBefore}
 
@@ -21,12 +20,11 @@ module _ (g h : Hop) (row : List ℕ) where
   pub row-window : (k r y w v : ℕ) → LeadsInto g h row → r ≡ referenceInto g h k → y ≡ leastHold h → w ≡ choices h
       → v ≡ sumBelow w (λ d. freeWays (h .free) row (((r + y) % h .frames + d) % h .frames)) → v ≡ sumBelow (h .frames) (λ i. oneIf (isAllowed g h k i) * getD row i 0)
   unfolding isFree
-  row-window k r y w v p er ey ew e = e ∙ rw (er, ey, ew) (sym (window-sum g h k (p .some-frame) (p .in-cycle) (λ i. getD row i 0)))
+  row-window k r y w v p er ey ew e = e ∙ rw (er, ey, ew) (sym (window-sum g h k (p .some-frame) (choices-in h (p .in-cycle)) (λ i. getD row i 0)))
 
   pub one-before : (n : ℕ) (ways : List ℕ) (v : ℕ) → n < 64 → RowBefore g h row n ways
       → v ≡ sumBelow (h .frames) (λ i. oneIf (isAllowed g h n i) * getD row i 0) → RowBefore g h row (n + 1) (set ways n v)
   one-before n ways v l b e = record {
     long = length-set ways n v ∙ b .long;
-    each = λ k m. ⊎-elim (λ q. rw (q, getD-set-same ways n v 0 (omega (arith, b .long))) e)
-        (λ q. getD-set-other ways n k v 0 (λ x. omega arith) ∙ b .each k q) (eq-or-lt-of-le (omega arith));
+    each = one-stored ways n v 0 (λ k. sumBelow (h .frames) (λ i. oneIf (isAllowed g h k i) * getD row i 0)) (omega (arith, b .long)) (b .each) e;
   }
