@@ -55,7 +55,7 @@ pub not-eighteen : (net : Topology) (ss : List Session) (call : Call) (k : ℕ) 
 not-eighteen net ss call k e q = clash (special (refused k)) (ap (λ (j : ℕ). special (refused j)) q) (ap special (sym e) ∙ call-plain net ss call)
 
 -- ---- what is granted and yet a refusal has the number 18
-answer-refusal : (T : ℕ) (hops : List Hop) (k count : ℕ) → answerOver T hops ≡ refusal k count → k ≡ 18
+pub answer-refusal : (T : ℕ) (hops : List Hop) (k count : ℕ) → answerOver T hops ≡ refusal k count → k ≡ 18
 answer-refusal T hops k count e = go (routeAnswer T hops) e
   where
     go : (a : trellis.Answer) → replyOf hops a ≡ refusal k count → k ≡ 18

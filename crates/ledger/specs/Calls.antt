@@ -67,9 +67,13 @@ granted net ss (SetUp n route) = answerOver (net .ticks) (hopsOf net ss route)
 granted net ss (Quote route) = answerOver (net .ticks) (hopsOf net ss route)
 granted net ss (Release n) = freed
 
+-- "Each call makes, in this order, the checks whose matter it has": 0, and those after it
+abbrev pub checksOf : View → Call → Ruling
+checksOf v call = refusedOr (brokenCheck v) (callCheck (v .network) (v .live) call)
+
 -- THE ANSWER OF A CALL on a state that shows v, whatever state it is
 unfoldable pub reply : View → Call → Reply
-reply v call = unless (refusedOr (brokenCheck v) (callCheck (v .network) (v .live) call)) (granted (v .network) (v .live) call)
+reply v call = unless (checksOf v call) (granted (v .network) (v .live) call)
 
 -- A QUOTE: "Where 0 and 13 don't refuse, it depends on T, the route and those links' K, Z and free frames alone", which are its hops
 abbrev pub QuoteDepends : Type 0

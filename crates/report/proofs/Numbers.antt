@@ -18,8 +18,8 @@ use Rattle.network_file.specs.Reading.{readLink, readLinks, readNetwork}
 use Rattle.forwarding.specs.Ways.{routeWays}
 use Rattle.ledger.specs.Sessions.{Session, View, isLive, hopsOf}
 use Rattle.ledger.specs.Routes.{badLength, unknownLink, linkTwice, ratesApart, ratesOf, routeCheck}
-use Rattle.ledger.specs.Sound.{intact, brokenCheck}
-use Rattle.ledger.specs.Calls.{Call, SetUp, Quote, Release, full, callCheck, lookIn, lookup}
+use Rattle.ledger.specs.Sound.{intact}
+use Rattle.ledger.specs.Calls.{Call, SetUp, Quote, Release, full, callCheck, checksOf, lookIn, lookup}
 use Rattle.ledger.specs.Ways.{waysOf}
 
 -- a call that is refused is refused with m at most
@@ -138,11 +138,11 @@ pub lookup-number : (v : View) (number k : ℕ) → lookup v number ≡ refused 
 unfolding lookup
 lookup-number v number k e = refused-most 19 (lookup v number) k (most-check 19 (not (intact v)) 0 (lookIn number (v .live)) (omega arith) (look-most number (v .live))) e
 
--- ---- the number of ways: 0 and 12 to 15
+-- ---- the number of ways: at most 19
 pub ways-number : (v : View) (route : List ℕ) (k : ℕ) → waysOf v route ≡ refused k → k ≤ 19
 unfolding waysOf
 ways-number v route k e =
     let c : Ruling = callCheck (v .network) (v .live) (Quote route) in
     refused-most 19 (waysOf v route) k
-    (most-or 19 (refusedOr (brokenCheck v) c) (given (routeWays (hopsOf (v .network) (v .live) route)))
+    (most-or 19 (checksOf v (Quote route)) (given (routeWays (hopsOf (v .network) (v .live) route)))
     (most-check 19 (not (intact v)) 0 c (omega arith) (call-most (v .network) (v .live) (Quote route))) tt) e

@@ -30,7 +30,7 @@ use Rattle.ledger.specs.Held.{Holding, heldOver, heldPlaces}
 use Rattle.ledger.specs.Sessions.{Session, View, isLive, linkAt, freeOf, hopsOf}
 use Rattle.ledger.specs.Routes.{badLength, unknown, unknownLink, linkTwice, ratesOf, ratesApart, routeCheck}
 use Rattle.ledger.specs.Sound.{goodSession, intact, brokenCheck}
-use Rattle.ledger.specs.Calls.{Call, SetUp, Quote, Release, Reply, freed, refusal, replyOf, answerOver, unless, full, callCheck, granted, reply, Effect, enters, strikes, leaves, effect, liveAfter, left, next, lookIn, lookup, freeCount}
+use Rattle.ledger.specs.Calls.{Call, SetUp, Quote, Release, Reply, freed, refusal, replyOf, answerOver, unless, full, callCheck, checksOf, granted, reply, Effect, enters, strikes, leaves, effect, liveAfter, left, next, lookIn, lookup, freeCount}
 use Rattle.ledger.specs.Ways.{waysOf}
 use Rattle.ledger.specs.Ledger.{did}
 use Rattle.ledger.specs.Demand.{fresh}
@@ -131,20 +131,16 @@ freed-unless (given p) h = (verdict.Passed, refl)
 freed-unless (refused k) h = (verdict.Refused (h .0), ap₂ refusal (h .1) (no-count k h))
 
 module _ (v : View) where
-  -- 0 and the checks after it
-  abbrev checks : Call → Ruling
-  checks call = refusedOr (brokenCheck v) (callCheck (v .network) (v .live) call)
-
-  checks-named : (call : Call) → Named (checks call)
+  checks-named : (call : Call) → Named (checksOf v call)
   checks-named call = named-or (brokenCheck v) (callCheck (v .network) (v .live) call) (broken-named v) (call-named (v .network) (v .live) call)
 
   quoted-for : (call : Call) → (q : Quoted) × Quotes (granted (v .network) (v .live) call) q → (q : Quoted) × Quotes (reply v call) q
   unfolding reply
-  quoted-for call w = quoted-unless (checks call) (granted (v .network) (v .live) call) (checks-named call) w
+  quoted-for call w = quoted-unless (checksOf v call) (granted (v .network) (v .live) call) (checks-named call) w
 
   pub ways-named : (route : List ℕ) → Named (waysOf v route)
   unfolding waysOf
-  ways-named route = named-or (checks (Quote route)) (given (routeWays (hopsOf (v .network) (v .live) route))) (checks-named (Quote route)) tt
+  ways-named route = named-or (checksOf v (Quote route)) (given (routeWays (hopsOf (v .network) (v .live) route))) (checks-named (Quote route)) tt
 
   set-up-quoted : (n : ℕ) (route : List ℕ) → (q : Quoted) × Quotes (reply v (SetUp n route)) q
   unfolding granted
@@ -156,7 +152,7 @@ module _ (v : View) where
 
   released : (n : ℕ) → (w : Verdict) × (releasedIn w ≡ reply v (Release n))
   unfolding reply granted
-  released n = freed-unless (checks (Release n)) (checks-named (Release n))
+  released n = freed-unless (checksOf v (Release n)) (checks-named (Release n))
 
 -- ---- a table that shows given sessions: any that can stand in a state that isn't broken
 abbrev placeFor : Session → Place
