@@ -7,7 +7,7 @@ use Prim.Native.Nat.{ℕ, zero, suc, _^_, _≤_}
 use native.Mathlib.Omega.{arith}
 use borrow.Author.Tests.{ne-eqb}
 use lib.ListN.{getD, length-map, replicate}
-use Rattle.refusals.specs.Refusals.{refusalNumber, refusalCount, Outcome, given, refused, pass}
+use Rattle.refusals.specs.Refusals.{refusalNumber, refusalCount, Outcome, Ruling, given, refused, pass}
 use Rattle.refusals.specs.declared.Refusal.{Refusal}
 use Rattle.refusals.specs.declared.Refusal.the-variants.{NoSchedule}
 use Rattle.refusals.specs.declared.Verdict.{Verdict}
@@ -19,8 +19,8 @@ use Rattle.places.specs.Places.{firsts}
 use Rattle.network.specs.Checks.{badCount, badCycle, badFrames, badRange, badClosed, linkCheck, linksCheck, networkCheck}
 use Rattle.network.specs.declared.Link.{Link}
 use Rattle.network.specs.declared.Network.{Network}
-use Rattle.forwarding.specs.Forwarding.{leastHold, choices}
 use Rattle.forwarding.specs.Ways.{routeWays, openWays}
+use Rattle.forwarding.proofs.Holds.{choices-are-z}
 use Rattle.forwarding.proofs.Ways.{ways-only, ways-open, ways-most}
 use Rattle.ledger.specs.Sessions.{View, hopOf, hopsOf}
 use Rattle.ledger.specs.Routes.{badLength, unknown, unknownLink, linkTwice, apart, ratesApart, routeCheck}
@@ -38,7 +38,7 @@ use Rattle.state.specs.State.{viewOf, freshState, notQuoted, Quotes}
 use Rattle.state.proofs.Replies.{fresh-shown}
 use Rattle.sessions.specs.declared.Numbered.{Numbered}
 use Rattle.sessions.specs.declared.Surveyed.{Surveyed}
-use Rattle.sessions.specs.Calls.{Tells}
+use Rattle.sessions.specs.Calls.{begunOn, Tells}
 use Rattle.sessions.specs.Ways.{numberedOf, notNumbered, Surveys, NumberListed, NumberZero, NumberRefused, NumberOpen, NumberReached}
 use Rattle.sessions.proofs.Stored.{number-tells}
 
@@ -156,8 +156,8 @@ unfolding topologyOf firsts routeCheck badLength unknownLink unknown linkTwice r
 longest-passed = refl
 
 all-open : openWays (hopsOf (topologyOf widest) [] longest) ≡ 64 ^ 8
-unfolding topologyOf firsts choices leastHold
-all-open = refl
+unfolding topologyOf firsts
+all-open = simp choices-are-z
 
 -- no frame is closed
 open-links : (n m l : ℕ) → getD (firsts n (replicate m open-link) noLink) l noLink .closed ≡ 0
@@ -182,6 +182,11 @@ widest-ways =
 
 pub number-reached : NumberReached
 number-reached = (
-  freshState widest,
-  (longest, λ r s. told-given (waysOf (viewOf (freshState widest)) longest) (r .numbered) (64 ^ 8) (s .numbered) .1 (ap (λ (v : View). waysOf v longest) (fresh-shown widest) ∙ widest-ways)),
+  widest,
+  (
+    longest,
+    λ b r begins s. told-given (waysOf (viewOf (b .state)) longest) (r .numbered) (64 ^ 8) (s .numbered) .1
+        (ap (λ (st : State). waysOf (viewOf st) longest) (begins .state ∙ ap (λ (o : Ruling). freshState (begunOn o widest)) widest-passed)
+        ∙ ap (λ (v : View). waysOf v longest) (fresh-shown widest) ∙ widest-ways),
+  ),
 )

@@ -9,6 +9,7 @@ use Rattle.refusals.specs.Refusals.{refusalNumber}
 use Rattle.refusals.specs.declared.Refusal.{Refusal}
 use Rattle.refusals.specs.declared.Refusal.the-variants.{NoSchedule}
 use Rattle.refusals.specs.declared.Verdict.the-variants.{Passed, Refused}
+use Rattle.network.specs.declared.Network.{Network}
 use Rattle.forwarding.specs.declared.Hop.{Hop}
 use Rattle.forwarding.specs.Schedule.{IsSchedule}
 use Rattle.forwarding.specs.Ways.{openWays}
@@ -18,9 +19,10 @@ use Rattle.ledger.specs.Ways.{waysOf, NoneTaken}
 use Rattle.state.specs.declared.State.{State}
 use Rattle.state.specs.declared.Served.{Served}
 use Rattle.state.specs.State.{viewOf, notQuoted, Serves}
+use Rattle.sessions.specs.declared.Begun.{Begun}
 use Rattle.sessions.specs.declared.Numbered.{Numbered}
 use Rattle.sessions.specs.declared.Surveyed.{Surveyed}
-use Rattle.sessions.specs.Calls.{Tells}
+use Rattle.sessions.specs.Calls.{Begins, Tells}
 
 -- a number of ways, and a refused call
 abbrev pub numberedOf : ℕ → Numbered
@@ -59,6 +61,6 @@ abbrev pub NumberOpen : Type 0
 NumberOpen = (st : State) (route : List ℕ) (r : Surveyed) (n : ℕ) → Surveys st route r → r .numbered ≡ numberedOf n → NoneTaken (viewOf st) route
     → n ≡ openWays (hopsOn st route)
 
--- AND "64 TO THE POWER 8" IS REACHED, on some state over some route
+-- AND "64 TO THE POWER 8" IS REACHED, over some route on what `begin` gives of some network
 abbrev pub NumberReached : Type 0
-NumberReached = (st : State) × ((route : List ℕ) × ((r : Surveyed) → Surveys st route r → r .numbered ≡ numberedOf (64 ^ 8)))
+NumberReached = (net : Network) × ((route : List ℕ) × ((b : Begun) (r : Surveyed) → Begins net b → Surveys (b .state) route r → r .numbered ≡ numberedOf (64 ^ 8)))
