@@ -26,7 +26,6 @@ use Rattle.state.specs.declared.State.{State}
 use Rattle.state.specs.State.{viewOf}
 use Rattle.sessions.specs.declared.Shown.{Shown}
 use Rattle.sessions.specs.declared.Looked.{Looked}
-use Rattle.sessions.specs.declared.Counted.{Counted}
 use Rattle.sessions.specs.declared.Tallied.{Tallied}
 use Rattle.sessions.specs.Calls.{Tells, shownOf, notShown, Looks, countedOf, notCounted, Tallies}
 use Rattle.replay.specs.Replayed.{Becomes}
@@ -68,9 +67,11 @@ module _ (v : View) (n : ℕ) (q : Shown) (tells : Tells shownOf notShown (looku
       go (given s) e t = rw t (ap (λ (x : List ℕ). inRoom (length x) room x) (numbers-shown v n s e))
       go (refused k) e t = rw (t .2) (ap refused (t .1))
 
-counts-read : (o : Outcome ℕ) (q : Counted) → Tells countedOf notCounted o q → countRead q ≡ o
-counts-read (given n) q t = rw t
-counts-read (refused k) q t = rw (t .2) (ap refused (t .1))
+-- what is read of an answer is what it tells
+pub told-read : {A : Type 0} (of : ℕ → A) (not : Refusal → A) (read : A → Outcome ℕ) → ((n : ℕ) → read (of n) ≡ given n) → ((r : Refusal) → read (not r) ≡ refused (refusalNumber r))
+    → (o : Outcome ℕ) (q : A) → Tells of not o q → read q ≡ o
+told-read of not read g r (given n) q t = ap read t ∙ g n
+told-read of not read g r (refused k) q t = ap read (t .2) ∙ r (t .0) ∙ ap refused (t .1)
 
 -- ---- on the state after call records
 module _ (file calls : List ℕ) (l : Loaded) (reads : Reads (readNetwork file) l) where
@@ -94,7 +95,7 @@ module _ (file calls : List ℕ) (l : Loaded) (reads : Reads (readNetwork file) 
 
     pub tallied-number : (link : ℕ) (r : Tallied) → Tallies st link r → (k : ℕ) → k ≡ asNumber (countRead (r .counted)) → k ≡ asNumber (freeAfter file calls link)
     unfolding freeAfter
-    tallied-number link r t k w = w ∙ rw after-is (ap asNumber (counts-read (freeCount (viewOf st) link) (r .counted) (t .counted)))
+    tallied-number link r t k w = w ∙ rw after-is (ap asNumber (told-read countedOf notCounted countRead (λ n. refl) (λ x. refl) (freeCount (viewOf st) link) (r .counted) (t .counted)))
 
   pub lookup-refused : (r : Refusal) → l .verdict ≡ Refused r → (number room : ℕ) → lookupAfter file calls number room ≡ refused (refusalNumber r)
   unfolding lookupAfter

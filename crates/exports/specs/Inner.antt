@@ -3,12 +3,13 @@ use mathlib.Core.List.{List, [], _∷_, _++_}
 use Prim.Native.Nat.{ℕ}
 use lib.ListN.{length}
 use Rattle.places.specs.Places.{firsts}
-use Rattle.refusals.specs.Refusals.{Outcome, given, refused, refusalNumber}
+use Rattle.refusals.specs.Refusals.{Outcome, given, refused, refusalNumber, onGiven}
 use Rattle.refusals.specs.declared.Verdict.{Verdict}
 use Rattle.refusals.specs.declared.Verdict.the-variants.{Passed, Refused}
 use Rattle.forwarding.specs.declared.Held.{Held}
 use Rattle.network_file.specs.Lent.{inRoom}
 use Rattle.sessions.specs.declared.Counted.{Counted}
+use Rattle.sessions.specs.declared.Numbered.{Numbered}
 
 -- the numbers of what a lookup shows in eight places
 abbrev pub placeNumbers : ℕ → List ℕ → Held → List ℕ
@@ -19,15 +20,18 @@ abbrev pub shownNumbers : Verdict → ℕ → List ℕ → Held → ℕ → Outc
 shownNumbers Passed hops route held room = inRoom (length (placeNumbers hops route held)) room (placeNumbers hops route held)
 shownNumbers (Refused r) hops route held room = refused (refusalNumber r)
 
--- a number of free frames, by its verdict
+-- a number, by its verdict
 abbrev pub countBy : Verdict → ℕ → Outcome ℕ
 countBy Passed n = given n
 countBy (Refused r) n = refused (refusalNumber r)
 
+-- that of free frames, and that of ways
 abbrev pub countRead : Counted → Outcome ℕ
 countRead q = countBy (q .verdict) (q .count)
 
--- a number of ways that is written, by its verdict
-abbrev pub waysNumbers : Verdict → ℕ → ℕ → Outcome (List ℕ)
-waysNumbers Passed n room = inRoom 1 room (n ∷ [])
-waysNumbers (Refused r) n room = refused (refusalNumber r)
+abbrev pub waysRead : Numbered → Outcome ℕ
+waysRead q = countBy (q .verdict) (q .ways)
+
+-- what is written of a number of ways into a buffer of so many numbers: it is one
+abbrev pub waysNumbers : Outcome ℕ → ℕ → Outcome (List ℕ)
+waysNumbers o room = onGiven o (λ n. inRoom 1 room (n ∷ []))

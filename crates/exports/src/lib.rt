@@ -22,7 +22,7 @@ ghost use Rattle.report.specs.Transcript.{transcript};
 ghost use Rattle.report.specs.Reports.{textBound, reported};
 ghost use Rattle.report.specs.Inner.{InPlaces};
 ghost use Rattle.exports.specs.Exported.{asNumber, Exports, lookupAfter, freeAfter, waysAfter, writtenAgain, linksFrom, writtenOf};
-ghost use Rattle.exports.specs.Inner.{placeNumbers, shownNumbers, countRead, waysNumbers};
+ghost use Rattle.exports.specs.Inner.{placeNumbers, shownNumbers, countRead, waysRead, waysNumbers};
 
 // A refusal as one number.
 fn refused(refusal: Refusal) -> u64
@@ -163,7 +163,7 @@ pub extern "C" fn frames_free_frames(file: &[u8], calls: &[u8], link: u8) -> u64
 
 // A number of ways, as the one number at the start of a buffer: that it is one, or the refusal, 20 where the buffer has no place.
 fn put_ways(numbered: Numbered, out: &mut [u64]) -> u64
-    ensures { λ r. ⌜ Exports (waysNumbers (numbered .verdict) (numbered .ways) (length (now (out .entry)))) (now (out .entry)) (now (out .exit)) r ⌝ }
+    ensures { λ r. ⌜ Exports (waysNumbers (waysRead numbered) (length (now (out .entry)))) (now (out .entry)) (now (out .exit)) r ⌝ }
 {
     let verdict = numbered.verdict;
     match verdict {

@@ -1,4 +1,5 @@
 -- `exports::put_ways` meets its contract. Assumes nothing.
+use lib.ListN.{length}
 use borrow.Author.Needs.{needs}
 use Rattle.exports.proofs.Answers.{refused-number}
 use Rattle.exports.proofs.Ways.{refused-ways, short-ways, put-one}
@@ -26,7 +27,9 @@ slice-write-out : tie.Need-slice-write-out
 slice-write-out c = search needs
 
 returns-2 : tie.Need-returns-2
-returns-2 c = refused-number _ _ _ (refused-ways (c .before .before .before .before .before .args .numbered) _ (c .before .before .verdict .given .1) _) _ (c .refused .ensures)
+returns-2 c =
+    let a = c .before .before .before .before .before .args in
+    refused-number _ _ _ (refused-ways (a .numbered) _ (c .before .before .verdict .given .1) (length (a .out .now))) _ (c .refused .ensures)
 
 same-length : tie.Need-same-length
 same-length c = search needs
