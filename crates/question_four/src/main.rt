@@ -1,7 +1,8 @@
 // Question four of document 01: its cases, starred or not, in the document's order, each a quote on a fresh network of its links, a line for each.
 // The cases are the lines of the file stdin, which says how they are written.
-// A line has the case as the document writes it, then `ok` with delay, count and frames / cycles, or `no` with the refusal, for 18 also the count.
-// The expected lines, in the file stdout, are written by hand from the document, the cycles by W-202.
+// A line has the case as the document writes it, then `ok` with delay, count and frames / cycles, or `no` with the refusal, for 18 also the count; then `ways`
+// with the number of ways, or `no` with the refusal of that call.
+// The expected lines, in the file stdout, are written by hand from the document, the cycles by W-202, the ways by W-203.
 ghost use Prim.Native.Nat.{_<_, _≤_};
 use bytes::scan;
 use libc::STDIN_FILENO;
@@ -10,6 +11,7 @@ use network::Link;
 use network::Network;
 use refusals::Refusal;
 use refusals::Verdict;
+use sessions::Numbered;
 use state::Quoted;
 
 // The free frames of a link as a route says them, as a word: those that the braces after its letter name, and all where it has none. `bit` is the word
@@ -65,9 +67,9 @@ fn network(text: &[u8]) -> Network {
 }
 
 // A number after a space.
-fn next(x: u32) {
+fn next(x: u64) {
     io::write_all(STDOUT_FILENO, b" ");
-    io::print_decimal(STDOUT_FILENO, x as u64);
+    io::print_decimal(STDOUT_FILENO, x);
 }
 
 // What the first n of eight places hold: a frame of each hop, or a cycle.
@@ -76,7 +78,7 @@ fn show_places(eight: [u8; 8], n: usize)
 {
     let mut j: usize = 0;
     while j < n {
-        next(eight[j] as u32);
+        next(eight[j] as u64);
         j += 1;
     }
 }
@@ -92,24 +94,37 @@ fn show(answer: Quoted, n: usize)
     match verdict {
         Verdict::Passed => {
             io::write_all(STDOUT_FILENO, b" ok");
-            next(held.delay.0 as u32);
-            next(answer.count);
+            next(held.delay.0 as u64);
+            next(answer.count as u64);
             show_places(frames, n);
             io::write_all(STDOUT_FILENO, b" /");
             show_places(cycles, n);
         }
         Verdict::Refused(refusal) => {
             io::write_all(STDOUT_FILENO, b" no");
-            next(refusals::number(refusal) as u32);
+            next(refusals::number(refusal) as u64);
             match refusal {
-                Refusal::NoSchedule(count) => next(count),
+                Refusal::NoSchedule(count) => next(count as u64),
                 _ => {}
             }
         }
     }
 }
 
-// A quote of a route on its fresh network; A is link 0. No route of the cases has more than 8 links.
+// The number of ways over a route.
+fn show_ways(numbered: Numbered) {
+    let verdict = numbered.verdict;
+    io::write_all(STDOUT_FILENO, b" ways");
+    match verdict {
+        Verdict::Passed => next(numbered.ways),
+        Verdict::Refused(refusal) => {
+            io::write_all(STDOUT_FILENO, b" no");
+            next(refusals::number(refusal) as u64);
+        }
+    }
+}
+
+// A quote of a route on its fresh network, and the number of ways over it there; A is link 0. No route of the cases has more than 8 links.
 fn quote(text: &[u8]) {
     let mut links = [0u8; 8];
     let mut hops = 0;
@@ -123,9 +138,13 @@ fn quote(text: &[u8]) {
         i += 1;
     }
     let begun = sessions::begin(network(text));
-    let served = sessions::quote(begun.state, &links[0..hops]);
+    let route = &links[0..hops];
+    let served = sessions::quote(begun.state, route);
     let answer = served.answer;
     show(answer, hops);
+    let surveyed = sessions::number_of_ways(served.state, route);
+    let numbered = surveyed.numbered;
+    show_ways(numbered);
 }
 
 // Every line of standard input: a case has its name up to the colon, and its route from there to the comment.

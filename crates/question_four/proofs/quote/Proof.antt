@@ -50,20 +50,26 @@ network-requires c κs = search needs
 begin-requires : tie.Need-begin-requires Inv-loop μ-loop
 begin-requires c κs = search needs
 
-sub-quote : tie.Need-sub-quote Inv-loop μ-loop
-sub-quote c = search needs
+sub-route : tie.Need-sub-route Inv-loop μ-loop
+sub-route c = search needs
 
-part-quote-start : tie.Need-part-quote-start Inv-loop μ-loop
-part-quote-start c = search needs
+part-route-start : tie.Need-part-route-start Inv-loop μ-loop
+part-route-start c = search needs
 
-part-quote-end : tie.Need-part-quote-end Inv-loop μ-loop
-part-quote-end c = search needs
+part-route-end : tie.Need-part-route-end Inv-loop μ-loop
+part-route-end c = search needs
 
 quote-requires : tie.Need-quote-requires Inv-loop μ-loop
 quote-requires c κs = search needs
 
 show-requires : tie.Need-show-requires Inv-loop μ-loop
 show-requires c κs = search needs
+
+number-of-ways-requires : tie.Need-number-of-ways-requires Inv-loop μ-loop
+number-of-ways-requires c κs = search needs
+
+show-ways-requires : tie.Need-show-ways-requires Inv-loop μ-loop
+show-ways-requires c κs = search needs
 
 returns : tie.Need-returns Inv-loop μ-loop
 returns c = search needs
@@ -84,9 +90,11 @@ quote-spec =
     loop-again
     network-requires
     begin-requires
-    sub-quote
-    part-quote-start
-    part-quote-end
+    sub-route
+    part-route-start
+    part-route-end
     quote-requires
     show-requires
+    number-of-ways-requires
+    show-ways-requires
     returns)
