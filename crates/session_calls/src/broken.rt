@@ -98,7 +98,7 @@ pub(super) fn put(st: State, line: &[u8]) -> State {
     next
 }
 
-// A state built by hand, by one change or two, and handed to five calls, each on what the one before returned; whether all of it is as it was after them,
+// A state built by hand, by one change or two, and handed to six calls, each on what the one before returned; whether all of it is as it was after them,
 // and it isn't the state that was changed. The state itself stays.
 pub(super) fn case(st: State, line: &[u8]) -> State {
     let one = [0u8; 1];
@@ -109,7 +109,8 @@ pub(super) fn case(st: State, line: &[u8]) -> State {
     let third = calls::number_call(second, b'R', 5);
     let fourth = calls::number_call(third, b'L', 5);
     let fifth = calls::number_call(fourth, b'F', 0);
-    let kept = same::state(built, fifth);
+    let sixth = calls::surveyed(fifth, route);
+    let kept = same::state(built, sixth);
     let other = !same::state(built, st);
     show::kept(kept & other);
     st

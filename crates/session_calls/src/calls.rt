@@ -59,8 +59,17 @@ pub(super) fn served(st: State, number: u16, route: &[u8], quotes: bool) -> Stat
     served.state
 }
 
-// A set-up, or a quote, whose route stands after k words. No line has a route of more than 40 links.
-fn route_call(st: State, line: &[u8], k: usize) -> State
+// The number of ways over a route, a call which never changes a state.
+pub(super) fn surveyed(st: State, route: &[u8]) -> State {
+    let surveyed = sessions::number_of_ways(st, route);
+    let numbered = surveyed.numbered;
+    show::numbered(numbered);
+    show::after(same::state(st, surveyed.state));
+    surveyed.state
+}
+
+// A set-up, a quote or the number of ways, by its letter, over the route that stands after k words. No line has a route of more than 40 links.
+fn route_call(st: State, line: &[u8], k: usize, letter: u8) -> State
     requires { ⌜ k ≤ 2 ⌝ }
 {
     let mut links = [0u8; 40];
@@ -70,7 +79,16 @@ fn route_call(st: State, line: &[u8], k: usize) -> State
         i += 1;
     }
     let n = std::num::wrapping_sub_usize(lines::words(line), k) % 41;
-    served(st, lines::word(lines::number(line, 1)), &links[..n], k == 1)
+    let route = &links[..n];
+    if letter == b'H' {
+        return surveyed(st, route);
+    }
+    served(
+        st,
+        lines::word(lines::number(line, 1)),
+        route,
+        letter == b'Q',
+    )
 }
 
 // A release, a lookup or the free frames of a link, by its letter; the last two never change a state. Any other letter leaves the state.
@@ -155,14 +173,14 @@ fn call(st: State, line: &[u8]) -> State {
             show::verdict(verdict);
             begun.state
         }
-        b'S' => route_call(st, line, 2),
-        b'Q' => route_call(st, line, 1),
+        b'S' => route_call(st, line, 2, letter),
+        b'Q' | b'H' => route_call(st, line, 1, letter),
         b'M' => many(st, line, true),
         b'D' => many(st, line, false),
         b'W' => {
             let all = [0u8; 200];
             let route: &[u8] = &all;
-            served(served(st, 5, route, false), 5, route, true)
+            surveyed(served(served(st, 5, route, false), 5, route, true), route)
         }
         b'P' => broken::put(st, line),
         b':' => broken::case(st, line),

@@ -4,6 +4,7 @@ use forwarding::Held;
 use libc::STDOUT_FILENO;
 use refusals::Verdict;
 use sessions::Counted;
+use sessions::Numbered;
 use sessions::Shown;
 use state::Quoted;
 
@@ -138,6 +139,16 @@ pub(super) fn counted(counted: Counted) {
     match said {
         Verdict::Passed => next(counted.count as u64),
         Verdict::Refused(_) => stray(counted.count as u64),
+    }
+}
+
+// The number of ways over a route. A refused one must be 0.
+pub(super) fn numbered(numbered: Numbered) {
+    let said = numbered.verdict;
+    verdict(said);
+    match said {
+        Verdict::Passed => next(numbered.ways),
+        Verdict::Refused(_) => stray(numbered.ways),
     }
 }
 

@@ -9,10 +9,10 @@ use Rattle.session_calls.proofs.calls.route_call.Statement.{statement}
 use Rattle.session_calls.proofs.calls.route_call.Tie as tie
 
 abbrev Inv-loop : tie.InvT-loop
-Inv-loop st line k links₀ i₀ links i = (i ≤ 40) × (length links ≡ 40)
+Inv-loop st line k letter links₀ i₀ links i = (i ≤ 40) × (length links ≡ 40)
 
 abbrev μ-loop : tie.MeasureT-loop
-μ-loop st line k links₀ i₀ links i = 40 - i
+μ-loop st line k letter links₀ i₀ links i = 40 - i
 
 loop-holds : tie.Need-loop-holds Inv-loop μ-loop
 loop-holds c = search needs
@@ -44,23 +44,29 @@ words-requires c κs = search needs
 wrapping-sub-usize-requires : tie.Need-wrapping-sub-usize-requires Inv-loop μ-loop
 wrapping-sub-usize-requires c κs = search needs
 
+array-share-prefix-links : tie.Need-array-share-prefix-links Inv-loop μ-loop
+array-share-prefix-links c = search needs
+
+slice-aggregate-route : tie.Need-slice-aggregate-route Inv-loop μ-loop
+slice-aggregate-route c = sym (length-take-le (c .before .wrapping-sub-usize .result % 41) (c .before .before .before .before .loop .links) (array-share-prefix-links (c .before)))
+
+surveyed-requires : tie.Need-surveyed-requires Inv-loop μ-loop
+surveyed-requires c κs = search needs
+
+returns : tie.Need-returns Inv-loop μ-loop
+returns c = search needs
+
 number-requires-2 : tie.Need-number-requires-2 Inv-loop μ-loop
 number-requires-2 c κs = search needs
 
 word-requires : tie.Need-word-requires Inv-loop μ-loop
 word-requires c κs = search needs
 
-array-share-prefix-links : tie.Need-array-share-prefix-links Inv-loop μ-loop
-array-share-prefix-links c = search needs
-
-slice-aggregate-served : tie.Need-slice-aggregate-served Inv-loop μ-loop
-slice-aggregate-served c = sym (length-take-le (c .before .before .before .wrapping-sub-usize .result % 41) (c .before .before .before .before .before .before .loop .links) (array-share-prefix-links (c .before)))
-
 served-requires : tie.Need-served-requires Inv-loop μ-loop
 served-requires c κs = search needs
 
-returns : tie.Need-returns Inv-loop μ-loop
-returns c = search needs
+returns-2 : tie.Need-returns-2 Inv-loop μ-loop
+returns-2 c = search needs
 
 pub route-call-spec : {M : Type 1} → statement M
 route-call-spec =
@@ -78,9 +84,11 @@ route-call-spec =
     loop-again
     words-requires
     wrapping-sub-usize-requires
+    array-share-prefix-links
+    slice-aggregate-route
+    surveyed-requires
+    returns
     number-requires-2
     word-requires
-    array-share-prefix-links
-    slice-aggregate-served
     served-requires
-    returns)
+    returns-2)
