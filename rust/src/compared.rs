@@ -169,7 +169,7 @@ fn fingerprint(listed: &Listed) -> u64 {
 }
 
 /// Do the K of some hop and the next one compare so?
-fn has_step(hops: &[Hop], compare: fn(&u32, &u32) -> bool) -> bool {
+pub fn has_step(hops: &[Hop], compare: fn(&u32, &u32) -> bool) -> bool {
     hops.windows(2)
         .any(|pair| compare(&pair[0].frames, &pair[1].frames))
 }

@@ -122,7 +122,7 @@ fn random_bytes(random: &mut Random) -> Input {
 }
 
 /// Set-ups that fill all 96 places, and then some calls on the full ledger.
-fn full_ledger(random: &mut Random) -> Input {
+pub fn full_ledger(random: &mut Random) -> Input {
     let network = roomy_network(random);
     let open_links = network.links.len() as u8 - 1;
     let first = random.word() as u16;
@@ -296,10 +296,21 @@ fn some_route(random: &mut Random, network: &Network) -> Vec<u8> {
 }
 
 /// Distinct links of which each divides the next or is divided by it.
-fn good_route(random: &mut Random, network: &Network) -> Vec<u8> {
-    let links = network.links.len();
-    let mut route = vec![random.below(links) as u8];
+pub fn good_route(random: &mut Random, network: &Network) -> Vec<u8> {
+    let first = random.below(network.links.len()) as u8;
     let length = random.between(1, MAX_HOPS).max(random.between(1, 4));
+    good_route_from(random, network, first, length)
+}
+
+/// Distinct links from the first one on, each dividing the next or divided by it; so many where enough are found that fit.
+pub fn good_route_from(
+    random: &mut Random,
+    network: &Network,
+    first: u8,
+    length: usize,
+) -> Vec<u8> {
+    let links = network.links.len();
+    let mut route = vec![first];
     for _ in 0..3 * length {
         let next = random.below(links) as u8;
         let last = route[route.len() - 1];
@@ -315,12 +326,12 @@ fn good_route(random: &mut Random, network: &Network) -> Vec<u8> {
 }
 
 /// A route of any of so many links; one may stand in it twice.
-fn any_route(random: &mut Random, links: usize, length: usize) -> Vec<u8> {
+pub fn any_route(random: &mut Random, links: usize, length: usize) -> Vec<u8> {
     (0..length).map(|_| random.below(links) as u8).collect()
 }
 
 /// A route with a fault: empty, too long, an unknown link, a link twice, or any links at all.
-fn bad_route(random: &mut Random, network: &Network) -> Vec<u8> {
+pub fn bad_route(random: &mut Random, network: &Network) -> Vec<u8> {
     let links = network.links.len();
     let mut route = good_route(random, network);
     match random.below(7) {
@@ -376,6 +387,25 @@ fn spoil(random: &mut Random, calls: &mut Vec<u8>) {
         5 => calls.extend([2, 200, 0, 1]),
         _ => {}
     }
+}
+
+/// Hands some inputs, most of them short, with their runs by the model to a comparison, up to the first that differs.
+#[cfg(test)]
+pub fn compare_some(
+    seed: u64,
+    mut compare: impl FnMut(Case<'_>) -> Result<(), String>,
+) -> Result<(), String> {
+    let mut random = Random::new(seed);
+    for inputs in 1..=1_500 {
+        let input = &match inputs % 300 {
+            0 => over_the_limit(&mut random),
+            1..=3 => full_ledger(&mut random),
+            _ => input(&mut random),
+        };
+        let run = &crate::model::run(&input.file, &input.calls, crate::dijkstra::least);
+        compare(Case { input, inputs, run })?;
+    }
+    Ok(())
 }
 
 #[cfg(test)]

@@ -12,16 +12,20 @@ pub mod network_file;
 pub mod networks;
 pub mod random;
 pub mod route;
+pub mod running_sums;
 pub mod runs;
 pub mod sorts;
 pub mod stand_in;
 pub mod state_calls;
 pub mod survivors;
 pub mod tried;
+pub mod way_calls;
+pub mod ways;
 pub mod writing;
 pub mod wrong;
 pub mod wrong_runs;
 pub mod wrong_state;
+pub mod wrong_ways;
 pub mod wrong_writing;
 
 #[cfg(test)]

@@ -28,6 +28,17 @@ extern "C" {
         link: u8,
     ) -> u64;
 
+    fn frames_ways(
+        file: *const u8,
+        file_len: usize,
+        calls: *const u8,
+        calls_len: usize,
+        route: *const u8,
+        route_len: usize,
+        out: *mut u64,
+        out_len: usize,
+    ) -> u64;
+
     fn frames_image(file: *const u8, file_len: usize, out: *mut u8, out_len: usize) -> u64;
 
     fn frames_write(
@@ -53,6 +64,9 @@ pub const TEXT_MOST: usize = 720_918;
 
 /// Numbers that serve for every session.
 pub const SESSION_MOST: usize = 26;
+
+/// The largest number of schedules: over 8 links with 64 frames each, all free, and the whole cycle as their range.
+pub const WAYS_MOST: u64 = 64u64.pow(8);
 
 /// Bytes that serve for every network file.
 pub const IMAGE_MOST: usize = 355;
@@ -128,6 +142,25 @@ pub fn free_frames(file: &[u8], calls: &[u8], link: u8) -> Result<u64, u64> {
     // SAFETY: each pointer comes with the length of the slice it was taken from.
     number_or_refusal(unsafe {
         frames_free_frames(file.as_ptr(), file.len(), calls.as_ptr(), calls.len(), link)
+    })
+}
+
+/// Counts the schedules over a route in the frames that are free after the calls: puts their number, 0 to `WAYS_MOST`, at
+/// the start of `out` and answers 1, since it puts one number; or answers the refusal number. `out` stays as it was behind
+/// that number, and as a whole where the call is refused.
+pub fn ways(file: &[u8], calls: &[u8], route: &[u8], out: &mut [u64]) -> Result<usize, u64> {
+    // SAFETY: each pointer comes with the length of the slice it was taken from.
+    length_or_refusal(unsafe {
+        frames_ways(
+            file.as_ptr(),
+            file.len(),
+            calls.as_ptr(),
+            calls.len(),
+            route.as_ptr(),
+            route.len(),
+            out.as_mut_ptr(),
+            out.len(),
+        )
     })
 }
 

@@ -21,23 +21,25 @@ pub enum Decided {
     OnlySchedule,
 }
 
-/// A route with its answer; where that is a schedule, also what decided it.
+/// A route with its answer; where that is a schedule, also what decided it; and how many schedules there are.
 pub struct Listed {
     pub ticks: u32,
     pub hops: Vec<Hop>,
     pub answer: Answer,
     pub decided: Option<Decided>,
+    pub schedules: u64,
 }
 
 /// The order of schedules as one list of numbers: the delay, the last frame, then going back hop by hop
 /// the hold and the preceding frame. The smaller key wins. Unused places hold 0.
 type Key = [u32; 2 * MAX_HOPS];
 
-/// The listing so far: the best schedule with its key, the next best key, and the frames that end some schedule
-/// of hops 0 to j.
+/// The listing so far: how many schedules of the whole route there were, the best one with its key, the next best key,
+/// and the frames that end some schedule of hops 0 to j.
 struct Listing<'a> {
     ticks: u32,
     hops: &'a [Hop],
+    schedules: u64,
     best: Option<(Key, Vec<u32>)>,
     next_best: Option<Key>,
     ends: Vec<u64>,
@@ -53,6 +55,7 @@ pub fn list(ticks: u32, hops: &[Hop]) -> Listed {
     let mut listing = Listing {
         ticks,
         hops,
+        schedules: 0,
         best: None,
         next_best: None,
         ends: vec![0; hops.len()],
@@ -65,6 +68,7 @@ pub fn list(ticks: u32, hops: &[Hop]) -> Listed {
         hops: hops.to_vec(),
         answer: listing.answer(),
         decided: listing.decided(),
+        schedules: listing.schedules,
     }
 }
 
@@ -75,6 +79,7 @@ impl Listing<'_> {
         let last = frames[j - 1];
         self.ends[j - 1] |= 1 << last;
         if j == self.hops.len() {
+            self.schedules += 1;
             self.compare(frames);
             return;
         }
@@ -233,6 +238,18 @@ mod tests {
         // 1 2 with delay 6, 1 4 with 18, 3 2 with 42, 3 4 with 6.
         let after = [eight(&[1, 3]), link(8, 7, &[2, 4])];
         assert_eq!(decided(&after), Some(Decided::ByLastFrame));
+    }
+
+    #[test]
+    fn schedules_are_counted() {
+        let schedules = |hops: &[Hop]| list(48, hops).schedules;
+        assert_eq!(schedules(&[eight(ALL)]), 8);
+        assert_eq!(schedules(&[eight(&[])]), 0);
+        assert_eq!(schedules(&[eight(ALL), eight(ALL)]), 16);
+        // 0 1 3, 0 2 3 and 0 2 4.
+        let route = [eight(&[0]), eight(&[1, 2]), eight(&[3, 4])];
+        assert_eq!(schedules(&route), 3);
+        assert_eq!(schedules(&[eight(&[3]), eight(&[6])]), 0);
     }
 
     #[test]

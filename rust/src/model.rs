@@ -1,8 +1,9 @@
-//! The program `frames` as a plain model: the calls, their refusals, the ledger and the text; lookup and free frames.
+//! The program `frames` as a plain model: the calls, their refusals, the ledger and the text; lookup, free frames and ways.
 
 use crate::call_records::{read_call, Call};
 use crate::network_file::{read_network, refuse, Link, Network, Refusal};
 use crate::route::{self, Answer, Hop, MAX_HOPS};
+use crate::ways;
 use std::io::Write;
 
 /// The bytes of call records that count.
@@ -277,7 +278,7 @@ pub fn hops_of(network: &Network, ledger: &Ledger, route: &[u8]) -> [Hop; MAX_HO
 
 impl Ledger {
     /// The empty ledger of a network.
-    fn new(network: &Network) -> Self {
+    pub fn new(network: &Network) -> Self {
         Ledger {
             sessions: Vec::new(),
             held: vec![0; network.links.len()],
@@ -312,7 +313,7 @@ impl Ledger {
     }
 }
 
-// ---- Lookup and free frames ----
+// ---- Lookup, free frames and ways ----
 
 impl Session {
     /// What a lookup hands out: the number of hops, the delay, and of each hop the link, then the frame, then the cycle.
@@ -339,6 +340,12 @@ impl State {
         Ok(free.count() as u64)
     }
 
+    /// The hops of a route over the frames that are neither closed nor held; checks 12 to 15.
+    pub fn hops(&self, route: &[u8]) -> Result<Vec<Hop>, Refusal> {
+        check_route(&self.network, route)?;
+        Ok(hops_of(&self.network, &self.ledger, route)[..route.len()].to_vec())
+    }
+
     /// The link of that number; check 13.
     pub fn link(&self, link: u8) -> Result<&Link, Refusal> {
         self.network.links.get(usize::from(link)).ok_or(13)
@@ -356,6 +363,14 @@ pub fn lookup(stored: &Stored, number: u16, room: usize) -> Result<Vec<u16>, Ref
 /// The number of free frames of a link after the calls: the refusal of the file, 13.
 pub fn free_frames(stored: &Stored, link: u8) -> Result<u64, Refusal> {
     stored.as_ref().map_err(Refusal::clone)?.free_frames(link)
+}
+
+/// The number of schedules over a route after the calls, where so many numbers are room for it: the refusal of the file,
+/// 12 to 15, 20. There is no 18: a blocked route has the number 0.
+pub fn ways(stored: &Stored, route: &[u8], room: usize) -> Result<u64, Refusal> {
+    let hops = stored.as_ref().map_err(Refusal::clone)?.hops(route)?;
+    refuse(20, room < 1)?;
+    Ok(ways::number(&hops))
 }
 
 // ---- The text ----
@@ -573,6 +588,55 @@ mod tests {
         let stored = after(&file, &[1, 5, 0, 1, 1, 2, 1, 0]);
         assert_eq!(lookup(&stored, 5, 5), Ok(vec![1, 0, 1, 4, 0]));
         assert_eq!(free(&stored), [Ok(8), Ok(3), Err(13)]);
+    }
+
+    #[test]
+    fn ways_in_the_frames_now_free() {
+        let ways_over = |calls: &[u8], route: &[u8]| ways(&after(&TWO_LINKS, calls), route, 1);
+        // 8 frames of hop 0 with two holds each. Without frame 7 of link 0 there are 7, and frame 6 has hold 1 alone, since
+        // frame 0 of link 1 is held.
+        assert_eq!(ways_over(&[], &[0, 1]), Ok(16));
+        assert_eq!(ways_over(&TWO_SESSIONS[..6], &[0, 1]), Ok(13));
+        // The way back: without frame 0 of link 1 there are 7, and of these 5 and 6 have one hold each, to frames 6 and 0.
+        assert_eq!(ways_over(&TWO_SESSIONS[..6], &[1, 0]), Ok(12));
+        assert_eq!(ways_over(&TWO_SESSIONS, &[1]), Ok(6));
+    }
+
+    #[test]
+    fn a_blocked_route_has_no_way_and_no_refusal() {
+        // K 8, Z 2: frame 3 alone is free on link 0, frame 6 alone on link 1.
+        let frame = |frame: u8| [7, 8, 2, !(1 << frame), 0, 0, 0, 0, 0, 0, 0];
+        let file = [&[0x30, 0, 2][..], &frame(3), &frame(6)].concat();
+        assert_eq!(ways(&after(&file, &[]), &[0, 1], 1), Ok(0));
+        assert_eq!(ways(&after(&file, &[]), &[0], 1), Ok(1));
+        assert_eq!(ways(&after(&file, &[1, 5, 0, 1, 0]), &[0], 1), Ok(0));
+    }
+
+    #[test]
+    fn refused_ways() {
+        // T 48; link 0 has K 4, links 1 and 2 have K 6.
+        let file = [0x30, 0, 3, 3, 4, 2, 3, 6, 2, 3, 6, 2];
+        let stored = after(&file, &[]);
+        let cases: [(&[u8], Refusal); 10] = [
+            (&[], 12),
+            (&[0; 9], 12),
+            (&[9; 9], 12),
+            (&[3], 13),
+            (&[1, 1, 3], 13),
+            (&[0, 1, 3], 13),
+            (&[1, 1], 14),
+            (&[0, 1, 0], 14),
+            (&[0, 1], 15),
+            (&[1, 2, 0], 15),
+        ];
+        for (route, refusal) in cases {
+            for room in [0, 1, 2] {
+                assert_eq!(ways(&stored, route, room), Err(refusal), "{route:?}");
+            }
+        }
+        assert_eq!(ways(&stored, &[1, 2], 0), Err(20));
+        assert_eq!(ways(&stored, &[1, 2], 1), Ok(12));
+        assert_eq!(ways(&after(&file[..2], &[]), &[], 0), Err(1));
     }
 
     #[test]

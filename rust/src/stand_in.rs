@@ -9,6 +9,7 @@ use std::ops::Not;
 pub type Report = dyn Fn(&[u8], &[u8], &mut [u8]) -> Result<usize, u64>;
 pub type Lookup = dyn Fn(&[u8], &[u8], u16, &mut [u16]) -> Result<usize, u64>;
 pub type FreeFrames = dyn Fn(&[u8], &[u8], u8) -> Result<u64, u64>;
+pub type Ways = dyn Fn(&[u8], &[u8], &[u8], &mut [u64]) -> Result<usize, u64>;
 pub type Image = dyn Fn(&[u8], &mut [u8]) -> Result<usize, u64>;
 pub type Write = dyn Fn(&Values, &mut [u8]) -> Result<usize, u64>;
 
@@ -80,6 +81,10 @@ pub fn look_up(
 
 pub fn free_frames(file: &[u8], calls: &[u8], link: u8) -> Result<u64, u64> {
     Ok(stored(file, calls)?.free_frames(link)?)
+}
+
+pub fn ways(file: &[u8], calls: &[u8], route: &[u8], out: &mut [u64]) -> Result<usize, u64> {
+    put(&[model::ways(&stored(file, calls), route, out.len())?], out)
 }
 
 pub fn image(file: &[u8], out: &mut [u8]) -> Result<usize, u64> {

@@ -280,24 +280,12 @@ fn numbers_in(calls: &[u8]) -> Vec<u16> {
 #[cfg(test)]
 mod tests {
     use super::*;
-    use crate::{dijkstra, inputs, library, stand_in};
+    use crate::{inputs, library, stand_in};
 
     /// Compares functions with the model on some inputs, most of them short.
     fn compared(lookup: Box<Lookup>, free_frames: Box<FreeFrames>) -> Result<StateCalls, String> {
         let mut calls = StateCalls::new(lookup, free_frames, 7);
-        let mut random = Random::new(8);
-        for inputs in 1..=1_500 {
-            let input = match inputs % 300 {
-                0 => inputs::over_the_limit(&mut random),
-                _ => inputs::input(&mut random),
-            };
-            let run = &model::run(&input.file, &input.calls, dijkstra::least);
-            calls.compare(Case {
-                input: &input,
-                inputs,
-                run,
-            })?;
-        }
+        inputs::compare_some(8, |case| calls.compare(case))?;
         Ok(calls)
     }
 

@@ -10,6 +10,7 @@ use frames_check::route::{Answer, Hop};
 use frames_check::runs::Runs;
 use frames_check::state_calls::StateCalls;
 use frames_check::tried::Tried;
+use frames_check::way_calls::WayCalls;
 use frames_check::writing::Writing;
 use frames_check::{dijkstra, library, listing, model, wrong};
 use std::cell::{Cell, RefCell};
@@ -94,6 +95,7 @@ struct Check {
     wrong_models: Tried<wrong::Text>,
     runs: Runs,
     state_calls: StateCalls,
+    way_calls: WayCalls,
     writing: Writing,
     times: Times,
 }
@@ -106,6 +108,7 @@ struct Times {
     runs: Duration,
     wrong_models: Duration,
     state_calls: Duration,
+    way_calls: Duration,
     writing: Duration,
 }
 
@@ -147,6 +150,7 @@ impl Check {
             wrong_models: Tried::new("model", wrong::all()),
             runs: Runs::new(Box::new(library::report), SEED + 1),
             state_calls,
+            way_calls: WayCalls::new(Box::new(library::ways), SEED + 4),
             writing: Writing::new(Box::new(library::image), Box::new(write), SEED + 3),
             times: Times::default(),
         }
@@ -171,7 +175,7 @@ impl Check {
         println!("worked example: as in the document");
     }
 
-    /// The library's lookup, free frames and writer on the document's examples, worked out by hand.
+    /// The library's lookup, free frames, ways and writer on the document's examples, worked out by hand.
     fn worked_calls(&self) {
         let file = [0x30, 0, 2, 3, 8, 2, 3, 8, 2];
         let calls = [1, 5, 0, 2, 0, 1];
@@ -184,10 +188,28 @@ impl Check {
         if free != [Ok(7), Ok(7), Err(13)] {
             fail("the free frames after the example's first call aren't seven of each link");
         }
+        self.worked_ways(&file, &calls);
         let mut image = [0; 7];
         let length = library::write(48, &[16, 8], &[4, 2], &[0, 0], &mut image);
         if (length, image) != (Ok(7), [0x30, 0, 2, 0, 3, 8, 2]) {
             fail("the file of the example's values isn't the document's");
+        }
+    }
+
+    /// Numbers of schedules: on the example's fresh network K of hop 0 times Z, 8 * 2; after its first call, which holds frame 7
+    /// of link 0 and frame 0 of link 1, two each from frames 0 to 5 and one from frame 6; and the largest.
+    fn worked_ways(&self, file: &[u8], calls: &[u8]) {
+        let ways = |file: &[u8], calls: &[u8], route: &[u8]| {
+            let mut number = [0];
+            let answer = library::ways(file, calls, route, &mut number);
+            (answer, number[0])
+        };
+        if [ways(file, &[], &[0, 1]), ways(file, calls, &[0, 1])] != [(Ok(1), 16), (Ok(1), 13)] {
+            fail("the ways over the example's route aren't 16 and then 13");
+        }
+        let large = [&[64, 0, 8][..], &[3, 64, 64].repeat(8)].concat();
+        if ways(&large, &[], &[0, 1, 2, 3, 4, 5, 6, 7]) != (Ok(1), library::WAYS_MOST) {
+            fail("the ways over eight links with 64 frames and the whole cycle as range aren't 64 to the power 8");
         }
     }
 
@@ -196,8 +218,8 @@ impl Check {
         model::run(&input.file, &input.calls, least)
     }
 
-    /// One random input: the library's run and the wrong models; lookups and free frames after its calls; its file and a
-    /// network given as values written.
+    /// One random input: the library's run and the wrong models; lookups, free frames and ways after its calls; its file and
+    /// a network given as values written.
     fn one_input(&mut self, random: &mut Random) {
         let mut times = std::mem::take(&mut self.times);
         let input = timed(&mut times.inputs, || inputs::input(random));
@@ -209,6 +231,9 @@ impl Check {
         });
         timed(&mut times.state_calls, || {
             self.compare_state_calls(&input, &run)
+        });
+        timed(&mut times.way_calls, || {
+            self.compare_way_calls(&input, &run)
         });
         timed(&mut times.writing, || self.compare_writing(&input));
         self.times = times;
@@ -240,6 +265,14 @@ impl Check {
     fn compare_state_calls(&mut self, input: &Input, run: &Run) {
         let inputs = self.inputs;
         if let Err(fault) = self.state_calls.compare(Case { input, inputs, run }) {
+            self.show_and_fail(input, run, &fault);
+        }
+    }
+
+    /// Compares numbers of schedules after the calls.
+    fn compare_way_calls(&mut self, input: &Input, run: &Run) {
+        let inputs = self.inputs;
+        if let Err(fault) = self.way_calls.compare(Case { input, inputs, run }) {
             self.show_and_fail(input, run, &fault);
         }
     }
@@ -304,6 +337,7 @@ impl Check {
         self.listed.print();
         self.runs.print();
         self.state_calls.print();
+        self.way_calls.print();
         self.writing.print();
     }
 
@@ -315,6 +349,7 @@ impl Check {
             ("runs", times.runs),
             ("wrong models", times.wrong_models),
             ("lookups and free frames", times.state_calls),
+            ("ways", times.way_calls),
             ("writing", times.writing),
             ("whole", whole),
         ];
@@ -327,6 +362,7 @@ impl Check {
         demand_found(&self.runs.wrong);
         demand_found(&self.state_calls.wrong_lookups);
         demand_found(&self.state_calls.wrong_counts);
+        demand_found(&self.way_calls.wrong);
         demand_found(&self.writing.wrong_images);
         demand_found(&self.writing.wrong_writers);
     }
@@ -346,6 +382,7 @@ impl Check {
             listed,
             self.runs.too_few(),
             self.state_calls.too_few(),
+            self.way_calls.too_few(),
             self.writing.too_few(),
         ];
         if let Some(too_few) = too_few.into_iter().flatten().next() {
