@@ -33,6 +33,7 @@ static const uint8_t two[] = {0x01, 0x05, 0x00, 0x02, 0x00, 0x01, 0x01, 0x06, 0x
 enum { BEHIND = 8, UNTOUCHED = 0xa5 };
 static uint8_t text[FRAMES_TEXT_MOST + BEHIND];
 static uint16_t session[FRAMES_SESSION_MOST + BEHIND];
+static uint64_t ways[1 + BEHIND];
 static uint8_t image[FRAMES_IMAGE_MOST + BEHIND];
 
 /* The function that is tried, and how many calls of it came out as expected. */
@@ -43,6 +44,7 @@ static void clear(void)
 {
     memset(text, UNTOUCHED, sizeof text);
     memset(session, UNTOUCHED, sizeof session);
+    memset(ways, UNTOUCHED, sizeof ways);
     memset(image, UNTOUCHED, sizeof image);
 }
 
@@ -81,11 +83,13 @@ static void compare_buffer(const char *what, const void *buffer, size_t size, co
     }
 }
 
-/* All three buffers, by how many of these bytes stand in each. */
-static void compare_buffers(const char *what, const void *written, size_t in_text, size_t in_session, size_t in_image)
+/* All four buffers, by how many of these bytes stand in each. */
+static void compare_buffers(const char *what, const void *written, size_t in_text, size_t in_session, size_t in_ways,
+                            size_t in_image)
 {
     compare_buffer(what, text, sizeof text, written, in_text);
     compare_buffer(what, session, sizeof session, written, in_session);
+    compare_buffer(what, ways, sizeof ways, written, in_ways);
     compare_buffer(what, image, sizeof image, written, in_image);
     clear();
     passed++;
@@ -94,14 +98,14 @@ static void compare_buffers(const char *what, const void *written, size_t in_tex
 static void text_is(const char *what, uint64_t answer, const char *expected)
 {
     compare_answer(what, answer, strlen(expected));
-    compare_buffers(what, expected, strlen(expected), 0, 0);
+    compare_buffers(what, expected, strlen(expected), 0, 0, 0);
 }
 
 /* A session of two hops. */
 static void session_is(const char *what, uint64_t answer, const uint16_t expected[8])
 {
     compare_answer(what, answer, 8);
-    compare_buffers(what, expected, 0, 8 * sizeof expected[0], 0);
+    compare_buffers(what, expected, 0, 8 * sizeof expected[0], 0, 0);
 }
 
 /* Session 5 has two hops, a delay of 6 ticks, links 0 1, frames 7 0 and cycles 0 1: on link 1 frame 7 has reference frame 7, and
@@ -119,16 +123,23 @@ static void session_6_is_shown(const char *what, uint64_t answer)
     session_is(what, answer, expected);
 }
 
+/* One number was put. */
+static void ways_are(const char *what, uint64_t answer, uint64_t expected)
+{
+    compare_answer(what, answer, 1);
+    compare_buffers(what, &expected, 0, 0, sizeof expected, 0);
+}
+
 static void image_is(const char *what, uint64_t answer, const uint8_t *expected, size_t length)
 {
     compare_answer(what, answer, length);
-    compare_buffers(what, expected, 0, 0, length);
+    compare_buffers(what, expected, 0, 0, 0, length);
 }
 
 static void count_is(const char *what, uint64_t answer, uint64_t expected)
 {
     compare_answer(what, answer, expected);
-    compare_buffers(what, NULL, 0, 0, 0);
+    compare_buffers(what, NULL, 0, 0, 0, 0);
 }
 
 static void is_refused(const char *what, uint64_t answer, uint64_t number)
@@ -197,6 +208,48 @@ static void try_free_frames(void)
     is_refused("there is no link 2", frames_free_frames(net, sizeof net, calls, LIVE, 2), 13);
     is_refused("two bytes of a file", frames_free_frames(net, 2, calls, LIVE, 0), 1);
     is_refused("no file, no calls and no link 2", frames_free_frames(NULL, 0, NULL, 0, 2), 1);
+    end();
+}
+
+/* The links that routes are made of, and a link twice. */
+static const uint8_t route[] = {0, 1, 2, 3, 4, 5, 6, 7, 8}, back[] = {1, 0}, twice[] = {0, 0}, twice_and_2[] = {0, 0, 2};
+
+/* Question four's A{3} B{6}, links of K 8 and Z 2 with those frames alone free; D and F, of K 4 and K 6; and eight links of K 64
+   and Z 64 in a cycle of 64 ticks. */
+static const uint8_t blocked[] = {0x30, 0x00, 0x02, 0x07, 0x08, 0x02, 0xf7, 0, 0, 0, 0, 0, 0, 0,
+                                  0x07, 0x08, 0x02, 0xbf, 0, 0, 0, 0, 0, 0, 0};
+static const uint8_t unfit[] = {0x30, 0x00, 0x02, 0x03, 0x04, 0x02, 0x03, 0x06, 0x02};
+static const uint8_t largest[] = {0x40, 0x00, 0x08, 0x03, 0x40, 0x40, 0x03, 0x40, 0x40, 0x03, 0x40, 0x40, 0x03, 0x40,
+                                  0x40, 0x03, 0x40, 0x40, 0x03, 0x40, 0x40, 0x03, 0x40, 0x40, 0x03, 0x40, 0x40};
+
+static void try_ways(void)
+{
+    begin("frames_ways");
+    uint64_t answer = frames_ways(net, sizeof net, calls, LIVE, route, 2, ways, 1);
+    /* from each of the frames 0 to 5 of link 0 two holds; from 6 one, since frame 0 of link 1 is held; 7 is held: 6 * 2 + 1 */
+    ways_are("after the set-up", answer, 13);
+    ways_are("no calls", frames_ways(net, sizeof net, NULL, 0, route, 2, ways, 1), 16);                       /* 8 * 2 */
+    ways_are("after the release", frames_ways(net, sizeof net, calls, RELEASED, route, 2, ways, 1), 16);
+    ways_are("a quote holds nothing", frames_ways(net, sizeof net, calls, sizeof calls, route, 2, ways, 1), 16);
+    /* frames 1 to 7 of link 1, two holds each, but 5 and 6 one each, since frame 7 of link 0 is held: 7 * 2 - 2 */
+    ways_are("the way back", frames_ways(net, sizeof net, calls, LIVE, back, 2, ways, 1), 12);
+    /* frames 1 to 6 of link 0, two holds each into frames 2 to 7 of link 1, but 6 one: 6 * 2 - 1 */
+    ways_are("beside sessions 5 and 6", frames_ways(net, sizeof net, two, sizeof two, route, 2, ways, 1), 11);
+    ways_are("one link", frames_ways(net, sizeof net, calls, LIVE, route, 1, ways, 1), 7);
+    ways_are("into a longer buffer", frames_ways(net, sizeof net, calls, LIVE, route, 2, ways, 1 + BEHIND), 13);
+    ways_are("blocked", frames_ways(blocked, sizeof blocked, NULL, 0, route, 2, ways, 1), 0);
+    ways_are("the largest", frames_ways(largest, sizeof largest, NULL, 0, route, 8, ways, 1), FRAMES_WAYS_MOST);
+    is_refused("no links", frames_ways(net, sizeof net, calls, LIVE, NULL, 0, ways, 1), 12);
+    is_refused("nine links, of which seven aren't there", frames_ways(net, sizeof net, calls, LIVE, route, 9, ways, 1), 12);
+    is_refused("there is no link 2", frames_ways(net, sizeof net, calls, LIVE, route, 3, ways, 1), 13);
+    is_refused("a link twice, and there is no link 2", frames_ways(net, sizeof net, calls, LIVE, twice_and_2, 3, ways, 1), 13);
+    is_refused("a link twice", frames_ways(net, sizeof net, calls, LIVE, twice, 2, ways, 1), 14);
+    is_refused("K 4 and K 6", frames_ways(unfit, sizeof unfit, NULL, 0, route, 2, ways, 1), 15);
+    is_refused("a link twice and no buffer", frames_ways(net, sizeof net, calls, LIVE, twice, 2, NULL, 0), 14);
+    is_refused("no buffer", frames_ways(net, sizeof net, calls, LIVE, route, 2, NULL, 0), 20);
+    is_refused("blocked and no buffer", frames_ways(blocked, sizeof blocked, NULL, 0, route, 2, NULL, 0), 20);
+    is_refused("two bytes of a file", frames_ways(net, 2, calls, LIVE, route, 2, ways, 1), 1);
+    is_refused("no file, no calls, no links and no buffer", frames_ways(NULL, 0, NULL, 0, NULL, 0, NULL, 0), 1);
     end();
 }
 
@@ -300,6 +353,7 @@ int main(void)
     try_report();
     try_lookup();
     try_free_frames();
+    try_ways();
     try_image();
     try_write();
     return 0;

@@ -6,9 +6,10 @@
  *
  * for x86-64. No function needs more than 72 KiB of stack.
  *
- * A slice is a pointer and then the number of its elements, which for `out` of frames_lookup are numbers of two bytes. Where
- * that number is 0 the pointer may be NULL, at every slice of every function. `out` must not overlap another slice. Nothing is
- * kept from one call to the next, so that several threads may call at the same time, each with an `out` of its own.
+ * A slice is a pointer and then the number of its elements, which for `out` of frames_lookup are numbers of two bytes, and for
+ * `out` of frames_ways of eight. Where that number is 0 the pointer may be NULL, at every slice of every function. `out` must
+ * not overlap another slice. Nothing is kept from one call to the next, so that several threads may call at the same time, each
+ * with an `out` of its own.
  *
  * An answer below FRAMES_REFUSED is a length or a count. Any other is FRAMES_REFUSED and the number of a refusal in document 01,
  * and then every element of `out` is as it was before the call. After an answer that is a length, that many elements stand at
@@ -38,6 +39,9 @@ extern "C" {
 /* Numbers that serve for every session, and bytes that serve for every network file. */
 #define FRAMES_SESSION_MOST 26
 #define FRAMES_IMAGE_MOST 355
+
+/* The largest number of schedules, 64 to the power 8: over 8 links of K 64 and Z 64 with all frames free. */
+#define FRAMES_WAYS_MOST UINT64_C(281474976710656)
 
 /*
  * Refusals of a network file, in the order in which they are checked; 4 to 9 for one record before the next:
@@ -100,6 +104,28 @@ uint64_t frames_lookup(const uint8_t *file, size_t file_len, const uint8_t *call
  *     13       the link's number isn't below the number of links
  */
 uint64_t frames_free_frames(const uint8_t *file, size_t file_len, const uint8_t *calls, size_t calls_len, uint8_t link);
+
+/*
+ * The number of schedules over a route on the state that the calls leave, in the frames that are free there: 0 where a quote
+ * over it would be blocked, up to FRAMES_WAYS_MOST. It goes into `out`, since as an answer it could read as a refusal.
+ *
+ *     file, file_len    the bytes of the network file
+ *     calls, calls_len  the call records, of which the first FRAMES_CALLS_MOST bytes count; one that can't be read ends them
+ *     route, route_len  the links of the route, hop 0 first
+ *     out, out_len      room for one number
+ *
+ * Answers 1, which is how many numbers it put into `out`. Nothing is held. Refusals, in this order, each for the whole route
+ * before the next:
+ *
+ *     1 to 10  of the file
+ *     12       the route is empty or has over 8 links
+ *     13       a link number isn't below the number of links
+ *     14       a link appears twice in the route
+ *     15       of two adjacent links neither K divides the other
+ *     20       out_len is 0
+ */
+uint64_t frames_ways(const uint8_t *file, size_t file_len, const uint8_t *calls, size_t calls_len, const uint8_t *route,
+                     size_t route_len, uint64_t *out, size_t out_len);
 
 /*
  * A network file read, and the network written again. A network has one file, so that the bytes written are those read.

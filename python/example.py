@@ -16,6 +16,11 @@ RELEASED = HELD_STILL + bytes.fromhex("03 05 00")        # release 5
 CALLS = RELEASED + bytes.fromhex("02 01 00 03 05 00")    # quote over 0; release 5: refused with 19
 TWO = HELD + bytes.fromhex("01 06 00 02 00 01")          # set-up 6 over 0 1 as well: frames 0 1 in cycle 0
 
+# links of K 8 and Z 2 on which frames 3 and 6 alone are free; links of K 4 and K 6; eight links of K 64 and Z 64 in a cycle of 64 ticks
+BLOCKED = bytes.fromhex("30 00 02 07 08 02 f7 00 00 00 00 00 00 00 07 08 02 bf 00 00 00 00 00 00 00")
+UNFIT = bytes.fromhex("30 00 02 03 04 02 03 06 02")
+LARGEST = bytes.fromhex("40 00 08" + 8 * "03 40 40")
+
 TEXT = """\
 1 S ok 6 16 7 0 / 0 1
 2 S no 16
@@ -53,11 +58,13 @@ def plain_calls(library):
     text = library.report(NET, CALLS)
     session = library.lookup(NET, HELD, 5)
     count = library.free_frames(NET, HELD, 0)
+    ways = library.ways(NET, HELD, [0, 1])
     image = library.image(NET)
     file = library.write(48, [(16, 4, 0), (8, 2, 0)])
     demand("text", text, TEXT)
     demand("session", (session.delay, session.links, session.frames, session.cycles), (6, [0, 1], [7, 0], [0, 1]))
     demand("count", count, 7)
+    demand("ways", ways, 13)
     demand("image", image, NET)
     demand("file", file, bytes.fromhex("30 00 02 00 03 08 02"))
 
@@ -93,6 +100,24 @@ def main():
         (NET, HELD, 2, ("refused", 13)),
         (NET[:2], HELD, 0, ("refused", 1)),
         (NET, HELD, 256, ("too large",)),
+    ])
+    # without frame 7 of link 0 and frame 0 of link 1: from each of the frames 0 to 5 two holds, from frame 6 one
+    compare(library.ways, [
+        (NET, HELD, [0, 1], 6 * 2 + 1),
+        (NET, b"", [0, 1], 8 * 2),
+        (NET, RELEASED, [0, 1], 16),
+        (NET, HELD, [1, 0], 7 * 2 - 2),        # frames 5 and 6 of link 1 have one hold each
+        (NET, TWO, [0, 1], 6 * 2 - 1),         # frames 1 to 6 into frames 2 to 7
+        (NET, HELD, b"\0", 7),
+        (BLOCKED, b"", [0, 1], 0),
+        (LARGEST, b"", range(8), 64 ** 8),
+        (NET, HELD, [], ("refused", 12)),
+        (NET, HELD, range(9), ("refused", 12)),
+        (NET, HELD, [0, 0, 2], ("refused", 13)),
+        (NET, HELD, [0, 0], ("refused", 14)),
+        (UNFIT, b"", [0, 1], ("refused", 15)),
+        (NET[:2], HELD, [], ("refused", 1)),
+        (NET, HELD, [256], ("too large",)),
     ])
     compare(library.image, [
         (NET, NET),

@@ -26,6 +26,7 @@ ARGUMENTS = {
     "frames_report": BYTES + BYTES + BYTES_OUT,
     "frames_lookup": BYTES + BYTES + [ctypes.c_uint16] + NUMBERS_16,
     "frames_free_frames": BYTES + BYTES + [ctypes.c_uint8],
+    "frames_ways": BYTES + BYTES + BYTES + NUMBERS_64,
     "frames_image": BYTES + BYTES_OUT,
     "frames_write": [ctypes.c_uint16] + NUMBERS_16 + NUMBERS_16 + NUMBERS_64 + BYTES_OUT,
 }
@@ -76,6 +77,13 @@ class Library:
     def free_frames(self, file, calls, link):
         """How many frames of a link are free after the calls."""
         return given(self.functions.frames_free_frames(file, len(file), calls, len(calls), fitting(link, 8)))
+
+    def ways(self, file, calls, route):
+        """How many schedules there are over a route, which is the links of its hops, in the frames that are free after the calls."""
+        out = (ctypes.c_uint64 * 1)()
+        links = bytes(fitting(link, 8) for link in route)
+        given(self.functions.frames_ways(file, len(file), calls, len(calls), links, len(links), out, len(out)))
+        return out[0]
 
     def image(self, file):
         """The bytes of a network file, read and written again."""

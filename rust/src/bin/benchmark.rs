@@ -1,4 +1,4 @@
-//! Times the static library beside plain Rust, in one process, and prints one table with the ratios.
+//! Times the static library beside plain Rust, in one process, and prints a table of runs and one of numbers of ways, with the ratios.
 //! A list is timed only once the outputs of the sides that it is timed on are the same bytes.
 
 use std::hint::black_box;
@@ -6,14 +6,18 @@ use std::time::{Duration, Instant};
 
 use frames_check::call_records::{push_quote, push_release, push_set_up};
 use frames_check::library::{self, CALLS_MOST, TEXT_MOST};
+use frames_check::model::State;
 use frames_check::network_file::{image, Link, Network};
 use frames_check::networks::{closed_frames, large_network, Closing};
 use frames_check::random::Random;
 use frames_check::route::{Answer, Hop};
-use frames_check::{dijkstra, inputs, model, survivors};
+use frames_check::{dijkstra, inputs, model, running_sums, survivors, ways};
 
 /// The quotes over 8 hops of a short list.
 const FEW: usize = 100;
+
+/// The calls in turn that a number of ways is timed by.
+const COUNTS: usize = 200;
 
 /// The bytes of net.bin: in a cycle of 960 ticks, links with 64 frames and one range.
 fn file_of(range: u32, closed: impl Iterator<Item = u64>) -> Vec<u8> {
@@ -262,6 +266,100 @@ fn runs(out: &mut [u8], random: &mut Random) {
     );
 }
 
+/// A network file, the state that it gives, and a route.
+struct Counting {
+    file: Vec<u8>,
+    state: State,
+    route: Vec<u8>,
+}
+
+impl Counting {
+    fn new(file: Vec<u8>, route: &[u8]) -> Self {
+        let state = model::run(&file, &[], dijkstra::least).state;
+        Counting {
+            file,
+            state: state.expect("the file passes"),
+            route: route.to_vec(),
+        }
+    }
+
+    /// The library's number for a route; nothing where it is refused.
+    fn library(&self, route: &[u8]) -> Option<u64> {
+        let mut out = [0];
+        let answer = library::ways(&self.file, &[], route, &mut out);
+        answer.ok().map(|_| out[0])
+    }
+
+    /// The number in plain Rust on the state that was read, with the checks of the route and its hops.
+    fn plain(&self, number: fn(&[Hop]) -> u64) -> u64 {
+        let hops = self.state.hops(&self.route);
+        number(&hops.expect("the route passes"))
+    }
+
+    /// The best times in seconds of a call of the library, of one that is refused for its empty route, of running sums and of
+    /// all pairs. The three numbers are the same; that comparison is the warm-up.
+    fn times(&self) -> [f64; 4] {
+        let (sums, pairs) = (running_sums::number, ways::number);
+        let numbers = [self.plain(sums), self.plain(pairs)];
+        assert_eq!(numbers.map(Some), [self.library(&self.route); 2]);
+        let mut best = [f64::INFINITY; 4];
+        repeat(Duration::from_secs(1), || {
+            keep_best_of_many(&mut best[0], || self.library(black_box(&self.route)));
+            keep_best_of_many(&mut best[1], || self.library(black_box(&[])));
+            keep_best_of_many(&mut best[2], || black_box(self).plain(sums));
+            keep_best_of_many(&mut best[3], || black_box(self).plain(pairs));
+        });
+        best.map(|time| time / COUNTS as f64)
+    }
+}
+
+/// Runs as often as a number of ways is counted, and keeps the time in seconds of all where it is the best so far.
+fn keep_best_of_many<T>(best: &mut f64, run: impl Fn() -> T) {
+    keep_best(best, || {
+        for _ in 0..COUNTS {
+            black_box(run());
+        }
+    });
+}
+
+fn heading_of_ways() {
+    println!(
+        "{:<44} {:>9} {:>9} {:>9} {:>9} {:>9}",
+        "microseconds", "library", "sums", "pairs", "lib/sums", "lib/pairs"
+    );
+}
+
+/// (d) Numbers of ways over 8 hops of 64 frames. Of the library's time that of a call with an empty route is taken off, which reads
+/// the file too and then is refused.
+fn numbers_of_ways(random: &mut Random) {
+    let route = [0, 1, 2, 3, 4, 5, 6, 7];
+    for (frames, closing) in [
+        ("all free", Closing::None),
+        ("half free", Closing::ExactlyHalf),
+    ] {
+        for range in [4, 16, 64] {
+            let file = file_of(range, (0..8).map(|_| closed_frames(random, 64, closing)));
+            let [whole, refused, sums, pairs] = Counting::new(file, &route).times();
+            let library = whole - refused;
+            println!(
+                "{:<44} {:>9.2} {:>9.2} {:>9.2} {:>9.2} {:>9.2}",
+                format!("ways, 8 hops of 64 frames, Z {range}, {frames}"),
+                library * 1e6,
+                sums * 1e6,
+                pairs * 1e6,
+                library / sums,
+                library / pairs
+            );
+            println!(
+                "{:<44} {:>9.2} {:>9.2}",
+                "  the whole call, and one refused with 12",
+                whole * 1e6,
+                refused * 1e6
+            );
+        }
+    }
+}
+
 fn main() {
     let mut out = vec![0u8; TEXT_MOST];
     let mut random = Random::new(0x2545_f491_4f6c_dd1d);
@@ -274,4 +372,7 @@ fn main() {
     quotes(&mut out, &mut random);
     pairs(&mut out);
     runs(&mut out, &mut random);
+    println!("Numbers of ways: {COUNTS} calls in turn; the library's time is that of a call less that of one refused with 12, which reads the file too.");
+    heading_of_ways();
+    numbers_of_ways(&mut random);
 }

@@ -1,6 +1,6 @@
 //! The exported functions on the worked example of document 01, by the wrappers of `frames_check::library`.
 
-use frames_check::library::{self, text_bound, IMAGE_MOST, SESSION_MOST};
+use frames_check::library::{self, text_bound, IMAGE_MOST, SESSION_MOST, WAYS_MOST};
 use std::fmt::Debug;
 
 /// T = 48; links 0 and 1 have K 8 and Z 2.
@@ -34,6 +34,7 @@ fn main() {
     try_report();
     try_lookup();
     try_free_frames();
+    try_ways();
     try_image();
     try_write();
 }
@@ -96,6 +97,46 @@ fn try_free_frames() {
     assert_eq!(free_frames(RELEASED, 0), Ok(8));
     assert_eq!(free_frames(LIVE, 2), Err(13));
     println!("library::free_frames: as expected");
+}
+
+/// Question four's A{3} B{6}: links of K 8 and Z 2 on which those frames alone are free.
+const BLOCKED: [u8; 25] = [
+    0x30, 0x00, 0x02, 0x07, 0x08, 0x02, 0xf7, 0, 0, 0, 0, 0, 0, 0, 0x07, 0x08, 0x02, 0xbf, 0, 0, 0,
+    0, 0, 0, 0,
+];
+
+/// Question four's D and F: links of K 4 and K 6.
+const UNFIT: [u8; 9] = [0x30, 0x00, 0x02, 0x03, 0x04, 0x02, 0x03, 0x06, 0x02];
+
+fn try_ways() {
+    let mut number = [0];
+    library::ways(&NET, &CALLS[..LIVE], &[0, 1], &mut number).expect("the route passes");
+    // from each of the frames 0 to 5 of link 0 two holds; from 6 one, since frame 0 of link 1 is held; 7 is held: 6 * 2 + 1
+    assert_eq!(number, [13]);
+
+    let ways =
+        |file, calls, route, room| written(room, |out| library::ways(file, calls, route, out));
+    assert_eq!(ways(&NET, &[], &[0, 1], 1), Ok(vec![8 * 2]));
+    assert_eq!(ways(&NET, &CALLS[..RELEASED], &[0, 1], 1), Ok(vec![16]));
+    assert_eq!(ways(&NET, &CALLS[..LIVE], &[0, 1], 5), Ok(vec![13]));
+    // frames 1 to 7 of link 1, two holds each, but 5 and 6 one each, since frame 7 of link 0 is held
+    assert_eq!(ways(&NET, &CALLS[..LIVE], &[1, 0], 1), Ok(vec![7 * 2 - 2]));
+    // frames 1 to 6 of link 0, two holds each into frames 2 to 7 of link 1, but 6 one
+    assert_eq!(ways(&NET, &TWO, &[0, 1], 1), Ok(vec![6 * 2 - 1]));
+    assert_eq!(ways(&NET, &CALLS[..LIVE], &[0], 1), Ok(vec![7]));
+    assert_eq!(ways(&BLOCKED, &[], &[0, 1], 1), Ok(vec![0]));
+    assert_eq!(ways(&NET, &CALLS[..LIVE], &[], 1), Err(12));
+    assert_eq!(ways(&NET, &CALLS[..LIVE], &[0, 0, 2], 1), Err(13));
+    assert_eq!(ways(&NET, &CALLS[..LIVE], &[0, 0], 1), Err(14));
+    assert_eq!(ways(&UNFIT, &[], &[0, 1], 1), Err(15));
+    assert_eq!(ways(&NET, &CALLS[..LIVE], &[0, 1], 0), Err(20));
+    assert_eq!(ways(&NET[..2], &CALLS[..LIVE], &[0, 1], 0), Err(1));
+
+    // eight links of K 64 and Z 64 in a cycle of 64 ticks
+    let largest = [&[0x40, 0x00, 0x08][..], &[0x03, 0x40, 0x40].repeat(8)].concat();
+    let route = [0, 1, 2, 3, 4, 5, 6, 7];
+    assert_eq!(ways(&largest, &[], &route, 1), Ok(vec![WAYS_MOST]));
+    println!("library::ways: as expected");
 }
 
 fn try_image() {
