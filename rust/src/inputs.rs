@@ -399,7 +399,7 @@ pub fn compare_some(
     for inputs in 1..=1_500 {
         let input = &match inputs % 300 {
             0 => over_the_limit(&mut random),
-            1..=3 => full_ledger(&mut random),
+            297.. => full_ledger(&mut random),
             _ => input(&mut random),
         };
         let run = &crate::model::run(&input.file, &input.calls, crate::dijkstra::least);
