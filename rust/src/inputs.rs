@@ -389,6 +389,15 @@ fn spoil(random: &mut Random, calls: &mut Vec<u8>) {
     }
 }
 
+/// The hops of a good route on a random network that holds no sessions.
+#[cfg(test)]
+pub fn some_hops(random: &mut Random) -> Vec<crate::route::Hop> {
+    let network = network(random, 64);
+    let route = good_route(random, &network);
+    let hops = crate::model::hops_of(&network, &crate::model::Ledger::new(&network), &route);
+    hops[..route.len()].to_vec()
+}
+
 /// Hands some inputs, most of them short, with their runs by the model to a comparison, up to the first that differs.
 #[cfg(test)]
 pub fn compare_some(

@@ -413,20 +413,16 @@ fn wrong_buffers() -> Vec<Wrong<Box<Ways>>> {
 #[cfg(test)]
 mod tests {
     use super::*;
-    use crate::inputs::good_route;
-    use crate::networks::network;
+    use crate::inputs::some_hops;
     use crate::random::Random;
 
     #[test]
     fn the_number_without_a_mistake_is_right() {
         let mut random = Random::new(18);
         for _ in 0..1_000 {
-            let network = network(&mut random, 64);
-            let route = good_route(&mut random, &network);
-            let hops = model::hops_of(&network, &model::Ledger::new(&network), &route);
-            let hops = &hops[..route.len()];
-            let by_right_rules = number_by(hops, route::reference, route::hold);
-            assert_eq!(by_right_rules, number(hops));
+            let hops = some_hops(&mut random);
+            let by_right_rules = number_by(&hops, route::reference, route::hold);
+            assert_eq!(by_right_rules, number(&hops));
         }
     }
 }
