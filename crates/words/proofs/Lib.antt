@@ -3,3 +3,4 @@ pub mod Words
 pub mod Frames
 pub mod Ones
 pub mod Machine
+pub mod Sliding

@@ -70,3 +70,7 @@ free-word m K closed held h c d =
     and-word K (onesBelow K) (2 ^ m - 1 - bitOr closed held) (freeAt closed held) (rw (ones-word K) (ones-lt K))
     (λ i l. rw (bit-ones K i, bit-not m (bitOr closed held) i (or-lt m closed held c d), lt-ltb i K l, lt-ltb i m (omega arith), bit-or closed held i)
     (not-or (bitOf closed i) (bitOf held i)))
+
+-- the ones below K `& w`
+pub low-word : (K w : ℕ) → bitAnd (onesBelow K) w ≡ wordOf K (bitOf w)
+low-word K w = and-word K (onesBelow K) w (bitOf w) (rw (ones-word K) (ones-lt K)) (λ i l. rw (bit-ones K i, lt-ltb i K l))

@@ -1,9 +1,11 @@
 // Words of frames: bit i of a word stands for frame i.
 // What is required, callers show: of a link by check 7, K, here `frames`, being from 1 to 64 and a frame number below K; a word that isn't one of frames has its bits below 64 too.
 ghost use mathlib.Core.Path.{_≡_};
-ghost use Prim.Native.Nat.{_≤_, _<_};
-ghost use Rattle.lists.specs.Count.{countBelow};
+ghost use Prim.Native.Nat.{_+_, _%_, _≤_, _<_};
+ghost use lib.ListN.{length};
+ghost use Rattle.lists.specs.Count.{oneIf, countBelow};
 ghost use Rattle.words.specs.Word.{bitOf, onesBelow, withBit, withoutBit, freeAt, freeWord};
+ghost use Rattle.words.specs.Inner.{WindowOnes};
 
 // Whether bit i of a word stands.
 pub fn has_bit(word: u64, i: u16) -> bool
@@ -52,4 +54,47 @@ pub fn free_frames(frames: u16, closed: u64, held: u64) -> u32
     ensures { λ r. ⌜ r ≡ countBelow frames (freeAt closed held) ⌝ }
 {
     u64::count_ones(free_word(frames, closed, held))
+}
+
+// The frame that lies d frames after frame i of a cycle.
+pub fn frame_on(i: u16, d: u16, frames: u16) -> u16
+    requires { ⌜ (i < frames) × (d ≤ frames) × (frames ≤ 64) ⌝ }
+    ensures { λ r. ⌜ r ≡ (i + d) % frames ⌝ }
+{
+    if i + d < frames {
+        i + d
+    } else {
+        i + d - frames
+    }
+}
+
+// 1 where bit i of a word stands, and else 0.
+fn one_at(word: u64, i: u16) -> u32
+    requires { ⌜ i < 64 ⌝ }
+    ensures { λ r. ⌜ r ≡ oneIf (bitOf word i) ⌝ }
+{
+    if has_bit(word, i) { 1 } else { 0 }
+}
+
+// How many of the first n bits of a word stand.
+fn ones_among(word: u64, n: u16) -> u32
+    requires { ⌜ (0 < n) × (n ≤ 64) ⌝ }
+    ensures { λ r. ⌜ r ≡ countBelow n (bitOf word) ⌝ }
+{
+    u64::count_ones(ones_below(n) & word)
+}
+
+// For each frame of a cycle, the ones of a word in the window of so many frames that begins with it, going round the cycle: each window has the one before it
+// without its first frame and with the frame after its last.
+pub fn window_ones(word: u64, frames: u16, width: u16, ones: &mut [u8; 64])
+    requires { ⌜ (0 < width) × (width ≤ frames) × (frames ≤ 64) × (length (now ones) ≡ 64) ⌝ }
+    ensures { λ r. ⌜ WindowOnes word frames width frames (now (ones .exit)) ⌝ }
+{
+    let mut n = ones_among(word, width);
+    let mut a: u16 = 0;
+    while a < frames {
+        ones[a as usize] = n as u8;
+        n = n + one_at(word, frame_on(a, width, frames)) - one_at(word, a);
+        a += 1;
+    }
 }
