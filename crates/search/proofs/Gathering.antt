@@ -1,107 +1,141 @@
--- Visiting the frames of the hop before one after the other gathers the best way into each frame of the next. Assumes nothing.
-use mathlib.Core.Path.{_≡_, refl, sym, _∙_, ap, ap₂, fun-ext}
-use mathlib.Core.Bool.{false, _&&_}
+-- The frames of the hop before, gathered one after the other by the frame that the least hold leads each to. Assumes nothing.
+use mathlib.Core.Path.{_≡_, refl, sym, _∙_, ap, subst}
+use mathlib.Core.Bool.{Bool, true, false, cond}
 use mathlib.Core.List.{List}
+use mathlib.Core.Logic.{⊎-elim}
 use Prim.Native.Nat.{ℕ, zero, suc, _+_, _-_, _*_, _<_, _≤_}
-use native.Mathlib.Nat.{mul-div-le}
-use native.Mathlib.Numerals.{add-one}
+use native.Mathlib.Nat.{eq-or-lt-of-le, mul-le-mul-right}
+use native.Mathlib.Decide.{decLt, ℕ-discrete}
 use native.Mathlib.Omega.{arith}
-use lib.ListN.{getD, length, replicate, length-replicate}
-use Rattle.lists.specs.Count.{countBelow}
-use Rattle.lists.proofs.Count.{sum-bound, count-le}
-use Rattle.trellis.specs.Trellis.{Reach, after, Stage}
-use Rattle.trellis.specs.Paths.{reached}
-use Rattle.trellis.proofs.Survivor.{Best, nobody, better, bestOf}
-use Rattle.forwarding.specs.declared.Hop.{Hop}
-use Rattle.forwarding.specs.Forwarding.{frameTime}
-use Rattle.forwarding.specs.Hops.{HopReady}
-use Rattle.forwarding.specs.Route.{stageOf, stage}
-use Rattle.forwarding.proofs.Transitions.{delay-frames}
-use Rattle.search.specs.Inner.{Rows, rows, Sized, cellReach, wayOf, wayAt, Earlier, stageBy, Visited, offers, counts, Advanced}
-use Rattle.search.proofs.Spreading.{none-below}
+use lib.Dec.{ltb}
+use lib.ListN.{getD, set, length, replicate, length-set, length-replicate}
+use lib.Seq.{getD-set-same, getD-set-other}
+use borrow.Author.Tests.{ltb-true, ltb-false}
+use Rattle.search.specs.Inner.{Within, keyFrom, Entered, Gathers, Keys}
 
--- by the time of a frame or by the rule, the stage is the same
-pub stage-by : (T : ℕ) (g h : Hop) → HopReady T h → stageBy (frameTime T (h .frames)) g h ≡ stage T g h
-stage-by T g h p =
-    ap (λ (c : ℕ → ℕ). stageOf c g h) (fun-ext (λ D. sym (delay-frames T (h .frames) D (p .some-frame) (p .divides))))
+-- fewer frames than a cycle take no longer than a cycle
+pub within-time : (time K n : ℕ) → n ≤ K → K * time ≤ 960 → n * time ≤ 960
+within-time time K n h l = omega (arith, mul-le-mul-right {m = n} {n = K} time h)
 
--- the frames of a cycle last no longer than the cycle
-pub time-fits : (T K x : ℕ) → T ≤ 960 → x ≡ frameTime T K → K * x ≤ 960
-unfolding frameTime
-time-fits T K x h e = omega (arith, ap (λ (y : ℕ). K * y) e, mul-div-le T K)
+-- 64 times the same
+pub same-at : (n v i : ℕ) → i < n → getD (replicate n v) i 0 ≡ v
+same-at zero v i l = absurd (omega arith)
+same-at (suc n) v zero l = refl
+same-at (suc n) v (suc i) l = same-at n v i (omega arith)
 
--- a frame that no schedule leads to
-pub visited-never : (st : Stage) (k base cell : ℕ) (r : Rows) → Sized r → cell ≡ 0 → Visited st k (cellReach cell) base r r 0
-visited-never st k base zero r z e = record {
-  inside = λ i l. refl;
-  outside = λ i l. refl;
-  counted = none-below (st .size) (λ i. false) (λ i l. refl);
-  earlier = λ m l. refl;
-  sized = z;
-}
-visited-never st k base (suc c) r z e = absurd (omega arith)
+pub most-same : (n v i : ℕ) → getD (replicate n v) i 0 ≤ v
+most-same zero v i = omega arith
+most-same (suc n) v zero = omega arith
+most-same (suc n) v (suc i) = most-same n v i
 
-pub reach-some : (cell : ℕ) → (cell ≡ 0 → ⊥) → after (cell - 1) ≡ cellReach cell
-reach-some zero n = absurd (n refl)
-reach-some (suc c) n = ap after (omega arith)
-
--- the frames below k are visited
-pub record Gathered (st : Stage) (cells : List ℕ) (k base : ℕ) (old : List ℕ) (r : Rows) (count : ℕ) : Type 0 where
-  pub inside : (i : ℕ) → i < st .size → wayAt r base i ≡ bestOf (offers st cells i) k
-  pub outside : (i : ℕ) → st .size ≤ i → wayAt r base i ≡ nobody
-  pub counted : count ≡ counts st cells k
-  pub earlier : Earlier base old (r .preds)
-  pub sized : Sized r
-
-pub zeros : (n i : ℕ) → _≡_ {A = ℕ} (getD (replicate n 0) i 0) 0
-zeros zero i = refl
-zeros (suc n) zero = refl
-zeros (suc n) (suc i) = zeros n i
-
-no-cell : (c h k : ℕ) → wayOf c h k ≡ nobody → c ≡ 0
-no-cell zero h k e = refl
-no-cell (suc c) h k e = absurd (let z : _≡_ {A = ℕ} 0 1 = cc in omega arith)
-
-module _ (st : Stage) (cells : List ℕ) (base : ℕ) (old : List ℕ) where
-  abbrev none-yet : Rows
-  none-yet = rows (replicate 64 0) (replicate 64 0) old
-
-  no-way : (i : ℕ) → wayAt none-yet base i ≡ nobody
-  no-way i = ap (λ (c : ℕ). wayOf c (getD (replicate 64 0) i 0) (getD old (base + i) 0)) (zeros 64 i)
-
-  pub none-gathered : length old ≡ 512 → Gathered st cells 0 base old none-yet 0
-  none-gathered l = record {
-    inside = λ i h. no-way i;
-    outside = λ i h. no-way i;
-    counted = refl;
-    earlier = λ m h. refl;
-    sized = record { cells-long = length-replicate {A = ℕ} 64 0; holds-long = length-replicate {A = ℕ} 64 0; preds-long = l };
+module _ (first : ℕ → ℕ) (time K : ℕ) (cells : List ℕ) (short : K * time ≤ 960) where
+  pub none-gathered : (froms : List ℕ) → K ≤ 64 → length froms ≡ 64 → Gathers first time K cells 0 (replicate 64 33728) froms
+  none-gathered froms few l = record {
+    keys-long = length-replicate {A = ℕ} 64 33728;
+    froms-long = l;
+    small = most-same 64 33728;
+    waits = λ a m n. omega (arith, same-at 64 33728 a (omega arith), within-time time K (K - a) (omega arith) short);
+    least = λ k m. absurd (omega arith);
+    smallest = λ k m. absurd (omega arith);
+    own = λ a m n. absurd (omega (arith, same-at 64 33728 a (omega arith)));
   }
 
-  pub one-gathered : (k count n : ℕ) (r s : Rows) → Gathered st cells k base old r count → Visited st k (cellReach (getD cells k 0)) base r s n
-      → Gathered st cells (k + 1) base old s (count + n)
-  one-gathered k count n r s g v = rw (add-one k) (record {
-    inside = λ i h. v .inside i h ∙ ap (λ (b : Best). better b (offers st cells i k) k) (g .inside i h);
-    outside = λ i h. v .outside i h ∙ g .outside i h;
-    counted = ap₂ _+_ (g .counted) (v .counted);
-    earlier = λ m h. v .earlier m h ∙ g .earlier m h;
-    sized = v .sized;
-  })
+  module _ (n a key : ℕ) (keys froms keys′ froms′ : List ℕ) (g : Gathers first time K cells n keys froms) (is : a ≡ first n) (in-cycle : a < K) (few : K ≤ 64)
+      (keyed : key ≡ keyFrom time K cells a n) (w : Within 5760 (getD cells n 0)) (e : Entered a key n keys froms keys′ froms′) where
+    abbrev kept : ℕ
+    kept = getD keys a 0
 
-  pub all-gathered : (k count : ℕ) (r : Rows) → Gathered st cells k base old r count → Advanced st cells k base old (r .cells) (r .preds) count
-  all-gathered k count r g = record {
-    inside = λ i h. (getD (r .holds) i 0, g .inside i h);
-    outside = λ i h. no-cell (getD (r .cells) i 0) (getD (r .holds) i 0) (getD (r .preds) (base + i) 0) (g .outside i h);
-    counted = g .counted;
-    earlier = g .earlier;
-    long = g .sized .preds-long;
-  }
+    -- the key that a frame has now, and the frame before
+    here : getD keys′ a 0 ≡ cond (ltb key kept) key kept
+    here = ap (λ (l : List ℕ). getD l a 0) (e .keyed) ∙ getD-set-same keys a (cond (ltb key kept) key kept) 0 (omega (arith, g .keys-long))
 
--- from a frame there are at most as many transitions as frames
-pub visit-count : (st : Stage) (k base n : ℕ) (x : Reach) (r s : Rows) → st .size ≤ 64 → Visited st k x base r s n → n ≤ 64
-visit-count st k base n x r s h v = omega (arith, v .counted, count-le (st .size) (λ i. reached x && st .allowed k i))
+    from-here : getD froms′ a 0 ≡ cond (ltb key kept) n (getD froms a 0)
+    from-here = ap (λ (l : List ℕ). getD l a 0) (e .from) ∙ getD-set-same froms a (cond (ltb key kept) n (getD froms a 0)) 0 (omega (arith, g .froms-long))
 
-pub counts-le : (st : Stage) (cells : List ℕ) (k : ℕ) → st .size ≤ 64 → counts st cells k ≤ k * 64
-counts-le st cells k h =
-    sum-bound k 64 (λ j. countBelow (st .size) (λ i. reached (cellReach (getD cells j 0)) && st .allowed j i))
-    (λ j l. omega (arith, count-le (st .size) (λ i. reached (cellReach (getD cells j 0)) && st .allowed j i)))
+    there : (b : ℕ) → (b ≡ a → ⊥) → getD keys′ b 0 ≡ getD keys b 0
+    there b d = ap (λ (l : List ℕ). getD l b 0) (e .keyed) ∙ getD-set-other keys a b (cond (ltb key kept) key kept) 0 d
+
+    from-there : (b : ℕ) → (b ≡ a → ⊥) → getD froms′ b 0 ≡ getD froms b 0
+    from-there b d = ap (λ (l : List ℕ). getD l b 0) (e .from) ∙ getD-set-other froms a b (cond (ltb key kept) n (getD froms a 0)) 0 d
+
+    -- the frame a has the new key now, or the one that it had
+    two : {A : Type 0} → (key < kept → getD keys′ a 0 ≡ key → getD froms′ a 0 ≡ n → A) → (kept ≤ key → getD keys′ a 0 ≡ kept → getD froms′ a 0 ≡ getD froms a 0 → A) → A
+    two {A} new old = go (ltb key kept) refl
+      where
+        go : (t : Bool) → ltb key kept ≡ t → A
+        go true t = new (ltb-true key kept t) (here ∙ ap (λ (u : Bool). cond u key kept) t) (from-here ∙ ap (λ (u : Bool). cond u n (getD froms a 0)) t)
+        go false t = old (ltb-false key kept t) (here ∙ ap (λ (u : Bool). cond u key kept) t) (from-here ∙ ap (λ (u : Bool). cond u n (getD froms a 0)) t)
+
+    -- what holds of a, and of every other frame
+    each : (A : ℕ → Type 0) → A a → ((b : ℕ) → (b ≡ a → ⊥) → A b) → (b : ℕ) → A b
+    each A at other b = elim (ℕ-discrete b a) [ yes q ↦ subst A (sym q) at | no q ↦ other b q ]
+
+    wait : (K - a) * time ≤ 960
+    wait = within-time time K (K - a) (omega arith) short
+
+    -- a key as large as that of no schedule is one of no schedule
+    far : 32768 ≤ key → 32768 + (K - a) * time ≤ key
+    far l = elim (decLt (getD cells n 0) 32768) [ yes m ↦ absurd (omega (arith, w .ticks m, wait)) | no m ↦ omega arith ]
+
+    -- a frame that leads elsewhere is one of those before
+    elsewhere : (k : ℕ) → k < n + 1 → (first k ≡ a → ⊥) → k < n
+    elsewhere k l q = ⊎-elim (λ x. absurd (q (ap first x ∙ sym is))) (λ x. x) (eq-or-lt-of-le (omega arith))
+
+    least-now : (k : ℕ) → k < n + 1 → getD keys′ (first k) 0 ≤ keyFrom time K cells (first k) k
+    least-now k l =
+        elim (ℕ-discrete (first k) a) [
+          | yes q ↦ rw q (⊎-elim (λ x. at-new k x q) (λ x. at-old k x q) (eq-or-lt-of-le (omega arith)))
+          | no q ↦ rw (there (first k) q) (g .least k (elsewhere k l q))
+        ]
+      where
+        at-new : (k : ℕ) → k ≡ n → first k ≡ a → getD keys′ a 0 ≤ keyFrom time K cells a k
+        at-new k x q = rw x (two (λ l v f. omega arith) (λ l v f. omega arith))
+
+        at-old : (k : ℕ) → k < n → first k ≡ a → getD keys′ a 0 ≤ keyFrom time K cells a k
+        at-old k x q = let o : getD keys a 0 ≤ keyFrom time K cells a k = rw q at (g .least k x) in two (λ l v f. omega arith) (λ l v f. omega arith)
+
+    smallest-now : (k : ℕ) → k < n + 1 → getD keys′ (first k) 0 < 32768 → k < getD froms′ (first k) 0 → getD keys′ (first k) 0 < keyFrom time K cells (first k) k
+    smallest-now k l m f =
+        elim (ℕ-discrete (first k) a) [
+          | yes q ↦ rw q (at-a q (rw q at m) (rw q at f))
+          | no q ↦ rw (there (first k) q) (g .smallest k (elsewhere k l q) (rw (there (first k) q) at m) (rw (from-there (first k) q) at f))
+        ]
+      where
+        at-a : first k ≡ a → getD keys′ a 0 < 32768 → k < getD froms′ a 0 → getD keys′ a 0 < keyFrom time K cells a k
+        at-a q m f =
+            two
+            (λ x v o. let s : getD keys a 0 ≤ keyFrom time K cells a k = rw q at (g .least k (omega arith)) in omega arith)
+            (λ x v o.
+            let d : getD keys a 0 < keyFrom time K cells a k =
+            (rw q at (g .smallest k (omega (arith, g .own a in-cycle (omega arith) .0)))) (omega arith) (omega arith) in
+            omega arith)
+
+    -- the frame b has the key and the frame before that it had
+    own-kept : (b : ℕ) → getD keys′ b 0 ≡ getD keys b 0 → getD froms′ b 0 ≡ getD froms b 0 → b < K → getD keys′ b 0 < 32768
+        → (getD froms′ b 0 < n + 1) × (first (getD froms′ b 0) ≡ b) × (getD keys′ b 0 ≡ keyFrom time K cells b (getD froms′ b 0))
+    own-kept b v f l m = let o = g .own b l (omega arith) in (omega (arith, o .0), ap first f ∙ o .1, v ∙ o .2 ∙ ap (keyFrom time K cells b) (sym f))
+
+    -- ONE FRAME MORE IS GATHERED
+    pub one-gathered : Gathers first time K cells (n + 1) keys′ froms′
+    one-gathered = record {
+      keys-long = ap length (e .keyed) ∙ length-set keys a (cond (ltb key kept) key kept) ∙ g .keys-long;
+      froms-long = ap length (e .from) ∙ length-set froms a (cond (ltb key kept) n (getD froms a 0)) ∙ g .froms-long;
+      small = each (λ b. getD keys′ b 0 ≤ 33728) (two (λ l v f. omega (arith, g .small a)) (λ l v f. omega (arith, g .small a))) (λ b q. omega (arith, there b q, g .small b));
+      waits = each (λ b. b < K → 32768 ≤ getD keys′ b 0 → 32768 + (K - b) * time ≤ getD keys′ b 0)
+          (λ l m. two (λ x v f. omega (arith, far (omega arith))) (λ x v f. omega (arith, g .waits a l (omega arith))))
+          (λ b q l m. omega (arith, there b q, g .waits b l (omega (arith, there b q))));
+      least = least-now;
+      smallest = smallest-now;
+      own = each (λ b. b < K → getD keys′ b 0 < 32768 → (getD froms′ b 0 < n + 1) × (first (getD froms′ b 0) ≡ b) × (getD keys′ b 0 ≡ keyFrom time K cells b (getD froms′ b 0)))
+          (λ l m. two (λ x v f. (omega arith, ap first f ∙ sym is, v ∙ keyed ∙ ap (keyFrom time K cells a) (sym f))) (λ x v f. own-kept a v f l m))
+          (λ b q. own-kept b (there b q) (from-there b q));
+    }
+
+-- ---- what the keys are known to be once all frames are gathered
+module _ (first : ℕ → ℕ) (time K : ℕ) (cells : List ℕ) (n : ℕ) (keys froms : List ℕ) (g : Gathers first time K cells n keys froms) where
+  pub gathered-keys : (cycle : ℕ) → 0 < K → K ≤ 64 → cycle ≤ 960 → Keys cycle K keys
+  gathered-keys cycle some few short = record { some-frame = some; few-frames = few; short = short; small = g .small }
+
+  -- each has the time to the end of the cycle
+  pub gathered-waits : (a : ℕ) → a < K → (K - a) * time ≤ getD keys a 0
+  gathered-waits a l = elim (decLt (getD keys a 0) 32768) [ yes m ↦ omega (arith, g .own a l m .2) | no m ↦ omega (arith, g .waits a l (omega arith)) ]

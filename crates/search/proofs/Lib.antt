@@ -1,9 +1,13 @@
-pub mod Ways
-pub mod Spreading
+pub mod Cells
+pub mod Latest
+pub mod Positions
+pub mod Picking
 pub mod Gathering
+pub mod Counting
+pub mod Landing
 pub mod Beginning
-pub mod Nearest
 pub mod Recovering
 pub mod Sweeping
 pub mod Ending
 pub mod Findings
+pub mod Settling

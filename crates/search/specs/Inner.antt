@@ -1,92 +1,168 @@
 -- Words of the contracts of inner functions. They are no part of what is promised: `search::search` promises in the words of `Reading` alone. They say what the
 -- rows of the code are in the terms of survivor search, whose definitions stand in `trellis/proofs` since it is a method and no rule. Assumes nothing.
 use mathlib.Core.Path.{_≡_}
-use mathlib.Core.Bool.{Bool, true, _&&_, _||_}
+use mathlib.Core.Bool.{Bool, true, false, _&&_, cond}
 use mathlib.Core.List.{List, [], _∷_}
-use Prim.Native.Nat.{ℕ, zero, suc, _+_, _*_, _<_, _≤_}
-use lib.Dec.{ltb, eqb}
-use lib.ListN.{getD, length}
+use Prim.Native.Nat.{ℕ, zero, suc, _+_, _-_, _*_, _%_, _<_, _≤_}
+use lib.Dec.{ltb}
+use lib.ListN.{getD, set, length}
 use Rattle.lists.specs.Count.{oneIf, sumBelow, countBelow}
-use Rattle.trellis.specs.Trellis.{Reach, never, after, Stage, Trellis, entry}
+use Rattle.trellis.specs.Trellis.{Reach, never, after, Stage, Trellis, entry, width}
 use Rattle.trellis.specs.Paths.{reached}
-use Rattle.trellis.proofs.Survivor.{Offer, offer, offerOf, Best, nobody, best, better, bestOf, lastOffer, into, row, scanned}
+use Rattle.trellis.proofs.Survivor.{Offer, offerOf, Best, nobody, best, bestOf, lastOffer, into, row, scanned}
 use Rattle.trellis.proofs.Ladder.{ladder}
 use Rattle.words.specs.Word.{bitOf}
 use Rattle.forwarding.specs.declared.Hop.{Hop}
+use Rattle.forwarding.specs.Forwarding.{gap, isAllowed}
 use Rattle.forwarding.specs.Hops.{HopReady, Ready}
 use Rattle.forwarding.specs.Route.{stageOf}
 use Rattle.forwarding.specs.Inner.{hopAt, stageAfter}
+use Rattle.forwarding.proofs.Windows.{firstFrame}
 
--- a cell: 0 where no schedule leads to the frame, and else the least delay and 1
-abbrev pub cellReach : ℕ → Reach
-cellReach zero = never
-cellReach (suc d) = after d
+-- ---- cells
 
--- the way kept at a frame: its cell, the hold into the frame and the frame before
-abbrev pub wayOf : ℕ → ℕ → ℕ → Best
-wayOf zero h k = nobody
-wayOf (suc d) h k = best d h k
+-- a cell: the least delay to a frame; from 32,768 on, that no schedule leads to it
+abbrev pub reachIf : Bool → ℕ → Reach
+reachIf true d = after d
+reachIf false d = never
 
--- the rows of the hop that is being reached: cells, holds, and the predecessors of all hops
-pub record Rows : Type 0 where
-  pub cells : List ℕ
-  pub holds : List ℕ
-  pub preds : List ℕ
+unfoldable pub cellReach : ℕ → Reach
+cellReach c = reachIf (ltb c 32768) c
 
-abbrev pub rows : List ℕ → List ℕ → List ℕ → Rows
-rows cells holds preds = record { cells = cells; holds = holds; preds = preds }
+-- the way into a frame: its cell, the hold into the frame and the frame before
+abbrev pub wayIf : Bool → ℕ → ℕ → ℕ → Best
+wayIf true d h k = best d h k
+wayIf false d h k = nobody
 
-pub record Sized (r : Rows) : Type 0 where
-  pub cells-long : length (r .cells) ≡ 64
-  pub holds-long : length (r .holds) ≡ 64
-  pub preds-long : length (r .preds) ≡ 512
+unfoldable pub wayOf : ℕ → ℕ → ℕ → Best
+wayOf c h k = wayIf (ltb c 32768) c h k
 
--- the way kept at frame i of the hop whose predecessors stand from `base` on
-abbrev pub wayAt : Rows → ℕ → ℕ → Best
-wayAt r base i = wayOf (getD (r .cells) i 0) (getD (r .holds) i 0) (getD (r .preds) (base + i) 0)
+-- the cell of a frame, where it is free; and of two numbers the smaller
+abbrev pub cellIf : ℕ → ℕ → ℕ → ℕ
+cellIf free i c = cond (bitOf free i) c 32768
 
--- whether a way of this delay and hold is taken before the one kept: the smaller delay first, then the smaller hold
-abbrev pub taken : Best → ℕ → ℕ → Bool
-taken nobody d h = true
-taken (best d₀ h₀ k₀) d h = ltb d d₀ || (eqb d d₀ && ltb h h₀)
+abbrev pub lower : ℕ → ℕ → ℕ
+lower a b = cond (ltb a b) a b
+
+-- a cell after at most d ticks, or none
+pub record Within (d c : ℕ) : Type 0 where
+  pub most : c ≤ 32768
+  pub ticks : c < 32768 → c ≤ d
+
+-- ---- positions: what is least among those that end with a given one
+
+-- p is the latest position with the least key among the n positions that end with e
+pub record Latest (key : ℕ → ℕ) (e n p : ℕ) : Type 0 where
+  pub begins : e < p + n
+  pub ends : p ≤ e
+  pub least : (q : ℕ) → e < q + n → q ≤ e → key p ≤ key q
+  pub latest : (q : ℕ) → p < q → q ≤ e → key p < key q
+
+-- positions go over two cycles of K frames, the one before and this one: position p is the frame p % K. A position has the key of its frame, in the cycle before with a cycle more
+unfoldable pub keyAt : ℕ → ℕ → List ℕ → ℕ → ℕ
+keyAt cycle K keys p = getD keys (p % K) 0 + cond (ltb p K) cycle 0
+
+-- a stored frame that stands for that latest position; and beside its key
+pub record Picked (key : ℕ → ℕ) (K e n frame : ℕ) : Type 0 where
+  pub position : ℕ
+  pub stands : frame ≡ position % K
+  pub latest : Latest key e n position
+
+pub record Chosen (key : ℕ → ℕ) (K e n frame value : ℕ) : Type 0 where
+  pub position : ℕ
+  pub stands : frame ≡ position % K
+  pub valued : value ≡ key position
+  pub latest : Latest key e n position
+
+-- the keys of a link's frames: checks 3 and 7
+pub record Keys (cycle K : ℕ) (keys : List ℕ) : Type 0 where
+  pub some-frame : 0 < K
+  pub few-frames : K ≤ 64
+  pub short : cycle ≤ 960
+  pub small : (a : ℕ) → getD keys a 0 ≤ 33728
+
+-- the picks of the windows of 1 to n frames that end with frame e, the window of o + 1 at o
+pub record Trail (cycle K : ℕ) (keys : List ℕ) (e n : ℕ) (behind : List ℕ) : Type 0 where
+  pub long : length behind ≡ 64
+  pub each : (o : ℕ) → o < n → Picked (keyAt cycle K keys) K (e + K) (o + 1) (getD behind o 0)
 
 -- the predecessors of earlier hops are as they were
 abbrev pub Earlier : ℕ → List ℕ → List ℕ → Type 0
 Earlier base old new = (m : ℕ) → m < base → getD new m 0 ≡ getD old m 0
 
--- frame i was offered a way from frame k of this delay and hold; the other frames and the earlier hops have what they had
-pub record Offered (base i d h k : ℕ) (old new : Rows) : Type 0 where
-  pub here : wayAt new base i ≡ better (wayAt old base i) (offer d h) k
-  pub others : (j : ℕ) → (j ≡ i → ⊥) → wayAt new base j ≡ wayAt old base j
-  pub earlier : Earlier base (old .preds) (new .preds)
-  pub sized : Sized new
+-- the picks of the windows of w frames that end with the first n frames, where the predecessors of the hop are to stand
+pub record Windows (cycle K : ℕ) (keys : List ℕ) (w base n : ℕ) (old preds : List ℕ) : Type 0 where
+  pub long : length preds ≡ 448
+  pub earlier : Earlier base old preds
+  pub each : (i : ℕ) → i < n → Picked (keyAt cycle K keys) K (i + K) w (getD preds (base + i) 0)
+
+-- ---- a hop entered
+
+-- how many frames a frame leads to, and the free frames: where there is no hold at all, one, and none of them
+pub record Opens (h : Hop) (width free : ℕ) : Type 0 where
+  pub some : 0 < width
+  pub within : width ≤ h .frames
+  pub same : (g : Hop) (k i : ℕ) → isAllowed g h k i ≡ (ltb (gap (h .frames) (firstFrame g h k) i) width && bitOf free i)
+
+-- the key of frame k of the hop before at the frame a that the least hold leads it to: its cell, and the time from a to the end of the cycle
+abbrev pub keyFrom : ℕ → ℕ → List ℕ → ℕ → ℕ → ℕ
+keyFrom time K cells a k = getD cells k 0 + (K - a) * time
+
+-- a frame's key and the frame before that it is of, where the frame a was offered the key of frame k
+pub record Entered (a key k : ℕ) (keys froms keys′ froms′ : List ℕ) : Type 0 where
+  pub keyed : keys′ ≡ set keys a (cond (ltb key (getD keys a 0)) key (getD keys a 0))
+  pub from : froms′ ≡ set froms a (cond (ltb key (getD keys a 0)) k (getD froms a 0))
+
+-- each frame has the least key of the first n frames of the hop before that lead to it, and the smallest frame that has it
+pub record Gathers (first : ℕ → ℕ) (time K : ℕ) (cells : List ℕ) (n : ℕ) (keys froms : List ℕ) : Type 0 where
+  pub keys-long : length keys ≡ 64
+  pub froms-long : length froms ≡ 64
+  pub small : (a : ℕ) → getD keys a 0 ≤ 33728
+  pub waits : (a : ℕ) → a < K → 32768 ≤ getD keys a 0 → 32768 + (K - a) * time ≤ getD keys a 0
+  pub least : (k : ℕ) → k < n → getD keys (first k) 0 ≤ keyFrom time K cells (first k) k
+  pub smallest : (k : ℕ) → k < n → getD keys (first k) 0 < 32768 → k < getD froms (first k) 0 → getD keys (first k) 0 < keyFrom time K cells (first k) k
+  pub own : (a : ℕ) → a < K → getD keys a 0 < 32768 → (getD froms a 0 < n) × (first (getD froms a 0) ≡ a) × (getD keys a 0 ≡ keyFrom time K cells a (getD froms a 0))
+
+-- the transitions from the first n frames of the hop before, by the ones of the window that each leads to
+abbrev pub leadings : (ℕ → ℕ) → List ℕ → List ℕ → ℕ → ℕ
+leadings first cells ones n = sumBelow n (λ k. oneIf (reached (cellReach (getD cells k 0))) * getD ones (first k) 0)
+
+-- what is known where the frames of the hop g are gathered by the frames of the hop h after it
+pub record Gathering (g h : Hop) (time : ℕ) (cells ones keys froms : List ℕ) : Type 0 where
+  -- check 7 of both links
+  pub few-before : g .frames ≤ 64
+  pub some-frame : 0 < h .frames
+  pub few-frames : h .frames ≤ 64
+  -- checks 3 and 7: K frames last T ticks, at most 960
+  pub in-time : h .frames * time ≤ 960
+  -- check 12: at most six transitions lie behind, of a cycle each at most
+  pub small : (m : ℕ) → m < g .frames → Within 5760 (getD cells m 0)
+  pub few-ones : (a : ℕ) → a < h .frames → getD ones a 0 ≤ 64
+  pub begun : Gathers (firstFrame g h) time (h .frames) cells 0 keys froms
+
+-- the first n frames of a hop have their cells and the frames before, and the others still their picks. A cell is the key that is picked, less the time from the frame to the end of
+-- the cycle and with that of the least hold
+pub record Settled (time lead K free w base : ℕ) (keys froms : List ℕ) (n : ℕ) (old next preds : List ℕ) : Type 0 where
+  pub long : length preds ≡ 448
+  pub next-long : length next ≡ 64
+  pub earlier : Earlier base old preds
+  pub settled : (i : ℕ) → i < n → (p : ℕ) × Latest (keyAt (K * time) K keys) (i + K) w p
+      × (getD next i 0 ≡ cellIf free i (lower (keyAt (K * time) K keys p + lead - (K - i) * time) 32768)) × (getD preds (base + i) 0 ≡ getD froms (p % K) 0)
+  pub picked : (i : ℕ) → n ≤ i → i < K → Picked (keyAt (K * time) K keys) K (i + K) w (getD preds (base + i) 0)
+
+-- what is known where the frames of a hop are settled
+pub record Settling (time lead K free w base : ℕ) (keys froms next preds : List ℕ) : Type 0 where
+  pub ring : Keys (K * time) K keys
+  pub waits : (a : ℕ) → a < K → (K - a) * time ≤ getD keys a 0
+  pub led : lead ≤ 960
+  pub narrow : w ≤ K
+  -- check 12: hop 7 is the last, and its predecessors stand from 384 on
+  pub within : base ≤ 384
+  pub begun : Settled time lead K free w base keys froms 0 preds next preds
 
 -- the stage of a hop by the time of its frame: the delay is the hold times that time
 abbrev pub stageBy : ℕ → Hop → Hop → Stage
 stageBy time g h = stageOf (λ D. D * time) g h
-
--- what is known where the transitions from frame k of the hop g into the hop h after it are gone over; `time` is the time of a frame of h
-pub record Leaving (r : Rows) (base k : ℕ) (g : Hop) (time : ℕ) (h : Hop) : Type 0 where
-  pub sized : Sized r
-  -- check 12: hop 7 is the last, and its predecessors stand from 448 on
-  pub within : base ≤ 448
-  -- k is a frame of the hop before; check 7: it has at most 64
-  pub frame : k < g .frames
-  pub few-before : g .frames ≤ 64
-  -- checks 7 and 8 of the next hop's link
-  pub some-frame : 0 < h .frames
-  pub few-frames : h .frames ≤ 64
-  pub in-cycle : h .range ≤ h .frames
-  -- checks 3 and 7: K frames last T ticks, at most 960
-  pub in-time : h .frames * time ≤ 960
-
--- every frame of a stage was offered its way from frame k, reached as x says, and the transitions were counted
-pub record Visited (st : Stage) (k : ℕ) (x : Reach) (base : ℕ) (old new : Rows) (count : ℕ) : Type 0 where
-  pub inside : (i : ℕ) → i < st .size → wayAt new base i ≡ better (wayAt old base i) (offerOf st i x k) k
-  pub outside : (i : ℕ) → st .size ≤ i → wayAt new base i ≡ wayAt old base i
-  pub counted : count ≡ countBelow (st .size) (λ i. reached x && st .allowed k i)
-  pub earlier : Earlier base (old .preds) (new .preds)
-  pub sized : Sized new
 
 -- what the frames of the hop before, with this row, offer to frame i
 abbrev pub offers : Stage → List ℕ → ℕ → ℕ → Offer
@@ -105,23 +181,26 @@ pub record Entering (t : ℕ) (g h : Hop) (cells preds : List ℕ) (base : ℕ) 
   pub few-before : g .frames ≤ 64
   pub ready : HopReady t h
   -- check 12: at most six transitions lie behind, of a cycle each at most
-  pub small : (m : ℕ) → getD cells m 0 ≤ 5761
-  pub within : base ≤ 448
-  pub long : length preds ≡ 512
+  pub small : (m : ℕ) → m < g .frames → Within 5760 (getD cells m 0)
+  pub within : base ≤ 384
+  pub cells-long : length cells ≡ 64
+  pub long : length preds ≡ 448
 
 -- the row and the predecessors of a hop after one of K′ frames with the row `cells`
 pub record Advanced (st : Stage) (cells : List ℕ) (K′ base : ℕ) (old next preds : List ℕ) (count : ℕ) : Type 0 where
   pub inside : (i : ℕ) → i < st .size → (h : ℕ) × (wayOf (getD next i 0) h (getD preds (base + i) 0) ≡ bestOf (offers st cells i) K′)
-  pub outside : (i : ℕ) → st .size ≤ i → getD next i 0 ≡ 0
+  pub most : (i : ℕ) → i < st .size → getD next i 0 ≤ 32768
   pub counted : count ≡ counts st cells K′
   pub earlier : Earlier base old preds
-  pub long : length preds ≡ 512
+  pub next-long : length next ≡ 64
+  pub long : length preds ≡ 448
+
+-- ---- a route swept
 
 -- the first n cells of hop 0, by its free word: a free frame has delay 0
 pub record FirstRow (free n : ℕ) (cells : List ℕ) : Type 0 where
   pub long : length cells ≡ 64
-  pub inside : (i : ℕ) → i < n → getD cells i 0 ≡ oneIf (bitOf free i)
-  pub outside : (i : ℕ) → n ≤ i → getD cells i 0 ≡ 0
+  pub inside : (i : ℕ) → i < n → getD cells i 0 ≡ cellIf free i 0
 
 -- a row that is handed over, as what each frame of hop 0 costs to begin at; and the trellis of hops 0 to j that begins so
 abbrev pub begins : List ℕ → ℕ → Reach
@@ -132,26 +211,28 @@ trellisTo t hops first = ladder (entry (hopAt hops 0 .frames) (begins first)) (s
 
 -- cells that say what the row of a trellis says
 abbrev pub Agrees : List ℕ → Trellis → Type 0
-Agrees cells tr = (i : ℕ) → cellReach (getD cells i 0) ≡ getD (row tr) i never
+Agrees cells tr = (i : ℕ) → i < width tr → cellReach (getD cells i 0) ≡ getD (row tr) i never
 
--- the frame before frame i of hop j
+-- the frame before frame i of hop j + 1
 abbrev pub fromAt : List ℕ → ℕ → ℕ → ℕ
 fromAt preds j i = getD preds (64 * j + i) 0
 
 -- what is known where the hops 0 to `last` are swept from the row `first` on
 pub record Sweeps (t : ℕ) (hops : List Hop) (last : ℕ) (first preds : List ℕ) : Type 0 where
   pub ready : Ready t hops (last + 1)
-  pub outside : (i : ℕ) → hopAt hops 0 .frames ≤ i → getD first i 0 ≡ 0
   -- checks 3 and 12: with a cycle for each later hop no delay passes 7 × 960
-  pub small : (i : ℕ) → getD first i 0 + 960 * last ≤ 6721
-  pub long : length preds ≡ 512
+  pub small : (i : ℕ) → i < hopAt hops 0 .frames → Within (6720 - 960 * last) (getD first i 0)
+  pub first-long : length first ≡ 64
+  pub long : length preds ≡ 448
 
 -- what the sweep over hops 0 to j leaves: the row of hop j, the predecessors of each hop, and the count
 pub record Swept (t : ℕ) (hops : List Hop) (first : List ℕ) (j : ℕ) (cells preds : List ℕ) (count : ℕ) : Type 0 where
-  pub long : length preds ≡ 512
+  pub cells-long : length cells ≡ 64
+  pub long : length preds ≡ 448
+  pub most : (i : ℕ) → i < hopAt hops j .frames → getD cells i 0 ≤ 32768
   pub rows : Agrees cells (trellisTo t hops first j)
   pub froms : (m : ℕ) → m < j → (i : ℕ) → i < hopAt hops (suc m) .frames
-      → (c h : ℕ) × (wayOf c h (fromAt preds (suc m) i) ≡ into (row (trellisTo t hops first m)) (stageAfter t hops m) i)
+      → (c h : ℕ) × (wayOf c h (fromAt preds m i) ≡ into (row (trellisTo t hops first m)) (stageAfter t hops m) i)
   pub counted : count ≡ scanned (trellisTo t hops first j)
 
 -- what the frames of the last hop offer as the end
@@ -161,9 +242,9 @@ endOffers cells i = lastOffer (cellReach (getD cells i 0))
 -- the frames back from frame f of hop j, the latest first, by the stored predecessors
 abbrev pub chainOf : List ℕ → ℕ → ℕ → List ℕ
 chainOf preds zero f = f ∷ []
-chainOf preds (suc j) f = f ∷ chainOf preds j (fromAt preds (suc j) f)
+chainOf preds (suc j) f = f ∷ chainOf preds j (fromAt preds j f)
 
 -- each of those frames is below 64
 abbrev pub ChainFits : List ℕ → ℕ → ℕ → Type 0
 ChainFits preds zero f = f < 64
-ChainFits preds (suc j) f = (f < 64) × ChainFits preds j (fromAt preds (suc j) f)
+ChainFits preds (suc j) f = (f < 64) × ChainFits preds j (fromAt preds j f)

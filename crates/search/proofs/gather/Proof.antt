@@ -1,0 +1,188 @@
+-- `search::gather` meets its contract. The invariant: the frames below k are gathered, and their transitions counted. Assumes nothing.
+use mathlib.Core.Path.{_≡_, refl, _∙_, ap, ap₂}
+use Prim.Native.Nat.{ℕ, _+_, _-_, _*_, _%_, _<_, _≤_}
+use native.Mathlib.Nat.{mod-lt}
+use native.Mathlib.Numerals.{add-one}
+use native.Mathlib.Omega.{arith}
+use lib.ListN.{getD}
+use borrow.Author.Needs.{needs}
+use Rattle.lists.specs.Count.{oneIf}
+use Rattle.lists.proofs.Sums.{one-times-le}
+use Rattle.trellis.specs.Paths.{reached}
+use Rattle.forwarding.specs.Forwarding.{referenceInto, leastHold}
+use Rattle.forwarding.proofs.Holds.{reference-in, least-in}
+use Rattle.forwarding.proofs.Windows.{firstFrame}
+use Rattle.search.specs.Inner.{cellReach, Gathers, leadings}
+use Rattle.search.proofs.Gathering.{within-time, one-gathered}
+use Rattle.search.proofs.gather.Statement.{statement}
+use Rattle.search.proofs.gather.Tie as tie
+
+abbrev Inv-loop : tie.InvT-loop
+Inv-loop row before hop time ones keys₀ froms₀ frames many least count₀ k₀ keys froms count k =
+    (k ≤ many) × (count ≤ k * 64) × Gathers (firstFrame before hop) (time .0) frames row k keys froms × (count ≡ leadings (firstFrame before hop) row ones k)
+
+abbrev μ-loop : tie.MeasureT-loop
+μ-loop row before hop time ones keys₀ froms₀ frames many least count₀ k₀ keys froms count k = many - k
+
+least-hold-requires : tie.Need-least-hold-requires Inv-loop μ-loop
+least-hold-requires c κs = search needs
+
+loop-holds : tie.Need-loop-holds Inv-loop μ-loop
+loop-holds c = (omega arith, omega arith, c .before .pre .begun, refl)
+
+cast-cell : tie.Need-cast-cell Inv-loop μ-loop
+cast-cell c = search needs
+
+mul-cell : tie.Need-mul-cell Inv-loop μ-loop
+mul-cell c = search needs
+
+element-copy-out-cell : tie.Need-element-copy-out-cell Inv-loop μ-loop
+element-copy-out-cell c = omega (arith, c .before .before .before .pre .few-before)
+
+reference-frame-requires : tie.Need-reference-frame-requires Inv-loop μ-loop
+reference-frame-requires c κs = let p = c .before .before .before .before .pre in (omega arith, p .few-before, p .some-frame, p .few-frames)
+
+frame-on-requires : tie.Need-frame-on-requires Inv-loop μ-loop
+frame-on-requires c κs =
+    let s = c .before .before .before .before .before in
+    let a = s .args in
+    let l = c .before .before .before .loop in (
+      omega (arith, c .reference-frame .ensures, reference-in (a .before) (a .hop) (l .k) (s .pre .some-frame) (omega arith)),
+      omega (arith, c .before .before .before .before .least-hold .ensures, least-in (a .hop) (s .pre .some-frame)),
+      s .pre .few-frames,
+    )
+
+sub-enter : tie.Need-sub-enter Inv-loop μ-loop
+sub-enter c =
+    let s = c .before .before .before .before .before .before in
+    let a = s .args in
+    let l = c .before .before .before .before .loop in
+    let p = s .pre in
+    let i : ℕ = c .frame-on .result in
+    let is : i ≡ firstFrame (a .before) (a .hop) (l .k) = c .frame-on .ensures ∙ ap₂ (λ (x y : ℕ). (x + y) % a .hop .frames) (c .before .reference-frame .ensures) (c .before .before .before .before .before .least-hold .ensures) in
+    let inside : i < a .hop .frames = omega (arith, is, mod-lt (referenceInto (a .before) (a .hop) (l .k) + leastHold (a .hop)) (p .some-frame)) in
+    omega arith
+
+delay-of-requires : tie.Need-delay-of-requires Inv-loop μ-loop
+delay-of-requires c κs =
+    let s = c .before .before .before .before .before .before in
+    let a = s .args in
+    let l = c .before .before .before .before .loop in
+    let p = s .pre in
+    let i : ℕ = c .frame-on .result in
+    let is : i ≡ firstFrame (a .before) (a .hop) (l .k) = c .frame-on .ensures ∙ ap₂ (λ (x y : ℕ). (x + y) % a .hop .frames) (c .before .reference-frame .ensures) (c .before .before .before .before .before .least-hold .ensures) in
+    let inside : i < a .hop .frames = omega (arith, is, mod-lt (referenceInto (a .before) (a .hop) (l .k) + leastHold (a .hop)) (p .some-frame)) in
+    within-time (a .time .0) (a .hop .frames) (a .hop .frames - i) (omega arith) (p .in-time)
+
+cast-leaving : tie.Need-cast-leaving Inv-loop μ-loop
+cast-leaving c = search needs
+
+element-copy-out-leaving : tie.Need-element-copy-out-leaving Inv-loop μ-loop
+element-copy-out-leaving c =
+    let s = c .before .before .before .before .before .before .before in
+    let a = s .args in
+    let l = c .before .before .before .before .before .loop in
+    let p = s .pre in
+    let i : ℕ = c .before .frame-on .result in
+    let is : i ≡ firstFrame (a .before) (a .hop) (l .k) = c .before .frame-on .ensures ∙ ap₂ (λ (x y : ℕ). (x + y) % a .hop .frames) (c .before .before .reference-frame .ensures) (c .before .before .before .before .before .before .least-hold .ensures) in
+    let inside : i < a .hop .frames = omega (arith, is, mod-lt (referenceInto (a .before) (a .hop) (l .k) + leastHold (a .hop)) (p .some-frame)) in
+    omega (arith, p .few-frames)
+
+leaving-requires : tie.Need-leaving-requires Inv-loop μ-loop
+leaving-requires c κs = search needs
+
+add-count : tie.Need-add-count Inv-loop μ-loop
+add-count c =
+    let s = c .before .before .before .before .before .before .before .before .before in
+    let a = s .args in
+    let l = c .before .before .before .before .before .before .before .loop in
+    let p = s .pre in
+    let i : ℕ = c .before .before .before .frame-on .result in
+    let is : i ≡ firstFrame (a .before) (a .hop) (l .k) = c .before .before .before .frame-on .ensures ∙ ap₂ (λ (x y : ℕ). (x + y) % a .hop .frames) (c .before .before .before .before .reference-frame .ensures) (c .before .before .before .before .before .before .before .before .least-hold .ensures) in
+    let inside : i < a .hop .frames = omega (arith, is, mod-lt (referenceInto (a .before) (a .hop) (l .k) + leastHold (a .hop)) (p .some-frame)) in
+    let less = c .before .before .before .before .before .before .loop-test .taken in
+    record { fits = omega (arith, c .leaving .ensures, one-times-le (reached (cellReach (getD (a .row .now) (l .k) 0))) (getD (a .ones .now) i 0), p .few-ones i inside, l .inv .1, p .few-before) }
+
+add-enter : tie.Need-add-enter Inv-loop μ-loop
+add-enter c =
+    let s = c .before .before .before .before .before .before .before .before .before .before .before .before in
+    let a = s .args in
+    let l = c .before .before .before .before .before .before .before .before .before .before .loop in
+    let p = s .pre in
+    let i : ℕ = c .before .before .before .before .before .before .frame-on .result in
+    let is : i ≡ firstFrame (a .before) (a .hop) (l .k) = c .before .before .before .before .before .before .frame-on .ensures ∙ ap₂ (λ (x y : ℕ). (x + y) % a .hop .frames) (c .before .before .before .before .before .before .before .reference-frame .ensures) (c .before .before .before .before .before .before .before .before .before .before .before .least-hold .ensures) in
+    let inside : i < a .hop .frames = omega (arith, is, mod-lt (referenceInto (a .before) (a .hop) (l .k) + leastHold (a .hop)) (p .some-frame)) in
+    let less = c .before .before .before .before .before .before .before .before .before .loop-test .taken in
+    let wait = c .before .before .before .before .before .delay-of .ensures .product in
+    record { fits = omega (arith, p .small (l .k) less .most, wait, within-time (a .time .0) (a .hop .frames) (a .hop .frames - i) (omega arith) (p .in-time)) }
+
+enter-requires : tie.Need-enter-requires Inv-loop μ-loop
+enter-requires c κs =
+    let s = c .before .before .before .before .before .before .before .before .before .before .before .before in
+    let a = s .args in
+    let l = c .before .before .before .before .before .before .before .before .before .before .loop in
+    let p = s .pre in
+    let i : ℕ = c .before .before .before .before .before .before .frame-on .result in
+    let is : i ≡ firstFrame (a .before) (a .hop) (l .k) = c .before .before .before .before .before .before .frame-on .ensures ∙ ap₂ (λ (x y : ℕ). (x + y) % a .hop .frames) (c .before .before .before .before .before .before .before .reference-frame .ensures) (c .before .before .before .before .before .before .before .before .before .before .before .least-hold .ensures) in
+    let inside : i < a .hop .frames = omega (arith, is, mod-lt (referenceInto (a .before) (a .hop) (l .k) + leastHold (a .hop)) (p .some-frame)) in
+    let less = c .before .before .before .before .before .before .before .before .before .loop-test .taken in
+    (l .inv .2 .keys-long, l .inv .2 .froms-long, omega (arith, p .few-frames), omega (arith, p .few-before))
+
+add-k : tie.Need-add-k Inv-loop μ-loop
+add-k c = search needs
+
+loop-less : tie.Need-loop-less Inv-loop μ-loop
+loop-less c = search needs
+
+loop-again : tie.Need-loop-again Inv-loop μ-loop
+loop-again c =
+    let s = c .before .before .before .before .before .before .before .before .before .before .before .before .before in
+    let a = s .args in
+    let l = c .before .before .before .before .before .before .before .before .before .before .before .loop in
+    let p = s .pre in
+    let i : ℕ = c .before .before .before .before .before .before .before .frame-on .result in
+    let is : i ≡ firstFrame (a .before) (a .hop) (l .k) = c .before .before .before .before .before .before .before .frame-on .ensures ∙ ap₂ (λ (x y : ℕ). (x + y) % a .hop .frames) (c .before .before .before .before .before .before .before .before .reference-frame .ensures) (c .before .before .before .before .before .before .before .before .before .before .before .before .least-hold .ensures) in
+    let inside : i < a .hop .frames = omega (arith, is, mod-lt (referenceInto (a .before) (a .hop) (l .k) + leastHold (a .hop)) (p .some-frame)) in
+    let less : l .k < a .before .frames = c .before .before .before .before .before .before .before .before .before .before .loop-test .taken in
+    let wait = c .before .before .before .before .before .before .delay-of in
+    let ones : ℕ = getD (a .ones .now) i 0 in
+    let some = c .before .before .before .before .leaving .ensures in (
+      omega arith,
+      omega (arith, some, one-times-le (reached (cellReach (getD (a .row .now) (l .k) 0))) ones, p .few-ones i inside, l .inv .1),
+      one-gathered (firstFrame (a .before) (a .hop)) (a .time .0) (a .hop .frames) (a .row .now) (p .in-time) (l .k) i (getD (a .row .now) (l .k) 0 + wait .result .0) (l .keys) (l .froms) _ _ (l .inv .2) is inside (p .few-frames)
+          (ap (λ (x : ℕ). getD (a .row .now) (l .k) 0 + x) (wait .ensures .product)) (p .small (l .k) less) (c .enter .ensures),
+      rw (add-one (l .k)) (ap₂ _+_ (l .inv .3) (some ∙ ap (λ (x : ℕ). oneIf (reached (cellReach (getD (a .row .now) (l .k) 0))) * getD (a .ones .now) x 0) is)),
+    )
+
+returns : tie.Need-returns Inv-loop μ-loop
+returns c =
+    let a = c .before .before .before .args in
+    let l = c .before .loop in
+    let e : l .k ≡ a .before .frames = omega arith in
+    (rw e at (l .inv .2), rw e at (l .inv .3))
+
+pub gather-spec : {M : Type 1} → statement M
+gather-spec =
+    tie.close
+    (tie.spec
+    Inv-loop
+    μ-loop
+    least-hold-requires
+    loop-holds
+    cast-cell
+    mul-cell
+    element-copy-out-cell
+    reference-frame-requires
+    frame-on-requires
+    sub-enter
+    delay-of-requires
+    cast-leaving
+    element-copy-out-leaving
+    leaving-requires
+    add-count
+    add-enter
+    enter-requires
+    add-k
+    loop-less
+    loop-again
+    returns)

@@ -1,0 +1,224 @@
+-- `search::settle` meets its contract. The invariant: the frames below i are settled, and the others have their picks. Assumes nothing.
+use mathlib.Core.Path.{_≡_, refl, _∙_, ap}
+use Prim.Native.Nat.{ℕ, _+_, _-_, _*_, _<_, _≤_}
+use native.Mathlib.Omega.{arith}
+use borrow.Author.Needs.{needs}
+use Rattle.search.specs.Inner.{cellIf, Settled, Settling}
+use Rattle.search.proofs.Gathering.{within-time}
+use Rattle.search.proofs.Settling.{pick-in, value-small, value-waits, settled-on}
+use Rattle.search.proofs.settle.Statement.{statement}
+use Rattle.search.proofs.settle.Tie as tie
+
+abbrev Inv-loop : tie.InvT-loop
+Inv-loop keys froms time lead frames free row₀ preds₀ base cycle i₀ row preds i =
+    (i ≤ frames) × (cycle .0 ≡ frames * time .0)
+    × ((w : ℕ) → Settling (time .0) (lead .0) frames free w base keys froms row₀ preds₀ → Settled (time .0) (lead .0) frames free w base keys froms i preds₀ row preds)
+
+abbrev μ-loop : tie.MeasureT-loop
+μ-loop keys froms time lead frames free row₀ preds₀ base cycle i₀ row preds i = frames - i
+
+delay-of-requires : tie.Need-delay-of-requires Inv-loop μ-loop
+delay-of-requires c κs = c .pre .1 .ring .short
+
+loop-holds : tie.Need-loop-holds Inv-loop μ-loop
+loop-holds c = (omega arith, c .delay-of .ensures .product, λ w S. S .begun)
+
+cast-at : tie.Need-cast-at Inv-loop μ-loop
+cast-at c = search needs
+
+add-short : tie.Need-add-short Inv-loop μ-loop
+add-short c =
+    let s = c .before .before .before in
+    let a = s .args in
+    let l = c .before .loop in
+    let less : l .i < a .frames = c .loop-test .taken in
+    let S = s .pre .1 in
+    let few : a .frames ≤ 64 = S .ring .few-frames in
+    let now = l .inv .2 (s .pre .0) S in
+    record { fits = omega (arith, S .within) }
+
+element-copy-out-short : tie.Need-element-copy-out-short Inv-loop μ-loop
+element-copy-out-short c =
+    let s = c .before .before .before in
+    let a = s .args in
+    let l = c .before .loop in
+    let less : l .i < a .frames = c .loop-test .taken in
+    let S = s .pre .1 in
+    let few : a .frames ≤ 64 = S .ring .few-frames in
+    let now = l .inv .2 (s .pre .0) S in
+    omega (arith, S .within)
+
+short-requires : tie.Need-short-requires Inv-loop μ-loop
+short-requires c κs = search needs
+
+seen-requires : tie.Need-seen-requires Inv-loop μ-loop
+seen-requires c κs =
+    let s = c .before .before .before .before .before in
+    let a = s .args in
+    let l = c .before .before .before .loop in
+    let less : l .i < a .frames = c .before .before .loop-test .taken in
+    let S = s .pre .1 in
+    let few : a .frames ≤ 64 = S .ring .few-frames in
+    let now = l .inv .2 (s .pre .0) S in
+    let inside = pick-in (a .time .0) (a .lead .0) (a .frames) (a .free) (s .pre .0) (a .base) (a .keys .now) (a .froms .now) (a .row .now) (a .preds .now) S (l .i) (l .row) (l .preds) now less (c .short .result) (c .short .ensures) in
+    (omega arith, omega (arith, S .ring .small (c .short .result), l .inv .1, S .ring .short))
+
+sub-row : tie.Need-sub-row Inv-loop μ-loop
+sub-row c = omega arith
+
+delay-of-requires-2 : tie.Need-delay-of-requires-2 Inv-loop μ-loop
+delay-of-requires-2 c κs =
+    let s = c .before .before .before .before .before .before in
+    let a = s .args in
+    let l = c .before .before .before .before .loop in
+    let less : l .i < a .frames = c .before .before .before .loop-test .taken in
+    let S = s .pre .1 in
+    let few : a .frames ≤ 64 = S .ring .few-frames in
+    let now = l .inv .2 (s .pre .0) S in
+    within-time (a .time .0) (a .frames) (a .frames - l .i) (omega arith) (S .ring .short)
+
+add-smaller : tie.Need-add-smaller Inv-loop μ-loop
+add-smaller c =
+    let s = c .before .before .before .before .before .before .before .before in
+    let a = s .args in
+    let l = c .before .before .before .before .before .before .loop in
+    let less : l .i < a .frames = c .before .before .before .before .before .loop-test .taken in
+    let S = s .pre .1 in
+    let few : a .frames ≤ 64 = S .ring .few-frames in
+    let now = l .inv .2 (s .pre .0) S in
+    record { fits = omega (arith, value-small (a .time .0) (a .lead .0) (a .frames) (a .free) (s .pre .0) (a .base) (a .keys .now) (a .froms .now) (a .row .now) (a .preds .now) S (l .i) (l .row) (l .preds) now less (c .before .before .before .short .result) (c .before .before .before .before .before .before .before .delay-of .result .0) (c .before .before .seen .result) (c .before .before .before .short .ensures) (l .inv .1) (c .before .before .seen .ensures), S .led) }
+
+sub-smaller : tie.Need-sub-smaller Inv-loop μ-loop
+sub-smaller c =
+    let s = c .before .before .before .before .before .before .before .before .before in
+    let a = s .args in
+    let l = c .before .before .before .before .before .before .before .loop in
+    let less : l .i < a .frames = c .before .before .before .before .before .before .loop-test .taken in
+    let S = s .pre .1 in
+    let few : a .frames ≤ 64 = S .ring .few-frames in
+    let now = l .inv .2 (s .pre .0) S in
+    omega (arith, value-waits (a .time .0) (a .lead .0) (a .frames) (a .free) (s .pre .0) (a .base) (a .keys .now) (a .froms .now) (a .row .now) (a .preds .now) S (l .i) (l .row) (l .preds) now less (c .before .before .before .before .short .result) (c .before .before .before .before .before .before .before .before .delay-of .result .0) (c .before .before .before .seen .result) (c .before .before .before .before .short .ensures) (l .inv .1) (c .before .before .before .seen .ensures) (c .before .before .delay-of2 .result .0) (c .before .before .delay-of2 .ensures .product))
+
+smaller-requires : tie.Need-smaller-requires Inv-loop μ-loop
+smaller-requires c κs = search needs
+
+if-free-requires : tie.Need-if-free-requires Inv-loop μ-loop
+if-free-requires c κs =
+    let s = c .before .before .before .before .before .before .before .before .before .before in
+    let a = s .args in
+    let l = c .before .before .before .before .before .before .before .before .loop in
+    let less : l .i < a .frames = c .before .before .before .before .before .before .before .loop-test .taken in
+    let S = s .pre .1 in
+    let few : a .frames ≤ 64 = S .ring .few-frames in
+    let now = l .inv .2 (s .pre .0) S in
+    omega arith
+
+mul-row : tie.Need-mul-row Inv-loop μ-loop
+mul-row c = search needs
+
+element-write-row : tie.Need-element-write-row Inv-loop μ-loop
+element-write-row c =
+    let s = c .before .before .before .before .before .before .before .before .before .before .before in
+    let a = s .args in
+    let l = c .before .before .before .before .before .before .before .before .before .loop in
+    let less : l .i < a .frames = c .before .before .before .before .before .before .before .before .loop-test .taken in
+    let S = s .pre .1 in
+    let few : a .frames ≤ 64 = S .ring .few-frames in
+    let now = l .inv .2 (s .pre .0) S in
+    omega arith
+
+cast-preds : tie.Need-cast-preds Inv-loop μ-loop
+cast-preds c = search needs
+
+element-copy-out-preds : tie.Need-element-copy-out-preds Inv-loop μ-loop
+element-copy-out-preds c =
+    let s = c .before .before .before .before .before .before .before .before .before .before .before in
+    let a = s .args in
+    let l = c .before .before .before .before .before .before .before .before .before .loop in
+    let less : l .i < a .frames = c .before .before .before .before .before .before .before .before .loop-test .taken in
+    let S = s .pre .1 in
+    let few : a .frames ≤ 64 = S .ring .few-frames in
+    let now = l .inv .2 (s .pre .0) S in
+    let inside = pick-in (a .time .0) (a .lead .0) (a .frames) (a .free) (s .pre .0) (a .base) (a .keys .now) (a .froms .now) (a .row .now) (a .preds .now) S (l .i) (l .row) (l .preds) now less (c .before .before .before .before .before .before .short .result) (c .before .before .before .before .before .before .short .ensures) in
+    omega arith
+
+add-preds : tie.Need-add-preds Inv-loop μ-loop
+add-preds c =
+    let s = c .before .before .before .before .before .before .before .before .before .before .before .before in
+    let a = s .args in
+    let l = c .before .before .before .before .before .before .before .before .before .before .loop in
+    let less : l .i < a .frames = c .before .before .before .before .before .before .before .before .before .loop-test .taken in
+    let S = s .pre .1 in
+    let few : a .frames ≤ 64 = S .ring .few-frames in
+    let now = l .inv .2 (s .pre .0) S in
+    record { fits = omega (arith, S .within) }
+
+element-write-preds : tie.Need-element-write-preds Inv-loop μ-loop
+element-write-preds c =
+    let s = c .before .before .before .before .before .before .before .before .before .before .before .before in
+    let a = s .args in
+    let l = c .before .before .before .before .before .before .before .before .before .before .loop in
+    let less : l .i < a .frames = c .before .before .before .before .before .before .before .before .before .loop-test .taken in
+    let S = s .pre .1 in
+    let few : a .frames ≤ 64 = S .ring .few-frames in
+    let now = l .inv .2 (s .pre .0) S in
+    omega (arith, S .within)
+
+add-i : tie.Need-add-i Inv-loop μ-loop
+add-i c = search needs
+
+loop-less : tie.Need-loop-less Inv-loop μ-loop
+loop-less c =
+    let less : c .before .before .before .before .before .before .before .before .before .before .loop .i < c .before .before .before .before .before .before .before .before .before .before .before .before .args .frames = c .before .before .before .before .before .before .before .before .before .loop-test .taken in
+    omega arith
+
+loop-again : tie.Need-loop-again Inv-loop μ-loop
+loop-again c =
+    let s = c .before .before .before .before .before .before .before .before .before .before .before .before in
+    let a = s .args in
+    let l = c .before .before .before .before .before .before .before .before .before .before .loop in
+    let less : l .i < a .frames = c .before .before .before .before .before .before .before .before .before .loop-test .taken in
+    let few : a .frames ≤ 64 = s .pre .1 .ring .few-frames in
+    let cell = c .before .if-free .ensures ∙ ap (cellIf (a .free) (l .i)) (c .before .before .smaller .ensures) in (
+      omega arith,
+      l .inv .1,
+      λ w S.
+          settled-on (a .time .0) (a .lead .0) (a .frames) (a .free) w (a .base) (a .keys .now) (a .froms .now) (a .row .now) (a .preds .now) S (l .i) (l .row) (l .preds) (l .inv .2 w S) less
+          (c .before .before .before .before .before .before .before .short .result) (c .before .before .before .before .before .before .before .before .before .before .before .delay-of .result .0) (c .before .before .before .before .before .before .seen .result) (c .before .before .before .before .before .before .before .short .ensures) (l .inv .1) (c .before .before .before .before .before .before .seen .ensures)
+          (c .before .before .before .before .before .delay-of2 .result .0) (c .before .if-free .result) (c .before .before .before .before .before .delay-of2 .ensures .product) (S .within) (omega arith) cell,
+    )
+
+returns : tie.Need-returns Inv-loop μ-loop
+returns c = λ w S.
+    let e : c .before .loop .i ≡ c .before .before .before .args .frames = omega arith in
+    rw e at (c .before .loop .inv .2 w S)
+
+pub settle-spec : {M : Type 1} → statement M
+settle-spec =
+    tie.close
+    (tie.spec
+    Inv-loop
+    μ-loop
+    delay-of-requires
+    loop-holds
+    cast-at
+    add-short
+    element-copy-out-short
+    short-requires
+    seen-requires
+    sub-row
+    delay-of-requires-2
+    add-smaller
+    sub-smaller
+    smaller-requires
+    if-free-requires
+    mul-row
+    element-write-row
+    cast-preds
+    element-copy-out-preds
+    add-preds
+    element-write-preds
+    add-i
+    loop-less
+    loop-again
+    returns)
