@@ -392,10 +392,16 @@ fn spoil(random: &mut Random, calls: &mut Vec<u8>) {
 /// The hops of a good route on a random network that holds no sessions.
 #[cfg(test)]
 pub fn some_hops(random: &mut Random) -> Vec<crate::route::Hop> {
+    some_ticks_and_hops(random).1
+}
+
+/// The same, with the ticks of the network's cycle before them.
+#[cfg(test)]
+pub fn some_ticks_and_hops(random: &mut Random) -> (u32, Vec<crate::route::Hop>) {
     let network = network(random, 64);
     let route = good_route(random, &network);
     let hops = crate::model::hops_of(&network, &crate::model::Ledger::new(&network), &route);
-    hops[..route.len()].to_vec()
+    (network.ticks, hops[..route.len()].to_vec())
 }
 
 /// Hands some inputs, most of them short, with their runs by the model to a comparison, up to the first that differs.

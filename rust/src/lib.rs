@@ -1,5 +1,6 @@
 //! An independent cross-check of the reservation program `frames`.
 
+pub mod by_holds;
 pub mod call_records;
 pub mod compared;
 pub mod dijkstra;

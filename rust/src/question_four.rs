@@ -2,7 +2,7 @@
 //! search.
 
 use crate::route::{ones, Answer, Hop};
-use crate::{dijkstra, listing, survivors};
+use crate::{by_holds, dijkstra, listing, survivors};
 
 const T: u32 = 48;
 const ALL: &[u32] = &[0, 1, 2, 3, 4, 5, 6, 7];
@@ -35,11 +35,12 @@ pub fn four(free: &[u32]) -> Hop {
 
 /// Every search gives this answer.
 fn answered(hops: &[Hop], expected: Answer) {
-    let searches: [fn(u32, &[Hop]) -> Answer; 4] = [
+    let searches: [fn(u32, &[Hop]) -> Answer; 5] = [
         listing::least,
         dijkstra::least,
         survivors::least,
         survivors::least_by_comparison,
+        by_holds::least,
     ];
     for search in searches {
         assert_eq!(search(T, hops), expected);
