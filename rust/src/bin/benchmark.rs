@@ -10,11 +10,14 @@ use frames_check::model::State;
 use frames_check::network_file::{image, Link, Network};
 use frames_check::networks::{closed_frames, large_network, Closing};
 use frames_check::random::Random;
-use frames_check::route::{Answer, Hop};
-use frames_check::{dijkstra, inputs, model, running_sums, survivors, ways};
+use frames_check::route::{Answer, Hop, MAX_HOPS};
+use frames_check::{by_holds, dijkstra, inputs, model, running_sums, survivors, ways};
 
 /// The quotes over 8 hops of a short list.
 const FEW: usize = 100;
+
+/// As many of them as the calls' bytes hold.
+const QUOTES: usize = CALLS_MOST / (2 + MAX_HOPS);
 
 /// The calls in turn that a number of ways is timed by.
 const COUNTS: usize = 200;
@@ -35,12 +38,28 @@ fn file_of(range: u32, closed: impl Iterator<Item = u64>) -> Vec<u8> {
 /// A search in plain Rust.
 type Search = fn(u32, &[Hop]) -> Answer;
 
-/// A network file, a list of calls on it, and the survivor search in plain Rust that the library is timed beside.
-#[derive(Clone)]
+/// What runs a list of calls: the library, or the model with a search in plain Rust.
+#[derive(Clone, Copy)]
+enum Side {
+    Library,
+    Model(Search),
+}
+
+/// The sides of the table of runs, in the order of its columns.
+const SIDES: [Side; 4] = [
+    Side::Library,
+    Side::Model(by_holds::least),
+    Side::Model(survivors::least),
+    Side::Model(dijkstra::least),
+];
+
+/// The library beside the sharper survivor search.
+const SHARPER: [Side; 2] = [Side::Library, Side::Model(survivors::least_by_comparison)];
+
+/// A network file, and a list of calls on it.
 struct Work {
     file: Vec<u8>,
     calls: Vec<u8>,
-    rival: Search,
 }
 
 impl Work {
@@ -48,56 +67,59 @@ impl Work {
         library::report(&self.file, &self.calls, out).expect("the buffer is long enough")
     }
 
-    fn survivors(&self) -> Vec<u8> {
-        model::transcript(&self.file, &self.calls, self.rival)
+    fn model(&self, search: Search) -> Vec<u8> {
+        model::transcript(&self.file, &self.calls, search)
+    }
+
+    /// Runs the list on a side.
+    fn run(&self, side: Side, out: &mut [u8]) {
+        match side {
+            Side::Library => {
+                black_box(self.library(out));
+            }
+            Side::Model(search) => {
+                black_box(self.model(search));
+            }
+        }
+    }
+
+    /// All of the sides answer the bytes that the library answers.
+    fn compare(&self, sides: &[Side], out: &mut [u8]) {
+        let length = self.library(out);
+        for &side in sides {
+            if let Side::Model(search) = side {
+                assert!(
+                    out[..length] == self.model(search)[..],
+                    "the library and a search in plain Rust differ"
+                );
+            }
+        }
     }
 
     /// The text has a line for each call, and one more.
     fn number_of_calls(&self) -> usize {
-        let text = self.survivors();
+        let text = self.model(survivors::least);
         text.iter().filter(|&&byte| byte == b'\n').count() - 1
-    }
-
-    fn dijkstra(&self) -> Vec<u8> {
-        model::transcript(&self.file, &self.calls, dijkstra::least)
-    }
-
-    /// The best time of Dijkstra's search, which answers the same bytes as the library. That comparison is the warm-up.
-    fn time_of_dijkstra(&self, out: &mut [u8], limit: Duration) -> f64 {
-        let length = self.library(out);
-        assert!(
-            out[..length] == self.dijkstra()[..],
-            "the library and Dijkstra's search differ"
-        );
-        let mut best = f64::INFINITY;
-        repeat(limit, || {
-            keep_best(&mut best, || {
-                black_box(self.dijkstra());
-            })
-        });
-        best
     }
 }
 
-/// The best times of the library and of the survivor search on each of some lists, in turn. On each list they answer the same bytes; that
-/// comparison is the warm-up.
-fn times<const N: usize>(works: &[Work; N], out: &mut [u8], limit: Duration) -> [[f64; 2]; N] {
+/// The best times of some sides on each of some lists, in turn. On each list all sides answer the same bytes; that comparison is the
+/// warm-up.
+fn times<const N: usize, const S: usize>(
+    works: [&Work; N],
+    sides: &[Side; S],
+    out: &mut [u8],
+    limit: Duration,
+) -> [[f64; S]; N] {
     for work in works {
-        let length = work.library(out);
-        assert!(
-            out[..length] == work.survivors()[..],
-            "the library and the survivor search differ"
-        );
+        work.compare(sides, out);
     }
-    let mut best = [[f64::INFINITY; 2]; N];
+    let mut best = [[f64::INFINITY; S]; N];
     repeat(limit, || {
         for (work, best) in works.iter().zip(&mut best) {
-            keep_best(&mut best[0], || {
-                black_box(work.library(out));
-            });
-            keep_best(&mut best[1], || {
-                black_box(work.survivors());
-            });
+            for (&side, best) in sides.iter().zip(best) {
+                keep_best(best, || work.run(side, out));
+            }
         }
     });
     best
@@ -123,22 +145,35 @@ fn keep_best(best: &mut f64, run: impl FnOnce()) {
 
 fn heading() {
     println!(
-        "{:<44} {:>9} {:>9} {:>9} {:>9} {:>9}",
-        "microseconds", "library", "survivors", "Dijkstra", "lib/surv", "lib/Dijk"
+        "{:<44} {:>9} {:>9} {:>9} {:>9} {:>9} {:>9} {:>9}",
+        "microseconds",
+        "library",
+        "by holds",
+        "survivors",
+        "Dijkstra",
+        "lib/holds",
+        "lib/surv",
+        "lib/Dijk"
     );
 }
 
-/// A line of the table, from seconds.
-fn line(name: &str, [library, survivors]: [f64; 2], dijkstra: Option<f64>) {
-    print!("{name:<44} {:>9.2} {:>9.2}", library * 1e6, survivors * 1e6);
-    match dijkstra {
-        Some(dijkstra) => println!(
-            " {:>9.2} {:>9.2} {:>9.2}",
-            dijkstra * 1e6,
-            library / survivors,
-            library / dijkstra
-        ),
-        None => println!(" {:>9} {:>9.2} {:>9}", "-", library / survivors, "-"),
+/// A line of the table, from the seconds of each side that was timed.
+fn line(name: &str, times: [Option<f64>; 4]) {
+    let [library, rivals @ ..] = times;
+    print!("{name:<44}");
+    for time in times {
+        cell(time.map(|time| time * 1e6));
+    }
+    for rival in rivals {
+        cell(library.zip(rival).map(|(library, rival)| library / rival));
+    }
+    println!();
+}
+
+fn cell(number: Option<f64>) {
+    match number {
+        Some(number) => print!(" {number:>9.2}"),
+        None => print!(" {:>9}", "-"),
     }
 }
 
@@ -151,50 +186,45 @@ fn list_of_quotes(route: &[u8], number: usize) -> Vec<u8> {
     calls
 }
 
-/// The time of a quote, on the library's side and on a rival's.
-fn per_quote(few: &Work, all: &Work, number: usize, rival: Search, out: &mut [u8]) -> [f64; 2] {
-    let beside = |work: &Work| {
-        [Work {
-            rival,
-            ..work.clone()
-        }]
-    };
-    let [short] = times(&beside(few), out, Duration::from_secs(1));
-    let [long] = times(&beside(all), out, Duration::from_millis(200));
-    [0, 1].map(|side| (short[side] / FEW as f64).min(long[side] / number as f64))
+/// The time of a quote on each side, by a short list and by one of so many.
+fn per_quote<const S: usize>(
+    few: &Work,
+    all: &Work,
+    number: usize,
+    sides: &[Side; S],
+    out: &mut [u8],
+) -> [f64; S] {
+    let [short] = times([few], sides, out, Duration::from_secs(1));
+    let [long] = times([all], sides, out, Duration::from_millis(200));
+    std::array::from_fn(|side| (short[side] / FEW as f64).min(long[side] / number as f64))
 }
 
 /// (a) Quotes over 8 hops of 64 frames: the better of a list of as many as the calls' bytes hold and of a short list, which goes round more
-/// often; for Dijkstra's search, which takes longer, the short list alone.
+/// often.
 fn quotes(out: &mut [u8], random: &mut Random) {
     let route = [0, 1, 2, 3, 4, 5, 6, 7];
-    let number = CALLS_MOST / (2 + route.len());
     for (frames, closing) in [
         ("all free", Closing::None),
         ("half free", Closing::ExactlyHalf),
     ] {
         for range in [4, 16, 64] {
             let file = file_of(range, (0..8).map(|_| closed_frames(random, 64, closing)));
-            let few = Work {
+            let few = &Work {
                 file: file.clone(),
                 calls: list_of_quotes(&route, FEW),
-                rival: survivors::least,
             };
-            let all = Work {
+            let all = &Work {
                 file,
-                calls: list_of_quotes(&route, number),
-                rival: survivors::least,
+                calls: list_of_quotes(&route, QUOTES),
             };
-            let dijkstra = few.time_of_dijkstra(out, Duration::from_millis(500)) / FEW as f64;
             line(
                 &format!("quote, 8 hops of 64 frames, Z {range}, {frames}"),
-                per_quote(&few, &all, number, survivors::least, out),
-                Some(dijkstra),
+                per_quote(few, all, QUOTES, &SIDES, out).map(Some),
             );
+            let [library, sharper] = per_quote(few, all, QUOTES, &SHARPER, out);
             line(
                 "  beside the survivor search by comparison",
-                per_quote(&few, &all, number, survivors::least_by_comparison, out),
-                None,
+                [Some(library), None, Some(sharper), None],
             );
         }
     }
@@ -223,23 +253,24 @@ fn pairs(out: &mut [u8]) {
         let works = [prefix, with_pairs, with_quotes].map(|calls| Work {
             file: file.clone(),
             calls,
-            rival: survivors::least,
         });
-        let [prefix, with_pairs, with_quotes] = times(&works, out, Duration::from_secs(2));
-        let each = |list: [f64; 2]| [0, 1].map(|side| (list[side] - prefix[side]) / number as f64);
+        let [prefix, with_pairs, with_quotes] =
+            times(works.each_ref(), &SIDES, out, Duration::from_secs(2));
+        let each = |list: [f64; 4]| -> [f64; 4] {
+            std::array::from_fn(|side| (list[side] - prefix[side]) / number as f64)
+        };
         let (pair, one) = (each(with_pairs), each(with_quotes));
         line(
             &format!("set-up and release, 2 hops, {live} live"),
-            pair,
-            None,
+            pair.map(Some),
         );
-        line(&format!("quote, 2 hops, {live} live"), one, None);
-        println!(
-            "{:<44} {:>9.2} {:>9.2}",
-            format!("  ratio of the pair to the quote, {live} live"),
-            pair[0] / one[0],
-            pair[1] / one[1]
-        );
+        line(&format!("quote, 2 hops, {live} live"), one.map(Some));
+        let name = format!("  ratio of the pair to the quote, {live} live");
+        print!("{name:<44}");
+        for (pair, one) in pair.into_iter().zip(one) {
+            cell(Some(pair / one));
+        }
+        println!();
     }
 }
 
@@ -249,21 +280,14 @@ fn runs(out: &mut [u8], random: &mut Random) {
     let work = Work {
         file: image(&network),
         calls: inputs::calls_of_length(random, network.links.len(), CALLS_MOST),
-        rival: survivors::least,
     };
     let number = work.number_of_calls();
-    let dijkstra = work.time_of_dijkstra(out, Duration::from_secs(1));
-    let [run] = times(&[work], out, Duration::from_secs(1));
+    let [run] = times([&work], &SIDES, out, Duration::from_secs(2));
     line(
         &format!("run of {CALLS_MOST} bytes, {number} mixed calls"),
-        run,
-        Some(dijkstra),
+        run.map(Some),
     );
-    line(
-        "  per call",
-        run.map(|t| t / number as f64),
-        Some(dijkstra / number as f64),
-    );
+    line("  per call", run.map(|time| Some(time / number as f64)));
 }
 
 /// A network file, the state that it gives, and a route.
@@ -367,7 +391,10 @@ fn main() {
     println!(
         "The lent buffer of {TEXT_MOST} bytes is allocated once and is not cleared between runs."
     );
-    println!("Quotes over 8 hops: the better of lists of {FEW} and of as many as {CALLS_MOST} bytes hold; Dijkstra's search on {FEW}.");
+    println!("Quotes over 8 hops: the better of lists of {FEW} and of {QUOTES}, as many as {CALLS_MOST} bytes hold.");
+    println!(
+        "By holds: the search before W-204. Survivors: the transcription of the papers' search."
+    );
     heading();
     quotes(&mut out, &mut random);
     pairs(&mut out);
