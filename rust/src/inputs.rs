@@ -330,6 +330,14 @@ pub fn any_route(random: &mut Random, links: usize, length: usize) -> Vec<u8> {
     (0..length).map(|_| random.below(links) as u8).collect()
 }
 
+/// A route of so many distinct links, any of so many.
+pub fn distinct_links(random: &mut Random, links: usize, length: usize) -> Vec<u8> {
+    let mut rest: Vec<u8> = (0..links as u8).collect();
+    (0..length)
+        .map(|_| rest.swap_remove(random.below(rest.len())))
+        .collect()
+}
+
 /// A route with a fault: empty, too long, an unknown link, a link twice, or any links at all.
 pub fn bad_route(random: &mut Random, network: &Network) -> Vec<u8> {
     let links = network.links.len();
@@ -437,6 +445,17 @@ mod tests {
             let network = network(&mut random, 64);
             let route = good_route(&mut random, &network);
             assert_eq!(crate::model::check_route(&network, &route), Ok(()));
+        }
+    }
+
+    #[test]
+    fn links_are_distinct() {
+        let mut random = Random::new(7);
+        for _ in 0..1_000 {
+            let route = distinct_links(&mut random, 32, MAX_HOPS);
+            assert_eq!(route.len(), MAX_HOPS);
+            assert!(route.iter().all(|&link| link < 32));
+            assert_eq!(without_repeats(&route), route);
         }
     }
 

@@ -186,17 +186,16 @@ fn list_of_quotes(route: &[u8], number: usize) -> Vec<u8> {
     calls
 }
 
-/// The time of a quote on each side, by a short list and by one of so many.
+/// The time of a quote on each side, the better of those by a short list and by the longest.
 fn per_quote<const S: usize>(
     few: &Work,
     all: &Work,
-    number: usize,
     sides: &[Side; S],
     out: &mut [u8],
 ) -> [f64; S] {
     let [short] = times([few], sides, out, Duration::from_secs(1));
     let [long] = times([all], sides, out, Duration::from_millis(200));
-    std::array::from_fn(|side| (short[side] / FEW as f64).min(long[side] / number as f64))
+    std::array::from_fn(|side| (short[side] / FEW as f64).min(long[side] / QUOTES as f64))
 }
 
 /// (a) Quotes over 8 hops of 64 frames: the better of a list of as many as the calls' bytes hold and of a short list, which goes round more
@@ -219,14 +218,33 @@ fn quotes(out: &mut [u8], random: &mut Random) {
             };
             line(
                 &format!("quote, 8 hops of 64 frames, Z {range}, {frames}"),
-                per_quote(few, all, QUOTES, &SIDES, out).map(Some),
+                per_quote(few, all, &SIDES, out).map(Some),
             );
-            let [library, sharper] = per_quote(few, all, QUOTES, &SHARPER, out);
+            let [library, sharper] = per_quote(few, all, &SHARPER, out);
             line(
                 "  beside the survivor search by comparison",
                 [Some(library), None, Some(sharper), None],
             );
         }
+    }
+}
+
+/// Quotes over ever other routes, of 8 among 32 links of which half of the frames are free: no processor learns the branches of so many
+/// quotes by heart, as it does those of one that is repeated.
+fn quotes_over_other_routes(out: &mut [u8], random: &mut Random) {
+    for range in [4, 16, 64] {
+        let closed = (0..32).map(|_| closed_frames(random, 64, Closing::ExactlyHalf));
+        let file = file_of(range, closed);
+        let mut calls = Vec::new();
+        for _ in 0..QUOTES {
+            push_quote(&mut calls, &inputs::distinct_links(random, 32, MAX_HOPS));
+        }
+        let work = &Work { file, calls };
+        let [all] = times([work], &SIDES, out, Duration::from_secs(3));
+        line(
+            &format!("quote, ever other routes, Z {range}, half free"),
+            all.map(|time| Some(time / QUOTES as f64)),
+        );
     }
 }
 
@@ -391,12 +409,13 @@ fn main() {
     println!(
         "The lent buffer of {TEXT_MOST} bytes is allocated once and is not cleared between runs."
     );
-    println!("Quotes over 8 hops: the better of lists of {FEW} and of {QUOTES}, as many as {CALLS_MOST} bytes hold.");
+    println!("Quotes over 8 hops: the better of lists of {FEW} and of {QUOTES}, as many as {CALLS_MOST} bytes hold; over ever other routes, of {QUOTES}.");
     println!(
         "By holds: the search before W-204. Survivors: the transcription of the papers' search."
     );
     heading();
     quotes(&mut out, &mut random);
+    quotes_over_other_routes(&mut out, &mut Random::new(0x6a09_e667_f3bc_c908));
     pairs(&mut out);
     runs(&mut out, &mut random);
     println!("Numbers of ways: {COUNTS} calls in turn; the library's time is that of a call less that of one refused with 12, which reads the file too.");
