@@ -16,6 +16,7 @@ pub mod route;
 pub mod running_sums;
 pub mod runs;
 pub mod sorts;
+pub mod stack;
 pub mod stand_in;
 pub mod state_calls;
 pub mod survivors;

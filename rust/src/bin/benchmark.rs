@@ -1,5 +1,5 @@
 //! Times the static library beside plain Rust, in one process, and prints a table of runs and one of numbers of ways, with the ratios.
-//! A list is timed only once the outputs of the sides that it is timed on are the same bytes.
+//! A list is timed only once the outputs of the sides that it is timed on are the same bytes. A third table gives the stack of calls.
 
 use std::hint::black_box;
 use std::time::{Duration, Instant};
@@ -11,7 +11,7 @@ use frames_check::network_file::{image, Link, Network};
 use frames_check::networks::{closed_frames, large_network, Closing};
 use frames_check::random::Random;
 use frames_check::route::{Answer, Hop, MAX_HOPS};
-use frames_check::{by_holds, dijkstra, inputs, model, running_sums, survivors, ways};
+use frames_check::{by_holds, dijkstra, inputs, model, running_sums, stack, survivors, ways};
 
 /// The quotes over 8 hops of a short list.
 const FEW: usize = 100;
@@ -292,13 +292,18 @@ fn pairs(out: &mut [u8]) {
     }
 }
 
-/// (c) Whole runs of mixed calls on 32 links of 8 to 64 frames, some of them closed.
-fn runs(out: &mut [u8], random: &mut Random) {
+/// As many bytes of mixed calls as count, on 32 links of 8 to 64 frames, some of them closed.
+fn mixed_calls(random: &mut Random) -> Work {
     let network = large_network(random);
-    let work = Work {
+    Work {
         file: image(&network),
         calls: inputs::calls_of_length(random, network.links.len(), CALLS_MOST),
-    };
+    }
+}
+
+/// (c) Whole runs of mixed calls.
+fn runs(out: &mut [u8], random: &mut Random) {
+    let work = mixed_calls(random);
     let number = work.number_of_calls();
     let [run] = times([&work], &SIDES, out, Duration::from_secs(2));
     line(
@@ -402,6 +407,56 @@ fn numbers_of_ways(random: &mut Random) {
     }
 }
 
+/// The stack of the library's run on a list. Its text is the same on all sides, and begins so.
+fn stack_of_run(work: &Work, beginning: &str, out: &mut [u8]) -> usize {
+    work.compare(&SIDES, out);
+    assert!(out.starts_with(beginning.as_bytes()));
+    stack::depth(|| {
+        black_box(work.library(out));
+    })
+}
+
+fn heading_of_stacks() {
+    println!("{:<44} {:>9}", "bytes", "stack");
+}
+
+fn line_of_stack(name: &str, depth: usize) {
+    println!("{name:<44} {depth:>9}");
+}
+
+/// (e) The stack of a quote over 8 hops of 64 frames, of one that is refused, of a number of ways and of a whole run. Before them stands
+/// that of a function whose stack is known; where it is measured wrong, there is no table.
+fn stacks(out: &mut [u8], random: &mut Random) {
+    let known = stack::known_depth();
+    let route = [0, 1, 2, 3, 4, 5, 6, 7];
+    let closed = (0..8).map(|_| closed_frames(random, 64, Closing::ExactlyHalf));
+    let file = file_of(16, closed);
+    let of_one_quote = |route: &[u8]| Work {
+        file: file.clone(),
+        calls: list_of_quotes(route, 1),
+    };
+    let quote = stack_of_run(&of_one_quote(&route), "1 Q ok ", out);
+    let refused = stack_of_run(&of_one_quote(&[]), "1 Q no 12\n", out);
+    let counting = Counting::new(file.clone(), &route);
+    let ways = stack::depth(|| {
+        black_box(counting.library(&route));
+    });
+    let mixed = stack_of_run(&mixed_calls(random), "1 ", out);
+
+    heading_of_stacks();
+    line_of_stack(
+        &format!("an array of {} bytes, in plain Rust", stack::KNOWN),
+        known,
+    );
+    line_of_stack("frames_report, a quote", quote);
+    line_of_stack("frames_report, a quote refused with 12", refused);
+    line_of_stack("frames_ways, the same route", ways);
+    line_of_stack(
+        &format!("frames_report, {CALLS_MOST} bytes of mixed calls"),
+        mixed,
+    );
+}
+
 fn main() {
     let mut out = vec![0u8; TEXT_MOST];
     let mut random = Random::new(0x2545_f491_4f6c_dd1d);
@@ -421,4 +476,6 @@ fn main() {
     println!("Numbers of ways: {COUNTS} calls in turn; the library's time is that of a call less that of one refused with 12, which reads the file too.");
     heading_of_ways();
     numbers_of_ways(&mut random);
+    println!("Stack below the caller, painted before a call and read back after it: a quote over 8 hops of 64 frames, Z 16, half free.");
+    stacks(&mut out, &mut Random::new(0xbb67_ae85_84ca_a73b));
 }
