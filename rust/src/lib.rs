@@ -11,6 +11,7 @@ pub mod listing;
 pub mod model;
 pub mod network_file;
 pub mod networks;
+pub mod quoted_routes;
 pub mod random;
 pub mod route;
 pub mod running_sums;
