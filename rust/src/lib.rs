@@ -24,6 +24,7 @@ pub mod survivors;
 pub mod tried;
 pub mod way_calls;
 pub mod ways;
+pub mod windows;
 pub mod writing;
 pub mod wrong;
 pub mod wrong_runs;

@@ -2,7 +2,7 @@
 //! search.
 
 use crate::route::{ones, Answer, Hop};
-use crate::{by_holds, dijkstra, listing, survivors};
+use crate::{by_holds, dijkstra, listing, survivors, windows};
 
 const T: u32 = 48;
 const ALL: &[u32] = &[0, 1, 2, 3, 4, 5, 6, 7];
@@ -41,6 +41,7 @@ fn answered(hops: &[Hop], expected: Answer) {
         survivors::least,
         survivors::least_by_comparison,
         by_holds::least,
+        windows::least,
     ];
     for search in searches {
         assert_eq!(search(T, hops), expected);
