@@ -21,6 +21,7 @@ pub mod stack;
 pub mod stand_in;
 pub mod state_calls;
 pub mod survivors;
+pub mod taken;
 pub mod tried;
 pub mod way_calls;
 pub mod ways;
