@@ -87,7 +87,7 @@ impl Compared {
     /// Counts a route whose answer was compared with the listing's.
     fn add(&mut self, listed: &Listed) {
         self.answers += 1;
-        let is_new = self.routes.insert(fingerprint(listed));
+        let is_new = self.routes.insert(fingerprint(listed.ticks, &listed.hops));
         if is_new {
             self.add_different(listed);
         }
@@ -162,9 +162,9 @@ fn numbers(words: &[&str]) -> Option<Vec<u8>> {
 }
 
 /// A number that tells different routes apart; should two share one, only the first is counted.
-fn fingerprint(listed: &Listed) -> u64 {
+pub fn fingerprint(ticks: u32, hops: &[Hop]) -> u64 {
     let mut hasher = DefaultHasher::new();
-    (listed.ticks, &listed.hops).hash(&mut hasher);
+    (ticks, hops).hash(&mut hasher);
     hasher.finish()
 }
 

@@ -12,6 +12,7 @@ pub mod model;
 pub mod network_file;
 pub mod networks;
 pub mod quoted_routes;
+pub mod quotes;
 pub mod random;
 pub mod route;
 pub mod running_sums;

@@ -5,6 +5,7 @@ use frames_check::inputs::{self, Case, Input};
 use frames_check::listing::{Listed, MOST_PATHS};
 use frames_check::model::Run;
 use frames_check::network_file::Values;
+use frames_check::quotes::Quotes;
 use frames_check::random::Random;
 use frames_check::route::{Answer, Hop};
 use frames_check::runs::Runs;
@@ -18,6 +19,7 @@ use std::process::exit;
 use std::time::{Duration, Instant};
 
 const INPUTS: usize = 200_000;
+const QUOTES: usize = 150_000;
 const SEED: u64 = 0x0960_0064_0096_0032;
 
 /// Each refusal has to be seen at least so often.
@@ -34,6 +36,7 @@ fn main() {
     for _ in 0..INPUTS {
         check.one_input(&mut random);
     }
+    check.compare_quotes();
     check.print_counts();
     check.print_times(start.elapsed());
     check.demand_wrong_ones_found();
@@ -97,6 +100,7 @@ struct Check {
     state_calls: StateCalls,
     way_calls: WayCalls,
     writing: Writing,
+    quotes: Quotes,
     times: Times,
 }
 
@@ -110,6 +114,7 @@ struct Times {
     state_calls: Duration,
     way_calls: Duration,
     writing: Duration,
+    quotes: Duration,
 }
 
 /// Runs a part and adds its time.
@@ -152,6 +157,7 @@ impl Check {
             state_calls,
             way_calls: WayCalls::new(Box::new(library::ways), SEED + 4),
             writing: Writing::new(Box::new(library::image), Box::new(write), SEED + 3),
+            quotes: Quotes::new(Box::new(library::report), SEED + 5),
             times: Times::default(),
         }
     }
@@ -289,6 +295,17 @@ impl Check {
         }
     }
 
+    /// Compares quotes, each on a network of its own.
+    fn compare_quotes(&mut self) {
+        let Check { quotes, times, .. } = self;
+        let compared = timed(&mut times.quotes, || {
+            (0..QUOTES).try_for_each(|_| quotes.compare())
+        });
+        if let Err(fault) = compared {
+            fail(&fault);
+        }
+    }
+
     /// Counts what the lines of the library's text show.
     fn tally(&mut self, text: &str) {
         for line in text.lines() {
@@ -339,6 +356,7 @@ impl Check {
         self.state_calls.print();
         self.way_calls.print();
         self.writing.print();
+        self.quotes.print();
     }
 
     fn print_times(&self, whole: Duration) {
@@ -351,6 +369,7 @@ impl Check {
             ("lookups and free frames", times.state_calls),
             ("ways", times.way_calls),
             ("writing", times.writing),
+            ("quotes", times.quotes),
             ("whole", whole),
         ];
         let parts = parts.map(|(name, time)| format!("{name} {:.1}", time.as_secs_f64()));
@@ -384,6 +403,7 @@ impl Check {
             self.state_calls.too_few(),
             self.way_calls.too_few(),
             self.writing.too_few(),
+            self.quotes.too_few(),
         ];
         if let Some(too_few) = too_few.into_iter().flatten().next() {
             fail(&too_few);

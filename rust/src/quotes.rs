@@ -1,0 +1,336 @@
+//! Quotes over routes of every number of frames, with many ties and windows that pass the cycle's end, compared with the model.
+
+use crate::call_records::push_quote;
+use crate::compared::{fingerprint, has_step};
+use crate::lent::Lent;
+use crate::listing::{self, MOST_PATHS};
+use crate::model::{hops_of, room_for_run, transcript, Ledger};
+use crate::network_file::{image, Network};
+use crate::networks::fit;
+use crate::random::Random;
+use crate::route::{Answer, Hop, MAX_HOPS};
+use crate::sorts::{add_each, print_lines, sort, sorts_of_hops, too_few_in, Line, Sort};
+use crate::stand_in::Report;
+use crate::taken::{self, Entry};
+use crate::{dijkstra, quoted_routes, survivors, windows};
+use std::collections::HashSet;
+
+/// A link has at most 64 frames.
+const FRAMES: usize = 64;
+
+/// The longest delay: seven whole cycles of 960 ticks.
+const MOST_DELAY: u32 = 6_720;
+
+/// So many ties along one route are several.
+const SEVERAL: usize = 3;
+
+/// The function under test, and what has been seen of it so far. A route that was compared before isn't of any sort again.
+pub struct Quotes {
+    report: Box<Report>,
+    random: Random,
+    lent: Lent<u8>,
+    compared: usize,
+    routes: HashSet<u64>,
+    quotes: [Sort; 3],
+    hops: [Sort; MAX_HOPS],
+    /// Blocked, by the hop at which nothing is reached.
+    blocked: [Sort; MAX_HOPS],
+    /// With a schedule: of so many hops; with a step to a faster link, to a slower one, and with both steps; of a long delay;
+    /// and with another frame of the last hop that has the same delay.
+    hops_of_schedules: [Sort; MAX_HOPS],
+    steps: [Sort; 3],
+    delays: [Sort; 2],
+    ends: [Sort; 1],
+    /// Schedules of 8 hops with several ties that the hold decided, that the preceding frame did, and with several of each.
+    several: [Sort; 3],
+    entered: Entered,
+}
+
+/// The hops that schedules entered, by what they met there.
+struct Entered {
+    ties: [Sort; 3],
+    windows: [Sort; 2],
+    /// Z above 1 that doesn't divide K; and of these by the blocks of Z frames.
+    blocks: [Sort; 4],
+    unreached: [Sort; 1],
+    /// By K and Z, and by the K of the hop before and K.
+    ranges: Pairs,
+    rates: Pairs,
+}
+
+/// How often two numbers from 1 to 64 were seen together.
+type Pairs = Vec<[usize; FRAMES + 1]>;
+
+impl Quotes {
+    pub fn new(report: Box<Report>, seed: u64) -> Self {
+        let mut random = Random::new(seed);
+        let pattern = random.bytes(1_000);
+        Quotes {
+            report,
+            random,
+            lent: Lent::new(pattern),
+            compared: 0,
+            routes: HashSet::new(),
+            quotes: [
+                sort("different", 140_000),
+                sort("blocked", 20_000),
+                sort("also listed", 25_000),
+            ],
+            hops: sorts_of_hops([8_000, 8_000, 8_000, 8_000, 8_000, 8_000, 8_000, 60_000]),
+            blocked: sorts_by_hop([2_000; MAX_HOPS]),
+            hops_of_schedules: sorts_of_hops([
+                7_000, 7_000, 7_000, 7_000, 7_000, 7_000, 7_000, 45_000,
+            ]),
+            steps: [
+                sort("to a faster link", 40_000),
+                sort("to a slower link", 50_000),
+                sort("both", 30_000),
+            ],
+            delays: [sort("past 4,095:", 2_500), sort("6,720:", 50)],
+            ends: [sort("at the last frame", 30_000)],
+            several: [
+                sort("hold", 8_000),
+                sort("preceding frame", 2_500),
+                sort("each", 1_500),
+            ],
+            entered: Entered::new(),
+        }
+    }
+
+    /// Compares one quote with the model; what differs, in words.
+    pub fn compare(&mut self) -> Result<(), String> {
+        let network = quoted_routes::network(&mut self.random);
+        self.compared += 1;
+        let fault = self.compare_over(&network);
+        fault.map_err(|fault| format!("quote over all links of {network:?}: {fault}"))
+    }
+
+    fn compare_over(&mut self, network: &Network) -> Result<(), String> {
+        let route: Vec<u8> = (0..network.links.len() as u8).collect();
+        let hops = &hops_of(network, &Ledger::new(network), &route)[..route.len()];
+        let (answer, is_listed) = answer(network.ticks, hops)?;
+        let (file, mut calls) = (image(network), Vec::new());
+        push_quote(&mut calls, &route);
+        let text = transcript(&file, &calls, |_, _| answer.clone());
+        let room = room_for_run(&calls);
+        let call = |out: &mut [u8]| (self.report)(&file, &calls, out);
+        if let Some(fault) = self.lent.fault(room, Ok(&text), call) {
+            let [text, written] =
+                [&text, self.lent.written(room)].map(|text| String::from_utf8_lossy(text));
+            return Err(format!("{fault}\nmodel: {text:?}\nlent bytes: {written:?}"));
+        }
+        if self.routes.insert(fingerprint(network.ticks, hops)) {
+            self.add(network.ticks, hops, &answer, is_listed);
+        }
+        Ok(())
+    }
+
+    // ---- What was seen ----
+
+    /// Counts a route that wasn't compared before.
+    fn add(&mut self, ticks: u32, hops: &[Hop], answer: &Answer, is_listed: bool) {
+        let delays = taken::delays(ticks, hops);
+        let blocked_at = taken::blocked_at(&delays);
+        add_each(&mut self.quotes, &[true, blocked_at.is_some(), is_listed]);
+        self.hops[hops.len() - 1].add(true);
+        if let Some(hop) = blocked_at {
+            self.blocked[hop].add(true);
+        }
+        if let Answer::Found { delay, frames, .. } = answer {
+            self.add_schedule(hops, *delay);
+            self.ends[0].add(taken::ends_tie(&delays));
+            let entries = taken::entries(ticks, hops, &delays, frames);
+            self.add_several(&entries);
+            for (hop, entry) in hops.windows(2).zip(&entries) {
+                self.entered.add(&hop[0], &hop[1], entry);
+            }
+        }
+    }
+
+    fn add_schedule(&mut self, hops: &[Hop], delay: u32) {
+        let (faster, slower) = (has_step(hops, u32::lt), has_step(hops, u32::gt));
+        self.hops_of_schedules[hops.len() - 1].add(true);
+        add_each(&mut self.steps, &[faster, slower, faster && slower]);
+        add_each(&mut self.delays, &[delay > 4_095, delay == MOST_DELAY]);
+    }
+
+    fn add_several(&mut self, entries: &[Entry]) {
+        if entries.len() + 1 < MAX_HOPS {
+            return;
+        }
+        let several = |is_of: fn(&&Entry) -> bool| entries.iter().filter(is_of).count() >= SEVERAL;
+        let by_hold = several(|entry| entry.tie_by_hold);
+        let by_frame = several(|entry| entry.tie_by_frame);
+        add_each(&mut self.several, &[by_hold, by_frame, by_hold && by_frame]);
+    }
+
+    fn lines<'a>(&'a self, rarest: &'a [Sort; 3]) -> [Line<'a>; 13] {
+        [
+            ("", &self.quotes),
+            ("of ", &self.hops),
+            ("blocked at hop ", &self.blocked),
+            ("not blocked: of ", &self.hops_of_schedules),
+            ("not blocked: ", &self.steps),
+            ("not blocked: delay ", &self.delays),
+            ("not blocked: tie ", &self.ends),
+            (
+                "not blocked: of 8 hops, with three or more ties decided by ",
+                &self.several,
+            ),
+            ("entered hops: tie decided by ", &self.entered.ties),
+            ("entered hops: past the cycle's end ", &self.entered.windows),
+            ("entered hops: ", &self.entered.blocks),
+            ("entered hops: ", &self.entered.unreached),
+            ("entered hops: rarest ", rarest),
+        ]
+    }
+
+    /// Prints what was seen.
+    pub fn print(&self) {
+        println!("quotes: {} compared, 0 differed", self.compared);
+        print_lines(&self.lines(&self.entered.rarest()));
+    }
+
+    /// The first sort of which too few were seen, in words.
+    pub fn too_few(&self) -> Option<String> {
+        too_few_in(&self.lines(&self.entered.rarest())).map(|few| format!("quotes: {few}"))
+    }
+}
+
+impl Entered {
+    fn new() -> Self {
+        let pairs = || vec![[0; FRAMES + 1]; FRAMES + 1];
+        Entered {
+            ties: [
+                sort("hold", 50_000),
+                sort("hold against a way from before the block", 20_000),
+                sort("preceding frame", 35_000),
+            ],
+            windows: [sort("window", 200_000), sort("way itself", 30_000)],
+            blocks: [
+                sort("Z above 1 and no divisor of K", 200_000),
+                sort("then in the block that is cut off", 40_000),
+                sort("from before the block", 10_000),
+                sort("both", 3_500),
+            ],
+            unreached: [sort(
+                "after a hop with a free frame that nothing reaches",
+                50_000,
+            )],
+            ranges: pairs(),
+            rates: pairs(),
+        }
+    }
+
+    fn add(&mut self, before: &Hop, here: &Hop, entry: &Entry) {
+        let ties = [
+            entry.tie_by_hold,
+            entry.tie_across_block,
+            entry.tie_by_frame,
+        ];
+        add_each(&mut self.ties, &ties);
+        add_each(&mut self.windows, &[entry.window_passes, entry.way_passes]);
+        let is_no_divisor = here.range > 1 && here.frames % here.range != 0;
+        let is_cut = is_no_divisor && entry.block_is_cut;
+        let is_from_before = is_no_divisor && entry.from_before_block;
+        let is_both = is_cut && is_from_before;
+        let blocks = [is_no_divisor, is_cut, is_from_before, is_both];
+        add_each(&mut self.blocks, &blocks);
+        self.unreached[0].add(entry.follows_unreached);
+        let [from, frames, range] = [before.frames, here.frames, here.range].map(|n| n as usize);
+        self.ranges[frames][range] += 1;
+        self.rates[frames][from] += 1;
+    }
+
+    /// How often the rarest K from 1 to 64 was entered; the rarest K with one of its Z; and the rarest K after one that fits.
+    fn rarest(&self) -> [Sort; 3] {
+        let least = |name, least, seen: &dyn Fn(usize) -> Option<usize>| {
+            let seen = (1..=FRAMES).filter_map(seen).min().unwrap_or(0);
+            Sort { name, least, seen }
+        };
+        let fits = |from: usize, frames: usize| fit(from as u32, frames as u32);
+        [
+            least("K", 3_000, &|frames| Some(self.ranges[frames].iter().sum())),
+            least("K and Z", 10, &|frames| {
+                self.ranges[frames][1..=frames].iter().copied().min()
+            }),
+            least("K and K before", 25, &|frames| {
+                let before = (1..=FRAMES).filter(|&from| fits(from, frames));
+                before.map(|from| self.rates[frames][from]).min()
+            }),
+        ]
+    }
+}
+
+/// A sort for each hop.
+fn sorts_by_hop(least: [usize; MAX_HOPS]) -> [Sort; MAX_HOPS] {
+    const NAMES: [&str; MAX_HOPS] = ["0:", "1:", "2:", "3:", "4:", "5:", "6:", "7:"];
+    std::array::from_fn(|j| sort(NAMES[j], least[j]))
+}
+
+/// The answer that each search of the model gives, and whether the listing was one of them; or that they differ, in words.
+fn answer(ticks: u32, hops: &[Hop]) -> Result<(Answer, bool), String> {
+    let answer = dijkstra::least(ticks, hops);
+    let mut others = vec![survivors::least(ticks, hops), windows::least(ticks, hops)];
+    let is_listed = listing::paths(hops.iter().map(|hop| hop.frames)) <= MOST_PATHS;
+    if is_listed {
+        others.push(listing::least(ticks, hops));
+    }
+    match others.iter().find(|&other| *other != answer) {
+        Some(other) => Err(format!(
+            "the model's searches differ\n{answer:?}\n{other:?}"
+        )),
+        None => Ok((answer, is_listed)),
+    }
+}
+
+#[cfg(test)]
+mod tests {
+    use super::*;
+    use crate::network_file::read_network;
+    use crate::stand_in;
+
+    #[test]
+    fn the_right_one_does_not_differ() {
+        let mut quotes = Quotes::new(Box::new(stand_in::report), 26);
+        for _ in 0..4_000 {
+            assert_eq!(quotes.compare(), Ok(()));
+        }
+    }
+
+    #[test]
+    fn what_a_quote_is_counted_as() {
+        // T 48; K 8, 8 and 4, Z 3; on link 1 only frames 0 and 1 are free, and both lead to frame 1 of link 2: 7 0 1 and
+        // 0 1 1 have delay 18.
+        let file = [
+            0x30, 0, 3, 3, 8, 3, 7, 8, 3, 0xfc, 0, 0, 0, 0, 0, 0, 0, 3, 4, 3,
+        ];
+        let network = read_network(&file).expect("the file passes");
+        let mut quotes = Quotes::new(Box::new(stand_in::report), 27);
+        for _ in 0..2 {
+            assert_eq!(quotes.compare_over(&network), Ok(()));
+        }
+        let seen = |sorts: &[Sort]| sorts.iter().map(|sort| sort.seen).collect::<Vec<_>>();
+        assert_eq!(seen(&quotes.quotes), [1, 0, 1]);
+        assert_eq!(seen(&quotes.hops), [0, 0, 1, 0, 0, 0, 0, 0]);
+        assert_eq!(seen(&quotes.steps), [0, 1, 0]);
+        let entered = &quotes.entered;
+        assert_eq!((entered.ranges[8][3], entered.ranges[4][3]), (1, 1));
+        assert_eq!((entered.rates[8][8], entered.rates[4][8]), (1, 1));
+        assert_eq!(seen(&entered.rarest()), [0, 0, 0]);
+        assert_eq!(seen(&entered.ties), [0, 0, 1]);
+        assert_eq!(seen(&entered.windows), [2, 0]);
+        assert_eq!(seen(&entered.blocks), [2, 0, 0, 0]);
+    }
+
+    #[test]
+    fn too_few_are_named() {
+        let quotes = Quotes::new(Box::new(stand_in::report), 28);
+        let rarest = quotes.entered.rarest();
+        let lines = quotes.lines(&rarest);
+        let mut sorts = lines.iter().flat_map(|(_, sorts)| sorts.iter());
+        assert!(sorts.all(|sort| sort.least > 0));
+        let words = quotes.too_few().expect("nothing was seen");
+        assert!(words.starts_with("quotes: different 0, "), "{words}");
+    }
+}
