@@ -32,6 +32,7 @@ pub mod wrong;
 pub mod wrong_runs;
 pub mod wrong_state;
 pub mod wrong_ways;
+pub mod wrong_windows;
 pub mod wrong_writing;
 
 #[cfg(test)]

@@ -12,7 +12,9 @@ use crate::route::{Answer, Hop, MAX_HOPS};
 use crate::sorts::{add_each, print_lines, sort, sorts_of_hops, too_few_in, Line, Sort};
 use crate::stand_in::Report;
 use crate::taken::{self, Entry};
-use crate::{dijkstra, quoted_routes, survivors, windows};
+use crate::tried::Tried;
+use crate::windows::{self, Method};
+use crate::{dijkstra, quoted_routes, survivors, wrong_windows};
 use std::collections::HashSet;
 
 /// A link has at most 64 frames.
@@ -44,6 +46,7 @@ pub struct Quotes {
     /// Schedules of 8 hops with several ties that the hold decided, that the preceding frame did, and with several of each.
     several: [Sort; 3],
     entered: Entered,
+    pub wrong: Tried<Method>,
 }
 
 /// The hops that schedules entered, by what they met there.
@@ -94,6 +97,7 @@ impl Quotes {
                 sort("each", 1_500),
             ],
             entered: Entered::new(),
+            wrong: Tried::new("search", wrong_windows::all()),
         }
     }
 
@@ -119,6 +123,10 @@ impl Quotes {
                 [&text, self.lent.written(room)].map(|text| String::from_utf8_lossy(text));
             return Err(format!("{fault}\nmodel: {text:?}\nlent bytes: {written:?}"));
         }
+        self.wrong.try_on(self.compared, |method| {
+            let least = |ticks, hops: &[Hop]| method.least(ticks, hops);
+            transcript(&file, &calls, least) != text
+        });
         if self.routes.insert(fingerprint(network.ticks, hops)) {
             self.add(network.ticks, hops, &answer, is_listed);
         }
@@ -288,13 +296,31 @@ fn answer(ticks: u32, hops: &[Hop]) -> Result<(Answer, bool), String> {
 mod tests {
     use super::*;
     use crate::network_file::read_network;
-    use crate::stand_in;
+    use crate::stand_in::{self, put};
+
+    /// Compares a function with the model on some quotes.
+    fn compared(report: Box<Report>) -> Result<Quotes, String> {
+        let mut quotes = Quotes::new(report, 26);
+        (0..4_000).try_for_each(|_| quotes.compare())?;
+        Ok(quotes)
+    }
 
     #[test]
-    fn the_right_one_does_not_differ() {
-        let mut quotes = Quotes::new(Box::new(stand_in::report), 26);
-        for _ in 0..4_000 {
-            assert_eq!(quotes.compare(), Ok(()));
+    fn the_right_one_does_not_differ_and_wrong_ones_do() {
+        let right = compared(Box::new(stand_in::report));
+        let right = right.unwrap_or_else(|fault| panic!("{fault}"));
+        assert_eq!(right.wrong.never_differed(), None);
+    }
+
+    #[test]
+    fn a_wrong_one_in_the_place_of_the_library_is_found() {
+        for wrong in wrong_windows::all() {
+            let found = compared(Box::new(move |file, calls, out| {
+                let least = |ticks, hops: &[Hop]| wrong.does.least(ticks, hops);
+                put(&transcript(file, calls, least), out)
+            }));
+            let found = found.err();
+            assert!(found.is_some_and(|words| words.starts_with("quote over all links of ")));
         }
     }
 

@@ -384,6 +384,7 @@ impl Check {
         demand_found(&self.way_calls.wrong);
         demand_found(&self.writing.wrong_images);
         demand_found(&self.writing.wrong_writers);
+        demand_found(&self.quotes.wrong);
     }
 
     fn demand_refusals_seen(&self) {

@@ -1,0 +1,245 @@
+//! Wrong window searches, each with one mistake.
+
+use crate::route::has;
+use crate::tried::Wrong;
+use crate::windows::{Method, Part, Way, NEVER, RIGHT};
+
+/// All wrong window searches.
+pub fn all() -> Vec<Wrong<Method>> {
+    let mut all = wrong_windows();
+    all.extend(wrong_blocks());
+    all.extend(wrong_gathering());
+    all.extend(wrong_ties());
+    all.extend(wrong_counts());
+    all.extend(wrong_delays());
+    all
+}
+
+fn wrong(name: &'static str, does: Method) -> Wrong<Method> {
+    Wrong { name, does }
+}
+
+fn wrong_windows() -> Vec<Wrong<Method>> {
+    vec![
+        wrong(
+            "window one frame short",
+            Method {
+                window: |here| here.range - 1,
+                ..RIGHT
+            },
+        ),
+        wrong(
+            "window one frame long",
+            Method {
+                window: |here| here.frames.min(here.range + 1),
+                ..RIGHT
+            },
+        ),
+        wrong(
+            "window cut off at the cycle's end",
+            Method {
+                back: |first, frame, _| first.checked_sub(frame).map(|back| back as i32),
+                ..RIGHT
+            },
+        ),
+        wrong(
+            "a frame before the cycle's end without a cycle more",
+            Method {
+                back: |first, frame, _| Some(first as i32 - frame as i32),
+                ..RIGHT
+            },
+        ),
+        wrong(
+            "closed frame entered",
+            Method {
+                enters: |_, _| true,
+                ..RIGHT
+            },
+        ),
+    ]
+}
+
+fn wrong_blocks() -> Vec<Wrong<Method>> {
+    vec![
+        wrong(
+            "last block of a cycle as long as the others",
+            Method {
+                block: |_, whole, _| whole,
+                ..RIGHT
+            },
+        ),
+        wrong(
+            "window one frame short before its block",
+            Method {
+                before_block: |after, window| (window - 1 - after).saturating_sub(1),
+                ..RIGHT
+            },
+        ),
+        wrong(
+            "window one frame long before its block",
+            Method {
+                before_block: |after, window| (window - after).min(window - 1),
+                ..RIGHT
+            },
+        ),
+        wrong(
+            "running best kept from block to block",
+            Method {
+                begins_anew: false,
+                ..RIGHT
+            },
+        ),
+    ]
+}
+
+fn wrong_gathering() -> Vec<Wrong<Method>> {
+    vec![
+        wrong(
+            "reference of a frame's first bit, as before W-201",
+            Method {
+                reference: |frame, before, here| frame * here.frames / before.frames,
+                ..RIGHT
+            },
+        ),
+        wrong(
+            "least hold 0",
+            Method {
+                least_hold: 0,
+                ..RIGHT
+            },
+        ),
+        wrong(
+            "first frame gathered, not the least",
+            Method {
+                gathers: |_, _| false,
+                ..RIGHT
+            },
+        ),
+        wrong(
+            "last frame gathered, not the least",
+            Method {
+                gathers: |_, _| true,
+                ..RIGHT
+            },
+        ),
+        wrong(
+            "free frame gathered that nothing reaches",
+            Method {
+                is_reached: |_, hop, frame| has(hop.free, frame),
+                ..RIGHT
+            },
+        ),
+    ]
+}
+
+/// Has the way the smaller delay, or an equal one where that is enough?
+fn is_less(way: &Way, other: &Way, or_equal: bool) -> bool {
+    way.delay < other.delay || or_equal && way.delay == other.delay
+}
+
+fn wrong_ties() -> Vec<Wrong<Method>> {
+    vec![
+        wrong(
+            "later frame before of equals",
+            Method {
+                gathers: |earlier, later| is_less(later, earlier, true),
+                ..RIGHT
+            },
+        ),
+        wrong(
+            "longer hold of equals",
+            Method {
+                prefers: |_, shorter, longer| is_less(longer, shorter, true),
+                ..RIGHT
+            },
+        ),
+        wrong(
+            "longer hold of equals before a block",
+            Method {
+                prefers: |part, shorter, longer| is_less(longer, shorter, part == Part::Before),
+                ..RIGHT
+            },
+        ),
+        wrong(
+            "longer hold of equals within a block",
+            Method {
+                prefers: |part, shorter, longer| is_less(longer, shorter, part == Part::Within),
+                ..RIGHT
+            },
+        ),
+        wrong(
+            "longer hold of equals from before the block",
+            Method {
+                prefers: |part, shorter, longer| is_less(longer, shorter, part == Part::Both),
+                ..RIGHT
+            },
+        ),
+        wrong(
+            "later last frame of equals",
+            Method {
+                ends: |earlier, later| later <= earlier && later < NEVER,
+                ..RIGHT
+            },
+        ),
+        wrong(
+            "preceding frame of the frame before",
+            Method {
+                kept_from: |frame, here| (frame + here.frames - 1) % here.frames,
+                ..RIGHT
+            },
+        ),
+    ]
+}
+
+fn wrong_counts() -> Vec<Wrong<Method>> {
+    vec![
+        wrong(
+            "count cut off at the cycle's end",
+            Method {
+                counts: |here, place| place < here.frames && has(here.free, place),
+                ..RIGHT
+            },
+        ),
+        wrong(
+            "count one frame short",
+            Method {
+                counted: |here| here.range - 1,
+                ..RIGHT
+            },
+        ),
+        wrong(
+            "count one frame long",
+            Method {
+                counted: |here| here.frames.min(here.range + 1),
+                ..RIGHT
+            },
+        ),
+    ]
+}
+
+/// Mistakes with what is kept from hop to hop.
+fn wrong_delays() -> Vec<Wrong<Method>> {
+    vec![
+        wrong(
+            "delay of 6,720 taken for none",
+            Method {
+                kept: |delay| if delay < 6_720 { delay } else { NEVER },
+                ..RIGHT
+            },
+        ),
+        wrong(
+            "delay kept in twelve bits",
+            Method {
+                kept: |delay| delay % 4_096,
+                ..RIGHT
+            },
+        ),
+        wrong(
+            "delays of two hops before not wiped out",
+            Method {
+                wipes: false,
+                ..RIGHT
+            },
+        ),
+    ]
+}
