@@ -1,21 +1,28 @@
 -- The frames of the hop before, gathered one after the other by the frame that the least hold leads each to. Assumes nothing.
-use mathlib.Core.Path.{_≡_, refl, sym, _∙_, ap, subst}
+use mathlib.Core.Path.{_≡_, refl, sym, _∙_, ap, ap₂, subst}
 use mathlib.Core.Bool.{Bool, true, false, cond}
 use mathlib.Core.List.{List}
 use mathlib.Core.Logic.{⊎-elim}
-use Prim.Native.Nat.{ℕ, zero, suc, _+_, _-_, _*_, _<_, _≤_}
-use native.Mathlib.Nat.{eq-or-lt-of-le, mul-le-mul-right}
+use Prim.Native.Nat.{ℕ, zero, suc, _+_, _-_, _*_, _%_, _<_, _≤_}
+use native.Mathlib.Nat.{eq-or-lt-of-le, mul-le-mul-right, mod-lt}
 use native.Mathlib.Decide.{decLt, ℕ-discrete}
 use native.Mathlib.Omega.{arith}
 use lib.Dec.{ltb}
 use lib.ListN.{getD, set, length, replicate, length-set, length-replicate}
 use lib.Seq.{getD-set-same, getD-set-other}
 use borrow.Author.Tests.{ltb-true, ltb-false}
+use Rattle.forwarding.specs.declared.Hop.{Hop}
+use Rattle.forwarding.specs.Forwarding.{referenceInto, leastHold}
+use Rattle.forwarding.proofs.Windows.{firstFrame}
 use Rattle.search.specs.Inner.{Within, keyFrom, Entered, Gathers, Keys}
 
 -- fewer frames than a cycle take no longer than a cycle
 pub within-time : (time K n : ℕ) → n ≤ K → K * time ≤ 960 → n * time ≤ 960
 within-time time K n h l = omega (arith, mul-le-mul-right {m = n} {n = K} time h)
+
+-- the frame that the least hold leads to, by the reference frame
+pub led-first : (g h : Hop) (k r y i : ℕ) → 0 < h .frames → r ≡ referenceInto g h k → y ≡ leastHold h → i ≡ (r + y) % h .frames → (i ≡ firstFrame g h k) × (i < h .frames)
+led-first g h k r y i p er ey e = (e ∙ ap₂ (λ (x z : ℕ). (x + z) % h .frames) er ey, omega (arith, e, mod-lt (r + y) p))
 
 -- 64 times the same
 pub same-at : (n v i : ℕ) → i < n → getD (replicate n v) i 0 ≡ v

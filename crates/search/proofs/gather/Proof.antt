@@ -1,7 +1,7 @@
 -- `search::gather` meets its contract. The invariant: the frames below k are gathered, and their transitions counted. Assumes nothing.
 use mathlib.Core.Path.{_≡_, refl, _∙_, ap, ap₂}
-use Prim.Native.Nat.{ℕ, _+_, _-_, _*_, _%_, _<_, _≤_}
-use native.Mathlib.Nat.{mod-lt}
+use Prim.Native.Nat.{ℕ, _+_, _-_, _*_, _≤_}
+use native.Mathlib.Nat.{le-trans}
 use native.Mathlib.Numerals.{add-one}
 use native.Mathlib.Omega.{arith}
 use lib.ListN.{getD}
@@ -9,11 +9,10 @@ use borrow.Author.Needs.{needs}
 use Rattle.lists.specs.Count.{oneIf}
 use Rattle.lists.proofs.Sums.{one-times-le}
 use Rattle.trellis.specs.Paths.{reached}
-use Rattle.forwarding.specs.Forwarding.{referenceInto, leastHold}
 use Rattle.forwarding.proofs.Holds.{reference-in, least-in}
 use Rattle.forwarding.proofs.Windows.{firstFrame}
 use Rattle.search.specs.Inner.{cellReach, Gathers, leadings}
-use Rattle.search.proofs.Gathering.{within-time, one-gathered}
+use Rattle.search.proofs.Gathering.{within-time, led-first, one-gathered}
 use Rattle.search.proofs.gather.Statement.{statement}
 use Rattle.search.proofs.gather.Tie as tie
 
@@ -57,22 +56,14 @@ sub-enter c =
     let s = c .before .before .before .before .before .before in
     let a = s .args in
     let l = c .before .before .before .before .loop in
-    let p = s .pre in
-    let i : ℕ = c .frame-on .result in
-    let is : i ≡ firstFrame (a .before) (a .hop) (l .k) = c .frame-on .ensures ∙ ap₂ (λ (x y : ℕ). (x + y) % a .hop .frames) (c .before .reference-frame .ensures) (c .before .before .before .before .before .least-hold .ensures) in
-    let inside : i < a .hop .frames = omega (arith, is, mod-lt (referenceInto (a .before) (a .hop) (l .k) + leastHold (a .hop)) (p .some-frame)) in
-    omega arith
+    omega (arith, led-first (a .before) (a .hop) (l .k) (c .before .reference-frame .result) (c .before .before .before .before .before .least-hold .result) (c .frame-on .result) (s .pre .some-frame) (c .before .reference-frame .ensures) (c .before .before .before .before .before .least-hold .ensures) (c .frame-on .ensures) .1)
 
 delay-of-requires : tie.Need-delay-of-requires Inv-loop μ-loop
 delay-of-requires c κs =
     let s = c .before .before .before .before .before .before in
     let a = s .args in
     let l = c .before .before .before .before .loop in
-    let p = s .pre in
-    let i : ℕ = c .frame-on .result in
-    let is : i ≡ firstFrame (a .before) (a .hop) (l .k) = c .frame-on .ensures ∙ ap₂ (λ (x y : ℕ). (x + y) % a .hop .frames) (c .before .reference-frame .ensures) (c .before .before .before .before .before .least-hold .ensures) in
-    let inside : i < a .hop .frames = omega (arith, is, mod-lt (referenceInto (a .before) (a .hop) (l .k) + leastHold (a .hop)) (p .some-frame)) in
-    within-time (a .time .0) (a .hop .frames) (a .hop .frames - i) (omega arith) (p .in-time)
+    within-time (a .time .0) (a .hop .frames) (a .hop .frames - c .frame-on .result) (omega arith) (s .pre .in-time)
 
 cast-leaving : tie.Need-cast-leaving Inv-loop μ-loop
 cast-leaving c = search needs
@@ -82,11 +73,7 @@ element-copy-out-leaving c =
     let s = c .before .before .before .before .before .before .before in
     let a = s .args in
     let l = c .before .before .before .before .before .loop in
-    let p = s .pre in
-    let i : ℕ = c .before .frame-on .result in
-    let is : i ≡ firstFrame (a .before) (a .hop) (l .k) = c .before .frame-on .ensures ∙ ap₂ (λ (x y : ℕ). (x + y) % a .hop .frames) (c .before .before .reference-frame .ensures) (c .before .before .before .before .before .before .least-hold .ensures) in
-    let inside : i < a .hop .frames = omega (arith, is, mod-lt (referenceInto (a .before) (a .hop) (l .k) + leastHold (a .hop)) (p .some-frame)) in
-    omega (arith, p .few-frames)
+    le-trans (led-first (a .before) (a .hop) (l .k) (c .before .before .reference-frame .result) (c .before .before .before .before .before .before .least-hold .result) (c .before .frame-on .result) (s .pre .some-frame) (c .before .before .reference-frame .ensures) (c .before .before .before .before .before .before .least-hold .ensures) (c .before .frame-on .ensures) .1) (s .pre .few-frames)
 
 leaving-requires : tie.Need-leaving-requires Inv-loop μ-loop
 leaving-requires c κs = search needs
@@ -96,37 +83,23 @@ add-count c =
     let s = c .before .before .before .before .before .before .before .before .before in
     let a = s .args in
     let l = c .before .before .before .before .before .before .before .loop in
-    let p = s .pre in
-    let i : ℕ = c .before .before .before .frame-on .result in
-    let is : i ≡ firstFrame (a .before) (a .hop) (l .k) = c .before .before .before .frame-on .ensures ∙ ap₂ (λ (x y : ℕ). (x + y) % a .hop .frames) (c .before .before .before .before .reference-frame .ensures) (c .before .before .before .before .before .before .before .before .least-hold .ensures) in
-    let inside : i < a .hop .frames = omega (arith, is, mod-lt (referenceInto (a .before) (a .hop) (l .k) + leastHold (a .hop)) (p .some-frame)) in
-    let less = c .before .before .before .before .before .before .loop-test .taken in
-    record { fits = omega (arith, c .leaving .ensures, one-times-le (reached (cellReach (getD (a .row .now) (l .k) 0))) (getD (a .ones .now) i 0), p .few-ones i inside, l .inv .1, p .few-before) }
+    let i = c .before .before .before .frame-on .result in
+    record { fits = omega (arith, c .before .before .before .before .before .before .loop-test .taken, c .leaving .ensures, one-times-le (reached (cellReach (getD (a .row .now) (l .k) 0))) (getD (a .ones .now) i 0), s .pre .few-ones i (led-first (a .before) (a .hop) (l .k) (c .before .before .before .before .reference-frame .result) (c .before .before .before .before .before .before .before .before .least-hold .result) (c .before .before .before .frame-on .result) (s .pre .some-frame) (c .before .before .before .before .reference-frame .ensures) (c .before .before .before .before .before .before .before .before .least-hold .ensures) (c .before .before .before .frame-on .ensures) .1), l .inv .1, s .pre .few-before) }
 
 add-enter : tie.Need-add-enter Inv-loop μ-loop
 add-enter c =
     let s = c .before .before .before .before .before .before .before .before .before .before .before .before in
     let a = s .args in
     let l = c .before .before .before .before .before .before .before .before .before .before .loop in
-    let p = s .pre in
-    let i : ℕ = c .before .before .before .before .before .before .frame-on .result in
-    let is : i ≡ firstFrame (a .before) (a .hop) (l .k) = c .before .before .before .before .before .before .frame-on .ensures ∙ ap₂ (λ (x y : ℕ). (x + y) % a .hop .frames) (c .before .before .before .before .before .before .before .reference-frame .ensures) (c .before .before .before .before .before .before .before .before .before .before .before .least-hold .ensures) in
-    let inside : i < a .hop .frames = omega (arith, is, mod-lt (referenceInto (a .before) (a .hop) (l .k) + leastHold (a .hop)) (p .some-frame)) in
-    let less = c .before .before .before .before .before .before .before .before .before .loop-test .taken in
-    let wait = c .before .before .before .before .before .delay-of .ensures .product in
-    record { fits = omega (arith, p .small (l .k) less .most, wait, within-time (a .time .0) (a .hop .frames) (a .hop .frames - i) (omega arith) (p .in-time)) }
+    let i = c .before .before .before .before .before .before .frame-on .result in
+    record { fits = omega (arith, s .pre .small (l .k) (c .before .before .before .before .before .before .before .before .before .loop-test .taken) .most, c .before .before .before .before .before .delay-of .ensures .product, within-time (a .time .0) (a .hop .frames) (a .hop .frames - i) (omega arith) (s .pre .in-time)) }
 
 enter-requires : tie.Need-enter-requires Inv-loop μ-loop
 enter-requires c κs =
     let s = c .before .before .before .before .before .before .before .before .before .before .before .before in
     let a = s .args in
     let l = c .before .before .before .before .before .before .before .before .before .before .loop in
-    let p = s .pre in
-    let i : ℕ = c .before .before .before .before .before .before .frame-on .result in
-    let is : i ≡ firstFrame (a .before) (a .hop) (l .k) = c .before .before .before .before .before .before .frame-on .ensures ∙ ap₂ (λ (x y : ℕ). (x + y) % a .hop .frames) (c .before .before .before .before .before .before .before .reference-frame .ensures) (c .before .before .before .before .before .before .before .before .before .before .before .least-hold .ensures) in
-    let inside : i < a .hop .frames = omega (arith, is, mod-lt (referenceInto (a .before) (a .hop) (l .k) + leastHold (a .hop)) (p .some-frame)) in
-    let less = c .before .before .before .before .before .before .before .before .before .loop-test .taken in
-    (l .inv .2 .keys-long, l .inv .2 .froms-long, omega (arith, p .few-frames), omega (arith, p .few-before))
+    (l .inv .2 .keys-long, l .inv .2 .froms-long, le-trans (led-first (a .before) (a .hop) (l .k) (c .before .before .before .before .before .before .before .reference-frame .result) (c .before .before .before .before .before .before .before .before .before .before .before .least-hold .result) (c .before .before .before .before .before .before .frame-on .result) (s .pre .some-frame) (c .before .before .before .before .before .before .before .reference-frame .ensures) (c .before .before .before .before .before .before .before .before .before .before .before .least-hold .ensures) (c .before .before .before .before .before .before .frame-on .ensures) .1) (s .pre .few-frames), le-trans (c .before .before .before .before .before .before .before .before .before .loop-test .taken) (s .pre .few-before))
 
 add-k : tie.Need-add-k Inv-loop μ-loop
 add-k c = search needs
@@ -139,19 +112,15 @@ loop-again c =
     let s = c .before .before .before .before .before .before .before .before .before .before .before .before .before in
     let a = s .args in
     let l = c .before .before .before .before .before .before .before .before .before .before .before .loop in
-    let p = s .pre in
-    let i : ℕ = c .before .before .before .before .before .before .before .frame-on .result in
-    let is : i ≡ firstFrame (a .before) (a .hop) (l .k) = c .before .before .before .before .before .before .before .frame-on .ensures ∙ ap₂ (λ (x y : ℕ). (x + y) % a .hop .frames) (c .before .before .before .before .before .before .before .before .reference-frame .ensures) (c .before .before .before .before .before .before .before .before .before .before .before .before .least-hold .ensures) in
-    let inside : i < a .hop .frames = omega (arith, is, mod-lt (referenceInto (a .before) (a .hop) (l .k) + leastHold (a .hop)) (p .some-frame)) in
-    let less : l .k < a .before .frames = c .before .before .before .before .before .before .before .before .before .before .loop-test .taken in
+    let i = c .before .before .before .before .before .before .before .frame-on .result in
+    let to = led-first (a .before) (a .hop) (l .k) (c .before .before .before .before .before .before .before .before .reference-frame .result) (c .before .before .before .before .before .before .before .before .before .before .before .before .least-hold .result) (c .before .before .before .before .before .before .before .frame-on .result) (s .pre .some-frame) (c .before .before .before .before .before .before .before .before .reference-frame .ensures) (c .before .before .before .before .before .before .before .before .before .before .before .before .least-hold .ensures) (c .before .before .before .before .before .before .before .frame-on .ensures) in
     let wait = c .before .before .before .before .before .before .delay-of in
-    let ones : ℕ = getD (a .ones .now) i 0 in
     let some = c .before .before .before .before .leaving .ensures in (
-      omega arith,
-      omega (arith, some, one-times-le (reached (cellReach (getD (a .row .now) (l .k) 0))) ones, p .few-ones i inside, l .inv .1),
-      one-gathered (firstFrame (a .before) (a .hop)) (a .time .0) (a .hop .frames) (a .row .now) (p .in-time) (l .k) i (getD (a .row .now) (l .k) 0 + wait .result .0) (l .keys) (l .froms) _ _ (l .inv .2) is inside (p .few-frames)
-          (ap (λ (x : ℕ). getD (a .row .now) (l .k) 0 + x) (wait .ensures .product)) (p .small (l .k) less) (c .enter .ensures),
-      rw (add-one (l .k)) (ap₂ _+_ (l .inv .3) (some ∙ ap (λ (x : ℕ). oneIf (reached (cellReach (getD (a .row .now) (l .k) 0))) * getD (a .ones .now) x 0) is)),
+      omega (arith, c .before .before .before .before .before .before .before .before .before .before .loop-test .taken),
+      omega (arith, some, one-times-le (reached (cellReach (getD (a .row .now) (l .k) 0))) (getD (a .ones .now) i 0), s .pre .few-ones i (to .1), l .inv .1),
+      one-gathered (firstFrame (a .before) (a .hop)) (a .time .0) (a .hop .frames) (a .row .now) (s .pre .in-time) (l .k) i (getD (a .row .now) (l .k) 0 + wait .result .0) (l .keys) (l .froms) _ _ (l .inv .2) (to .0) (to .1) (s .pre .few-frames)
+          (ap (λ (x : ℕ). getD (a .row .now) (l .k) 0 + x) (wait .ensures .product)) (s .pre .small (l .k) (c .before .before .before .before .before .before .before .before .before .before .loop-test .taken)) (c .enter .ensures),
+      rw (add-one (l .k)) (ap₂ _+_ (l .inv .3) (some ∙ ap (λ (x : ℕ). oneIf (reached (cellReach (getD (a .row .now) (l .k) 0))) * getD (a .ones .now) x 0) (to .0))),
     )
 
 returns : tie.Need-returns Inv-loop μ-loop

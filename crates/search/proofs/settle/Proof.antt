@@ -1,6 +1,7 @@
 -- `search::settle` meets its contract. The invariant: the frames below i are settled, and the others have their picks. Assumes nothing.
-use mathlib.Core.Path.{_≡_, refl, _∙_, ap}
+use mathlib.Core.Path.{_≡_, _∙_, ap}
 use Prim.Native.Nat.{ℕ, _+_, _-_, _*_, _<_, _≤_}
+use native.Mathlib.Nat.{le-trans}
 use native.Mathlib.Omega.{arith}
 use borrow.Author.Needs.{needs}
 use Rattle.search.specs.Inner.{cellIf, Settled, Settling}
@@ -27,26 +28,10 @@ cast-at : tie.Need-cast-at Inv-loop μ-loop
 cast-at c = search needs
 
 add-short : tie.Need-add-short Inv-loop μ-loop
-add-short c =
-    let s = c .before .before .before in
-    let a = s .args in
-    let l = c .before .loop in
-    let less : l .i < a .frames = c .loop-test .taken in
-    let S = s .pre .1 in
-    let few : a .frames ≤ 64 = S .ring .few-frames in
-    let now = l .inv .2 (s .pre .0) S in
-    record { fits = omega (arith, S .within) }
+add-short c = record { fits = omega (arith, c .loop-test .taken, c .before .before .before .pre .1 .ring .few-frames, c .before .before .before .pre .1 .within) }
 
 element-copy-out-short : tie.Need-element-copy-out-short Inv-loop μ-loop
-element-copy-out-short c =
-    let s = c .before .before .before in
-    let a = s .args in
-    let l = c .before .loop in
-    let less : l .i < a .frames = c .loop-test .taken in
-    let S = s .pre .1 in
-    let few : a .frames ≤ 64 = S .ring .few-frames in
-    let now = l .inv .2 (s .pre .0) S in
-    omega (arith, S .within)
+element-copy-out-short c = omega (arith, c .loop-test .taken, c .before .before .before .pre .1 .ring .few-frames, c .before .before .before .pre .1 .within)
 
 short-requires : tie.Need-short-requires Inv-loop μ-loop
 short-requires c κs = search needs
@@ -56,12 +41,8 @@ seen-requires c κs =
     let s = c .before .before .before .before .before in
     let a = s .args in
     let l = c .before .before .before .loop in
-    let less : l .i < a .frames = c .before .before .loop-test .taken in
-    let S = s .pre .1 in
-    let few : a .frames ≤ 64 = S .ring .few-frames in
-    let now = l .inv .2 (s .pre .0) S in
-    let inside = pick-in (a .time .0) (a .lead .0) (a .frames) (a .free) (s .pre .0) (a .base) (a .keys .now) (a .froms .now) (a .row .now) (a .preds .now) S (l .i) (l .row) (l .preds) now less (c .short .result) (c .short .ensures) in
-    (omega arith, omega (arith, S .ring .small (c .short .result), l .inv .1, S .ring .short))
+    let inside = pick-in (a .time .0) (a .lead .0) (a .frames) (a .free) (s .pre .0) (a .base) (a .keys .now) (a .froms .now) (a .row .now) (a .preds .now) (s .pre .1) (l .i) (l .row) (l .preds) (l .inv .2 (s .pre .0) (s .pre .1)) (c .before .before .loop-test .taken) (c .short .result) (c .short .ensures) in
+    (le-trans inside (s .pre .1 .ring .few-frames), omega (arith, s .pre .1 .ring .small (c .short .result), l .inv .1, s .pre .1 .ring .short))
 
 sub-row : tie.Need-sub-row Inv-loop μ-loop
 sub-row c = omega arith
@@ -71,61 +52,33 @@ delay-of-requires-2 c κs =
     let s = c .before .before .before .before .before .before in
     let a = s .args in
     let l = c .before .before .before .before .loop in
-    let less : l .i < a .frames = c .before .before .before .loop-test .taken in
-    let S = s .pre .1 in
-    let few : a .frames ≤ 64 = S .ring .few-frames in
-    let now = l .inv .2 (s .pre .0) S in
-    within-time (a .time .0) (a .frames) (a .frames - l .i) (omega arith) (S .ring .short)
+    within-time (a .time .0) (a .frames) (a .frames - l .i) (omega arith) (s .pre .1 .ring .short)
 
 add-smaller : tie.Need-add-smaller Inv-loop μ-loop
 add-smaller c =
     let s = c .before .before .before .before .before .before .before .before in
     let a = s .args in
     let l = c .before .before .before .before .before .before .loop in
-    let less : l .i < a .frames = c .before .before .before .before .before .loop-test .taken in
-    let S = s .pre .1 in
-    let few : a .frames ≤ 64 = S .ring .few-frames in
-    let now = l .inv .2 (s .pre .0) S in
-    record { fits = omega (arith, value-small (a .time .0) (a .lead .0) (a .frames) (a .free) (s .pre .0) (a .base) (a .keys .now) (a .froms .now) (a .row .now) (a .preds .now) S (l .i) (l .row) (l .preds) now less (c .before .before .before .short .result) (c .before .before .before .before .before .before .before .delay-of .result .0) (c .before .before .seen .result) (c .before .before .before .short .ensures) (l .inv .1) (c .before .before .seen .ensures), S .led) }
+    record { fits = omega (arith, value-small (a .time .0) (a .lead .0) (a .frames) (a .free) (s .pre .0) (a .base) (a .keys .now) (a .froms .now) (a .row .now) (a .preds .now) (s .pre .1) (l .i) (l .row) (l .preds) (l .inv .2 (s .pre .0) (s .pre .1)) (c .before .before .before .before .before .loop-test .taken) (c .before .before .before .short .result) (c .before .before .before .before .before .before .before .delay-of .result .0) (c .before .before .seen .result) (c .before .before .before .short .ensures) (l .inv .1) (c .before .before .seen .ensures), s .pre .1 .led) }
 
 sub-smaller : tie.Need-sub-smaller Inv-loop μ-loop
 sub-smaller c =
     let s = c .before .before .before .before .before .before .before .before .before in
     let a = s .args in
     let l = c .before .before .before .before .before .before .before .loop in
-    let less : l .i < a .frames = c .before .before .before .before .before .before .loop-test .taken in
-    let S = s .pre .1 in
-    let few : a .frames ≤ 64 = S .ring .few-frames in
-    let now = l .inv .2 (s .pre .0) S in
-    omega (arith, value-waits (a .time .0) (a .lead .0) (a .frames) (a .free) (s .pre .0) (a .base) (a .keys .now) (a .froms .now) (a .row .now) (a .preds .now) S (l .i) (l .row) (l .preds) now less (c .before .before .before .before .short .result) (c .before .before .before .before .before .before .before .before .delay-of .result .0) (c .before .before .before .seen .result) (c .before .before .before .before .short .ensures) (l .inv .1) (c .before .before .before .seen .ensures) (c .before .before .delay-of2 .result .0) (c .before .before .delay-of2 .ensures .product))
+    omega (arith, value-waits (a .time .0) (a .lead .0) (a .frames) (a .free) (s .pre .0) (a .base) (a .keys .now) (a .froms .now) (a .row .now) (a .preds .now) (s .pre .1) (l .i) (l .row) (l .preds) (l .inv .2 (s .pre .0) (s .pre .1)) (c .before .before .before .before .before .before .loop-test .taken) (c .before .before .before .before .short .result) (c .before .before .before .before .before .before .before .before .delay-of .result .0) (c .before .before .before .seen .result) (c .before .before .before .before .short .ensures) (l .inv .1) (c .before .before .before .seen .ensures) (c .before .before .delay-of2 .result .0) (c .before .before .delay-of2 .ensures .product))
 
 smaller-requires : tie.Need-smaller-requires Inv-loop μ-loop
 smaller-requires c κs = search needs
 
 if-free-requires : tie.Need-if-free-requires Inv-loop μ-loop
-if-free-requires c κs =
-    let s = c .before .before .before .before .before .before .before .before .before .before in
-    let a = s .args in
-    let l = c .before .before .before .before .before .before .before .before .loop in
-    let less : l .i < a .frames = c .before .before .before .before .before .before .before .loop-test .taken in
-    let S = s .pre .1 in
-    let few : a .frames ≤ 64 = S .ring .few-frames in
-    let now = l .inv .2 (s .pre .0) S in
-    omega arith
+if-free-requires c κs = omega (arith, c .before .before .before .before .before .before .before .loop-test .taken, c .before .before .before .before .before .before .before .before .before .before .pre .1 .ring .few-frames)
 
 mul-row : tie.Need-mul-row Inv-loop μ-loop
 mul-row c = search needs
 
 element-write-row : tie.Need-element-write-row Inv-loop μ-loop
-element-write-row c =
-    let s = c .before .before .before .before .before .before .before .before .before .before .before in
-    let a = s .args in
-    let l = c .before .before .before .before .before .before .before .before .before .loop in
-    let less : l .i < a .frames = c .before .before .before .before .before .before .before .before .loop-test .taken in
-    let S = s .pre .1 in
-    let few : a .frames ≤ 64 = S .ring .few-frames in
-    let now = l .inv .2 (s .pre .0) S in
-    omega arith
+element-write-row c = omega (arith, c .before .before .before .before .before .before .before .before .loop-test .taken, c .before .before .before .before .before .before .before .before .before .before .before .pre .1 .ring .few-frames)
 
 cast-preds : tie.Need-cast-preds Inv-loop μ-loop
 cast-preds c = search needs
@@ -135,34 +88,13 @@ element-copy-out-preds c =
     let s = c .before .before .before .before .before .before .before .before .before .before .before in
     let a = s .args in
     let l = c .before .before .before .before .before .before .before .before .before .loop in
-    let less : l .i < a .frames = c .before .before .before .before .before .before .before .before .loop-test .taken in
-    let S = s .pre .1 in
-    let few : a .frames ≤ 64 = S .ring .few-frames in
-    let now = l .inv .2 (s .pre .0) S in
-    let inside = pick-in (a .time .0) (a .lead .0) (a .frames) (a .free) (s .pre .0) (a .base) (a .keys .now) (a .froms .now) (a .row .now) (a .preds .now) S (l .i) (l .row) (l .preds) now less (c .before .before .before .before .before .before .short .result) (c .before .before .before .before .before .before .short .ensures) in
-    omega arith
+    le-trans (pick-in (a .time .0) (a .lead .0) (a .frames) (a .free) (s .pre .0) (a .base) (a .keys .now) (a .froms .now) (a .row .now) (a .preds .now) (s .pre .1) (l .i) (l .row) (l .preds) (l .inv .2 (s .pre .0) (s .pre .1)) (c .before .before .before .before .before .before .before .before .loop-test .taken) (c .before .before .before .before .before .before .short .result) (c .before .before .before .before .before .before .short .ensures)) (s .pre .1 .ring .few-frames)
 
 add-preds : tie.Need-add-preds Inv-loop μ-loop
-add-preds c =
-    let s = c .before .before .before .before .before .before .before .before .before .before .before .before in
-    let a = s .args in
-    let l = c .before .before .before .before .before .before .before .before .before .before .loop in
-    let less : l .i < a .frames = c .before .before .before .before .before .before .before .before .before .loop-test .taken in
-    let S = s .pre .1 in
-    let few : a .frames ≤ 64 = S .ring .few-frames in
-    let now = l .inv .2 (s .pre .0) S in
-    record { fits = omega (arith, S .within) }
+add-preds c = record { fits = omega (arith, c .before .before .before .before .before .before .before .before .before .loop-test .taken, c .before .before .before .before .before .before .before .before .before .before .before .before .pre .1 .ring .few-frames, c .before .before .before .before .before .before .before .before .before .before .before .before .pre .1 .within) }
 
 element-write-preds : tie.Need-element-write-preds Inv-loop μ-loop
-element-write-preds c =
-    let s = c .before .before .before .before .before .before .before .before .before .before .before .before in
-    let a = s .args in
-    let l = c .before .before .before .before .before .before .before .before .before .before .loop in
-    let less : l .i < a .frames = c .before .before .before .before .before .before .before .before .before .loop-test .taken in
-    let S = s .pre .1 in
-    let few : a .frames ≤ 64 = S .ring .few-frames in
-    let now = l .inv .2 (s .pre .0) S in
-    omega (arith, S .within)
+element-write-preds c = omega (arith, c .before .before .before .before .before .before .before .before .before .loop-test .taken, c .before .before .before .before .before .before .before .before .before .before .before .before .pre .1 .ring .few-frames, c .before .before .before .before .before .before .before .before .before .before .before .before .pre .1 .within)
 
 add-i : tie.Need-add-i Inv-loop μ-loop
 add-i c = search needs
