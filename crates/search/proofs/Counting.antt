@@ -4,22 +4,20 @@ use mathlib.Core.Bool.{Bool, true, false, _&&_}
 use mathlib.Core.List.{List}
 use Prim.Native.Nat.{ℕ, _+_, _*_, _%_, _<_, _≤_}
 use native.Mathlib.Nat.{mod-lt, one-mul, zero-mul, mul-zero}
-use native.Mathlib.Numerals.{add-one}
 use native.Mathlib.Omega.{arith}
 use lib.Dec.{ltb}
 use lib.ListN.{getD}
 use borrow.Author.Tests.{le-ltb}
-use Rattle.lists.specs.Count.{oneIf, sumBelow, countBelow}
-use Rattle.lists.proofs.Count.{sum-cong, sum-const, sum-bound, one-le}
+use Rattle.lists.specs.Count.{oneIf, countBelow}
+use Rattle.lists.proofs.Count.{sum-cong, sum-const}
 use Rattle.lists.proofs.Sums.{sum-narrow}
-use Rattle.trellis.specs.Trellis.{Reach}
 use Rattle.trellis.specs.Paths.{reached}
 use Rattle.words.specs.Word.{bitOf}
 use Rattle.words.specs.Inner.{windowOnes, WindowOnes}
 use Rattle.words.proofs.Bits.{bit-zero}
 use Rattle.words.proofs.Sliding.{window-few}
 use Rattle.forwarding.specs.declared.Hop.{Hop}
-use Rattle.forwarding.specs.Forwarding.{referenceInto, leastHold, gap, isFree, mayHold, holdInto, isAllowed, choices}
+use Rattle.forwarding.specs.Forwarding.{referenceInto, leastHold, gap, isFree, holdInto, isAllowed, choices}
 use Rattle.forwarding.proofs.Holds.{gap-meets, gap-sum, into-gap, test-shift, choices-in}
 use Rattle.forwarding.proofs.Transitions.{may-choice}
 use Rattle.forwarding.proofs.Windows.{firstFrame}

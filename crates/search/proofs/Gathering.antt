@@ -8,7 +8,7 @@ use native.Mathlib.Nat.{eq-or-lt-of-le, mul-le-mul-right, mod-lt}
 use native.Mathlib.Decide.{decLt, ℕ-discrete}
 use native.Mathlib.Omega.{arith}
 use lib.Dec.{ltb}
-use lib.ListN.{getD, set, length, replicate, length-set, length-replicate}
+use lib.ListN.{getD, length, replicate, length-set, length-replicate}
 use lib.Seq.{getD-set-same, getD-set-other}
 use borrow.Author.Tests.{ltb-true, ltb-false}
 use Rattle.forwarding.specs.declared.Hop.{Hop}

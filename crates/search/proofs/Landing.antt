@@ -12,15 +12,15 @@ use lib.ListN.{getD}
 use borrow.Author.Tests.{ltb-true, lt-ltb, le-ltb}
 use Rattle.lists.specs.Order.{Precedes}
 use Rattle.lists.proofs.Count.{and-both, both-and}
-use Rattle.trellis.specs.Trellis.{Reach, never, after, Stage}
+use Rattle.trellis.specs.Trellis.{Reach, Stage}
 use Rattle.trellis.proofs.Survivor.{Offer, none, offer, offerIf, offerOf, nobody, best, bestOf}
-use Rattle.trellis.proofs.Select.{IsBest, offer-not-none, is-best, best-only}
+use Rattle.trellis.proofs.Select.{offer-not-none, is-best, best-only}
 use Rattle.words.specs.Word.{bitOf}
 use Rattle.forwarding.specs.declared.Hop.{Hop}
 use Rattle.forwarding.specs.Forwarding.{referenceInto, leastHold, gap, holdInto, isAllowed}
 use Rattle.forwarding.proofs.Holds.{into-gap, least-in}
 use Rattle.forwarding.proofs.Windows.{firstFrame}
-use Rattle.search.specs.Inner.{cellReach, wayOf, cellIf, lower, Within, Latest, keyAt, Opens, keyFrom, Gathers, stageBy, offers}
+use Rattle.search.specs.Inner.{wayOf, cellIf, lower, Within, Latest, keyAt, Opens, keyFrom, Gathers, stageBy, offers}
 use Rattle.search.proofs.Cells.{reach-after, reach-never, way-best, way-nobody}
 use Rattle.search.proofs.Positions.{frame-in, gap-position, times-split, position-of}
 use Rattle.search.proofs.Gathering.{within-time}

@@ -2,13 +2,12 @@
 use mathlib.Core.Path.{_≡_, refl, sym, _∙_, ap, subst}
 use mathlib.Core.Bool.{Bool, true, false, cond}
 use mathlib.Core.List.{List}
-use mathlib.Core.Logic.{⊎-elim}
 use Prim.Native.Nat.{ℕ, _+_, _-_, _<_, _≤_}
-use native.Mathlib.Nat.{eq-or-lt-of-le}
 use native.Mathlib.Omega.{arith}
 use lib.Dec.{ltb}
 use lib.ListN.{getD, set, length, length-set}
 use lib.Seq.{getD-set-same, getD-set-other}
+use borrow.Author.Count.{below-more}
 use borrow.Author.Tests.{ltb-true, ltb-false}
 use Rattle.search.specs.Inner.{lower, keyAt, Picked, Chosen, Trail, Earlier, Windows}
 use Rattle.search.proofs.Latest.{chosen-join, chosen-picked}
@@ -17,11 +16,8 @@ use Rattle.search.proofs.Positions.{chosen-own, picked-seen, picked-in}
 -- one place more of a list that is filled place by place
 pub stored : (P : ℕ → ℕ → Type 0) (at : ℕ → ℕ) (l : List ℕ) (n v : ℕ) → at n < length l → ((i : ℕ) → i < n → at i ≡ at n → ⊥) → ((i : ℕ) → i < n → P i (getD l (at i) 0)) → P n v
     → (i : ℕ) → i < n + 1 → P i (getD (set l (at n) v) (at i) 0)
-stored P at l n v h apart each here i m =
-    ⊎-elim
-    (λ (q : i ≡ n). subst (λ (x : ℕ). P x (getD (set l (at n) v) (at x) 0)) (sym q) (rw (getD-set-same l (at n) v 0 h) here))
-    (λ (q : i < n). rw (getD-set-other l (at n) (at i) v 0 (apart i q)) (each i q))
-    (eq-or-lt-of-le (omega arith))
+stored P at l n v h apart each here =
+    below-more (λ i. P i (getD (set l (at n) v) (at i) 0)) n (λ i q. rw (getD-set-other l (at n) (at i) v 0 (apart i q)) (each i q)) (rw (getD-set-same l (at n) v 0 h) here)
 
 -- the smaller of two numbers
 pub smaller-within : (a b r : ℕ) → r ≡ lower a b → (r ≤ a) × (r ≤ b) × (0 < a → 0 < b → 0 < r)

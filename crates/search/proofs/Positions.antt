@@ -1,6 +1,6 @@
 -- Positions of two cycles: the frame of a position, its key, and how far it lies before a frame of the second cycle. Assumes nothing.
-use mathlib.Core.Path.{_≡_, sym, _∙_, ap, ap₂}
-use mathlib.Core.Bool.{Bool, true, false, cond}
+use mathlib.Core.Path.{_≡_, sym, _∙_, ap}
+use mathlib.Core.Bool.{Bool, cond}
 use mathlib.Core.List.{List}
 use Prim.Native.Nat.{ℕ, _+_, _-_, _*_, _%_, _<_, _≤_}
 use native.Mathlib.Nat.{mod-eq-of-lt, add-mul}
@@ -11,7 +11,7 @@ use lib.ListN.{getD}
 use borrow.Author.Tests.{lt-ltb, le-ltb}
 use Rattle.forwarding.specs.Forwarding.{gap}
 use Rattle.forwarding.proofs.Holds.{mod-once}
-use Rattle.search.specs.Inner.{keyAt, Latest, Picked, Chosen, Keys}
+use Rattle.search.specs.Inner.{keyAt, Latest, Picked, Chosen}
 use Rattle.search.proofs.Latest.{latest-one}
 
 -- ---- a position after frame i of the cycle before, and up to frame i of this one

@@ -2,13 +2,13 @@
 use mathlib.Core.Path.{_≡_, refl, sym, _∙_, ap, ap₂, subst, fun-ext}
 use mathlib.Core.Bool.{Bool, true, false, cond}
 use mathlib.Core.List.{List}
-use mathlib.Core.Logic.{⊎-elim}
 use Prim.Native.Nat.{ℕ, _+_, _-_, _*_, _%_, _<_, _≤_}
-use native.Mathlib.Nat.{eq-or-lt-of-le, mul-div-le}
+use native.Mathlib.Nat.{mul-div-le}
 use native.Mathlib.Omega.{arith}
 use lib.Dec.{ltb}
 use lib.ListN.{getD, set, length, replicate, length-set}
 use lib.Seq.{getD-set-same, getD-set-other}
+use borrow.Author.Count.{below-more}
 use Rattle.forwarding.specs.declared.Hop.{Hop}
 use Rattle.trellis.specs.Trellis.{Stage}
 use Rattle.words.specs.Inner.{WindowOnes}
@@ -46,7 +46,7 @@ module _ (time lead K free w base : ℕ) (keys froms : List ℕ) where
       long = length-set preds (base + n) (getD froms frame 0) ∙ s .long;
       next-long = length-set next n cell ∙ s .next-long;
       earlier = λ m h. getD-set-other preds (base + n) m (getD froms frame 0) 0 (λ x. omega arith) ∙ s .earlier m h;
-      settled = λ i m. ⊎-elim (λ (q : i ≡ n). subst Is (sym q) here) (λ (q : i < n). there i q) (eq-or-lt-of-le (omega arith));
+      settled = below-more Is n there here;
       picked = λ i m l.
           subst (Picked key K (i + K) w) (sym (getD-set-other preds (base + n) (base + i) (getD froms frame 0) 0 (λ x. omega arith))) (s .picked i (omega arith) l);
     }

@@ -6,8 +6,7 @@ use native.Mathlib.Nat.{mod-eq-of-lt}
 use native.Mathlib.Omega.{arith}
 use lib.ListN.{set, length, getD, length-set}
 use lib.Seq.{getD-set-same, getD-set-other}
-use mathlib.Core.Logic.{⊎-elim}
-use native.Mathlib.Nat.{eq-or-lt-of-le}
+use borrow.Author.Count.{below-more}
 use Rattle.lists.specs.Count.{oneIf, sumBelow, countBelow}
 use Rattle.lists.proofs.Count.{sum-cong, count-le}
 use Rattle.words.specs.Word.{bitOf}
@@ -45,6 +44,6 @@ module _ (word K w : ℕ) where
   pub one-window : (n : ℕ) (ones : List ℕ) (v : ℕ) → n < 64 → WindowOnes word K w n ones → v ≡ windowOnes word K w n → WindowOnes word K w (n + 1) (set ones n v)
   one-window n ones v l s e = record {
     long = length-set ones n v ∙ s .long;
-    each = λ a m. ⊎-elim (λ q. rw (q, getD-set-same ones n v 0 (omega (arith, s .long))) e)
-        (λ q. getD-set-other ones n a v 0 (λ x. omega arith) ∙ s .each a q) (eq-or-lt-of-le (omega arith));
+    each = below-more (λ a. getD (set ones n v) a 0 ≡ windowOnes word K w a) n (λ a m. getD-set-other ones n a v 0 (λ x. omega arith) ∙ s .each a m)
+        (getD-set-same ones n v 0 (omega (arith, s .long)) ∙ e);
   }

@@ -1,7 +1,6 @@
 -- `search::advance` meets its contract. Assumes nothing.
-use mathlib.Core.Path.{_≡_, _∙_, ap}
+use mathlib.Core.Path.{_∙_, ap}
 use Prim.Native.Nat.{ℕ, _*_}
-use native.Mathlib.Omega.{arith}
 use lib.ListN.{length-replicate}
 use borrow.Author.Needs.{needs}
 use Rattle.search.proofs.Settling.{time-fits, least-time, begins-gathering, begins-windows, begins-settling, hop-advanced}

@@ -1,6 +1,6 @@
 -- `search::leaving` meets its contract. Assumes nothing.
 use mathlib.Core.Path.{sym, _∙_, ap}
-use Prim.Native.Nat.{ℕ, _*_}
+use Prim.Native.Nat.{_*_}
 use native.Mathlib.Nat.{one-mul, zero-mul}
 use Rattle.lists.specs.Count.{oneIf}
 use Rattle.trellis.specs.Trellis.{Reach}
