@@ -14,6 +14,7 @@ ghost use lib.ListN.{getD, length, drop};
 ghost use Rattle.lists.specs.Count.{oneIf};
 ghost use Rattle.trellis.specs.Paths.{reached};
 ghost use Rattle.trellis.proofs.Survivor.{bestOf};
+ghost use Rattle.forwarding.specs.Forwarding.{referenceInto};
 ghost use Rattle.forwarding.specs.Hops.{Ready};
 ghost use Rattle.forwarding.specs.Route.{stage};
 ghost use Rattle.forwarding.proofs.Windows.{firstFrame};
@@ -112,6 +113,17 @@ fn leaving(cell: u16, ones: u8) -> u32
     if cell < NEVER { ones as u32 } else { 0 }
 }
 
+// The reference frame of frame k of the hop before: between links of one rate k itself, without a division. Check 7 bounds both links' frames; k is a frame of the hop before.
+fn reference(k: u16, before: Hop, hop: Hop) -> u16
+    requires { ⌜ (k < before .frames) × (before .frames ≤ 64) × (0 < hop .frames) × (hop .frames ≤ 64) ⌝ }
+    ensures { λ r. ⌜ r ≡ referenceInto before hop k ⌝ }
+{
+    if before.frames == hop.frames {
+        return k;
+    }
+    forwarding::reference_frame(k, before, hop)
+}
+
 // Gathers the frames of the hop before by the frame that the least hold leads each to: the least key, and the smallest frame that has it. Answers how many transitions there are.
 // `ones` has for each frame the free ones in the window that begins with it, `time` is the time of the hop's frame.
 fn gather(
@@ -133,7 +145,7 @@ fn gather(
     let mut k: u16 = 0;
     while k < many {
         let cell = row[k as usize];
-        let i = words::frame_on(forwarding::reference_frame(k, before, hop), least, frames);
+        let i = words::frame_on(reference(k, before, hop), least, frames);
         let wait = forwarding::delay_of(Hold(frames - i), time);
         count += leaving(cell, ones[i as usize]);
         enter(keys, froms, i, cell + wait.0, k);

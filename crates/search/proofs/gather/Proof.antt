@@ -38,15 +38,15 @@ mul-cell c = search needs
 element-copy-out-cell : tie.Need-element-copy-out-cell Inv-loop μ-loop
 element-copy-out-cell c = omega (arith, c .before .before .before .pre .few-before)
 
-reference-frame-requires : tie.Need-reference-frame-requires Inv-loop μ-loop
-reference-frame-requires c κs = let p = c .before .before .before .before .pre in (omega arith, p .few-before, p .some-frame, p .few-frames)
+reference-requires : tie.Need-reference-requires Inv-loop μ-loop
+reference-requires c κs = let p = c .before .before .before .before .pre in (omega arith, p .few-before, p .some-frame, p .few-frames)
 
 frame-on-requires : tie.Need-frame-on-requires Inv-loop μ-loop
 frame-on-requires c κs =
     let s = c .before .before .before .before .before in
     let a = s .args in
     let l = c .before .before .before .loop in (
-      omega (arith, c .reference-frame .ensures, reference-in (a .before) (a .hop) (l .k) (s .pre .some-frame) (omega arith)),
+      omega (arith, c .reference .ensures, reference-in (a .before) (a .hop) (l .k) (s .pre .some-frame) (omega arith)),
       omega (arith, c .before .before .before .before .least-hold .ensures, least-in (a .hop) (s .pre .some-frame)),
       s .pre .few-frames,
     )
@@ -56,7 +56,7 @@ sub-enter c =
     let s = c .before .before .before .before .before .before in
     let a = s .args in
     let l = c .before .before .before .before .loop in
-    omega (arith, led-first (a .before) (a .hop) (l .k) (c .before .reference-frame .result) (c .before .before .before .before .before .least-hold .result) (c .frame-on .result) (s .pre .some-frame) (c .before .reference-frame .ensures) (c .before .before .before .before .before .least-hold .ensures) (c .frame-on .ensures) .1)
+    omega (arith, led-first (a .before) (a .hop) (l .k) (c .before .reference .result) (c .before .before .before .before .before .least-hold .result) (c .frame-on .result) (s .pre .some-frame) (c .before .reference .ensures) (c .before .before .before .before .before .least-hold .ensures) (c .frame-on .ensures) .1)
 
 delay-of-requires : tie.Need-delay-of-requires Inv-loop μ-loop
 delay-of-requires c κs =
@@ -73,7 +73,7 @@ element-copy-out-leaving c =
     let s = c .before .before .before .before .before .before .before in
     let a = s .args in
     let l = c .before .before .before .before .before .loop in
-    le-trans (led-first (a .before) (a .hop) (l .k) (c .before .before .reference-frame .result) (c .before .before .before .before .before .before .least-hold .result) (c .before .frame-on .result) (s .pre .some-frame) (c .before .before .reference-frame .ensures) (c .before .before .before .before .before .before .least-hold .ensures) (c .before .frame-on .ensures) .1) (s .pre .few-frames)
+    le-trans (led-first (a .before) (a .hop) (l .k) (c .before .before .reference .result) (c .before .before .before .before .before .before .least-hold .result) (c .before .frame-on .result) (s .pre .some-frame) (c .before .before .reference .ensures) (c .before .before .before .before .before .before .least-hold .ensures) (c .before .frame-on .ensures) .1) (s .pre .few-frames)
 
 leaving-requires : tie.Need-leaving-requires Inv-loop μ-loop
 leaving-requires c κs = search needs
@@ -84,7 +84,7 @@ add-count c =
     let a = s .args in
     let l = c .before .before .before .before .before .before .before .loop in
     let i = c .before .before .before .frame-on .result in
-    record { fits = omega (arith, c .before .before .before .before .before .before .loop-test .taken, c .leaving .ensures, one-times-le (reached (cellReach (getD (a .row .now) (l .k) 0))) (getD (a .ones .now) i 0), s .pre .few-ones i (led-first (a .before) (a .hop) (l .k) (c .before .before .before .before .reference-frame .result) (c .before .before .before .before .before .before .before .before .least-hold .result) (c .before .before .before .frame-on .result) (s .pre .some-frame) (c .before .before .before .before .reference-frame .ensures) (c .before .before .before .before .before .before .before .before .least-hold .ensures) (c .before .before .before .frame-on .ensures) .1), l .inv .1, s .pre .few-before) }
+    record { fits = omega (arith, c .before .before .before .before .before .before .loop-test .taken, c .leaving .ensures, one-times-le (reached (cellReach (getD (a .row .now) (l .k) 0))) (getD (a .ones .now) i 0), s .pre .few-ones i (led-first (a .before) (a .hop) (l .k) (c .before .before .before .before .reference .result) (c .before .before .before .before .before .before .before .before .least-hold .result) (c .before .before .before .frame-on .result) (s .pre .some-frame) (c .before .before .before .before .reference .ensures) (c .before .before .before .before .before .before .before .before .least-hold .ensures) (c .before .before .before .frame-on .ensures) .1), l .inv .1, s .pre .few-before) }
 
 add-enter : tie.Need-add-enter Inv-loop μ-loop
 add-enter c =
@@ -99,7 +99,7 @@ enter-requires c κs =
     let s = c .before .before .before .before .before .before .before .before .before .before .before .before in
     let a = s .args in
     let l = c .before .before .before .before .before .before .before .before .before .before .loop in
-    (l .inv .2 .keys-long, l .inv .2 .froms-long, le-trans (led-first (a .before) (a .hop) (l .k) (c .before .before .before .before .before .before .before .reference-frame .result) (c .before .before .before .before .before .before .before .before .before .before .before .least-hold .result) (c .before .before .before .before .before .before .frame-on .result) (s .pre .some-frame) (c .before .before .before .before .before .before .before .reference-frame .ensures) (c .before .before .before .before .before .before .before .before .before .before .before .least-hold .ensures) (c .before .before .before .before .before .before .frame-on .ensures) .1) (s .pre .few-frames), le-trans (c .before .before .before .before .before .before .before .before .before .loop-test .taken) (s .pre .few-before))
+    (l .inv .2 .keys-long, l .inv .2 .froms-long, le-trans (led-first (a .before) (a .hop) (l .k) (c .before .before .before .before .before .before .before .reference .result) (c .before .before .before .before .before .before .before .before .before .before .before .least-hold .result) (c .before .before .before .before .before .before .frame-on .result) (s .pre .some-frame) (c .before .before .before .before .before .before .before .reference .ensures) (c .before .before .before .before .before .before .before .before .before .before .before .least-hold .ensures) (c .before .before .before .before .before .before .frame-on .ensures) .1) (s .pre .few-frames), le-trans (c .before .before .before .before .before .before .before .before .before .loop-test .taken) (s .pre .few-before))
 
 add-k : tie.Need-add-k Inv-loop μ-loop
 add-k c = search needs
@@ -113,7 +113,7 @@ loop-again c =
     let a = s .args in
     let l = c .before .before .before .before .before .before .before .before .before .before .before .loop in
     let i = c .before .before .before .before .before .before .before .frame-on .result in
-    let to = led-first (a .before) (a .hop) (l .k) (c .before .before .before .before .before .before .before .before .reference-frame .result) (c .before .before .before .before .before .before .before .before .before .before .before .before .least-hold .result) (c .before .before .before .before .before .before .before .frame-on .result) (s .pre .some-frame) (c .before .before .before .before .before .before .before .before .reference-frame .ensures) (c .before .before .before .before .before .before .before .before .before .before .before .before .least-hold .ensures) (c .before .before .before .before .before .before .before .frame-on .ensures) in
+    let to = led-first (a .before) (a .hop) (l .k) (c .before .before .before .before .before .before .before .before .reference .result) (c .before .before .before .before .before .before .before .before .before .before .before .before .least-hold .result) (c .before .before .before .before .before .before .before .frame-on .result) (s .pre .some-frame) (c .before .before .before .before .before .before .before .before .reference .ensures) (c .before .before .before .before .before .before .before .before .before .before .before .before .least-hold .ensures) (c .before .before .before .before .before .before .before .frame-on .ensures) in
     let wait = c .before .before .before .before .before .before .delay-of in
     let some = c .before .before .before .before .leaving .ensures in (
       omega (arith, c .before .before .before .before .before .before .before .before .before .before .loop-test .taken),
@@ -141,7 +141,7 @@ gather-spec =
     cast-cell
     mul-cell
     element-copy-out-cell
-    reference-frame-requires
+    reference-requires
     frame-on-requires
     sub-enter
     delay-of-requires
