@@ -35,7 +35,7 @@ pub fn four(free: &[u32]) -> Hop {
 
 /// Every search gives this answer.
 fn answered(hops: &[Hop], expected: Answer) {
-    let searches: [fn(u32, &[Hop]) -> Answer; 5] = [
+    let searches: [fn(u32, &[Hop]) -> Answer; 6] = [
         listing::least,
         dijkstra::least,
         survivors::least,

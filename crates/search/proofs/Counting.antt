@@ -1,16 +1,17 @@
 -- The transitions of a hop, counted by windows of its free frames. Assumes nothing.
 use mathlib.Core.Path.{_≡_, refl, sym, _∙_, ap}
-use mathlib.Core.Bool.{Bool, true, false, _&&_}
+use mathlib.Core.Bool.{Bool, true, false, _&&_, cond}
 use mathlib.Core.List.{List}
-use Prim.Native.Nat.{ℕ, _+_, _*_, _%_, _<_, _≤_}
+use Prim.Native.Nat.{ℕ, zero, suc, _+_, _*_, _%_, _<_, _≤_}
 use native.Mathlib.Nat.{mod-lt, one-mul, zero-mul, mul-zero}
 use native.Mathlib.Omega.{arith}
-use lib.Dec.{ltb}
+use lib.Dec.{ltb, eqb}
 use lib.ListN.{getD}
-use borrow.Author.Tests.{le-ltb}
+use borrow.Author.Tests.{le-ltb, ne-eqb}
 use Rattle.lists.specs.Count.{oneIf, countBelow}
 use Rattle.lists.proofs.Count.{sum-cong, sum-const}
 use Rattle.lists.proofs.Sums.{sum-narrow}
+use Rattle.trellis.specs.Trellis.{Stage}
 use Rattle.trellis.specs.Paths.{reached}
 use Rattle.words.specs.Word.{bitOf}
 use Rattle.words.specs.Inner.{windowOnes, WindowOnes}
@@ -18,12 +19,25 @@ use Rattle.words.proofs.Bits.{bit-zero}
 use Rattle.words.proofs.Sliding.{window-few}
 use Rattle.forwarding.specs.declared.Hop.{Hop}
 use Rattle.forwarding.specs.Forwarding.{referenceInto, leastHold, gap, isFree, holdInto, isAllowed, choices}
-use Rattle.forwarding.proofs.Holds.{gap-meets, gap-sum, into-gap, test-shift, choices-in}
+use Rattle.forwarding.specs.Hops.{HopReady}
+use Rattle.forwarding.specs.Route.{stageOf}
+use Rattle.forwarding.proofs.Holds.{gap-meets, gap-sum, into-gap, test-shift, least-in, choices-in}
 use Rattle.forwarding.proofs.Transitions.{may-choice}
 use Rattle.forwarding.proofs.Windows.{firstFrame}
-use Rattle.search.specs.Inner.{cellReach, Opens, leadings, stageBy, counts}
+use Rattle.search.specs.Inner.{cellReach, openWidth, openFree, Opens, leadings, counts}
+
+-- the stage of a hop by the time of its frame: the delay is the hold times that time
+abbrev pub stageBy : ℕ → Hop → Hop → Stage
+stageBy time g h = stageOf (λ D. D * time) g h
 
 -- ---- how many frames a frame leads to
+-- what the checks say of the least hold and of the number of holds
+pub ready-least : (T : ℕ) (h : Hop) → HopReady T h → leastHold h ≤ h .frames
+ready-least T h r = least-in h (r .some-frame)
+
+ready-choices : (T : ℕ) (h : Hop) → HopReady T h → choices h ≤ h .frames
+ready-choices T h r = choices-in h (r .in-cycle)
+
 -- a transition is allowed into the free ones of as many frames as there are holds, from the first that is led to
 by-window : (g h : Hop) (k i : ℕ) → isAllowed g h k i ≡ (ltb (gap (h .frames) (firstFrame g h k) i) (choices h) && bitOf (h .free) i)
 unfolding isFree
@@ -31,29 +45,27 @@ by-window g h k i =
     ap (λ (b : Bool). b && bitOf (h .free) i)
     (may-choice h (holdInto g h k i) ∙ ap (λ (D : ℕ). ltb D (leastHold h + choices h)) (into-gap g h k i) ∙ test-shift (leastHold h) (gap (h .frames) (firstFrame g h k) i) (choices h))
 
--- there is no hold at all
-pub opens-none : (h : Hop) (c : ℕ) → c ≡ choices h → c ≡ 0 → 0 < h .frames → Opens h 1 0
-opens-none h c e z p = record {
-  some = omega arith;
-  within = p;
-  same = λ g k i.
-      by-window g h k i ∙ ap (λ (b : Bool). b && bitOf (h .free) i) (le-ltb (gap (h .frames) (firstFrame g h k) i) (choices h) (omega arith))
-      ∙ sym (shut i (ltb (gap (h .frames) (firstFrame g h k) i) 1));
-}
+-- THE WINDOW THAT A FRAME LEADS TO has as many frames as there are holds; where there is no hold, one, and none free
+pub opens : (T : ℕ) (h : Hop) → HopReady T h → (w free : ℕ) → w ≡ openWidth h → free ≡ openFree h → Opens h w free
+opens T h r w free ew ef = rw (ew, ef) (go (choices h) refl)
   where
     shut : (i : ℕ) (b : Bool) → (b && bitOf 0 i) ≡ false
     shut i true = bit-zero i
     shut i false = refl
 
-pub opens-some : (h : Hop) (c : ℕ) → c ≡ choices h → (c ≡ 0 → ⊥) → h .range ≤ h .frames → Opens h c (h .free)
-opens-some h c e n l = record {
-  some = omega (arith, some-of c n);
-  within = omega (arith, choices-in h l);
-  same = λ g k i. by-window g h k i ∙ ap (λ (x : ℕ). ltb (gap (h .frames) (firstFrame g h k) i) x && bitOf (h .free) i) (sym e);
-}
-  where
-    some-of : (x : ℕ) → (x ≡ 0 → ⊥) → 0 < x
-    some-of x m = omega (arith, m)
+    go : (c : ℕ) → choices h ≡ c → Opens h (cond (eqb c 0) 1 c) (cond (eqb c 0) 0 (h .free))
+    go zero e = record {
+      some = omega arith;
+      within = r .some-frame;
+      same = λ g k i.
+          by-window g h k i ∙ ap (λ (b : Bool). b && bitOf (h .free) i) (le-ltb (gap (h .frames) (firstFrame g h k) i) (choices h) (omega arith))
+          ∙ sym (shut i (ltb (gap (h .frames) (firstFrame g h k) i) 1));
+    }
+    go (suc c) e = rw (ne-eqb (suc c) 0 (λ x. omega arith)) (record {
+      some = omega arith;
+      within = omega (arith, ready-choices T h r);
+      same = λ g k i. by-window g h k i ∙ ap (λ (x : ℕ). ltb (gap (h .frames) (firstFrame g h k) i) x && bitOf (h .free) i) e;
+    })
 
 -- ---- the transitions
 both-one : (a b : Bool) → oneIf (a && b) ≡ oneIf a * oneIf b
@@ -70,13 +82,13 @@ window-count K w a free inside narrow =
     G : ℕ → ℕ
     G x = oneIf (ltb x w) * oneIf (bitOf free ((a + x) % K))
 
-module _ (g h : Hop) (w free : ℕ) (cells ones : List ℕ) (some : 0 < h .frames) (opens : Opens h w free) (windows : WindowOnes free (h .frames) w (h .frames) ones) where
+module _ (g h : Hop) (w free : ℕ) (cells blank ones : List ℕ) (some : 0 < h .frames) (open-is : Opens h w free) (windows : WindowOnes free (h .frames) w (h .frames) blank ones) where
   -- from one frame
   from-one : (k : ℕ) → countBelow (h .frames) (λ i. isAllowed g h k i) ≡ getD ones (firstFrame g h k) 0
   from-one k =
       let inside : firstFrame g h k < h .frames = mod-lt (referenceInto g h k + leastHold h) some in
-      sum-cong (h .frames) (λ i. oneIf (isAllowed g h k i)) (λ i. oneIf (ltb (gap (h .frames) (firstFrame g h k) i) w && bitOf free i)) (λ i l. ap oneIf (opens .same g k i))
-      ∙ window-count (h .frames) w (firstFrame g h k) free inside (opens .within) ∙ sym (windows .each (firstFrame g h k) inside)
+      sum-cong (h .frames) (λ i. oneIf (isAllowed g h k i)) (λ i. oneIf (ltb (gap (h .frames) (firstFrame g h k) i) w && bitOf free i)) (λ i l. ap oneIf (open-is .same g k i))
+      ∙ window-count (h .frames) w (firstFrame g h k) free inside (open-is .within) ∙ sym (windows .each (firstFrame g h k) inside)
 
   from-reached : (k : ℕ) (b : Bool) → countBelow (h .frames) (λ i. b && isAllowed g h k i) ≡ oneIf b * getD ones (firstFrame g h k) 0
   from-reached k true = from-one k ∙ sym (one-mul (getD ones (firstFrame g h k) 0))
@@ -88,5 +100,5 @@ module _ (g h : Hop) (w free : ℕ) (cells ones : List ℕ) (some : 0 < h .frame
       sum-cong n (λ k. oneIf (reached (cellReach (getD cells k 0))) * getD ones (firstFrame g h k) 0)
       (λ k. countBelow (h .frames) (λ i. reached (cellReach (getD cells k 0)) && isAllowed g h k i)) (λ k l. sym (from-reached k (reached (cellReach (getD cells k 0)))))
 
-pub ones-few : (free K w : ℕ) (ones : List ℕ) → w ≤ 64 → WindowOnes free K w K ones → (a : ℕ) → a < K → getD ones a 0 ≤ 64
-ones-few free K w ones l s a m = omega (arith, s .each a m, window-few free K w a)
+pub ones-few : (free K w : ℕ) (blank ones : List ℕ) → w ≤ 64 → WindowOnes free K w K blank ones → (a : ℕ) → a < K → getD ones a 0 ≤ 64
+ones-few free K w blank ones l s a m = omega (arith, s .each a m, window-few free K w a)

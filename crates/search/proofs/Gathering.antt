@@ -25,12 +25,12 @@ pub led-first : (g h : Hop) (k r y i : ℕ) → 0 < h .frames → r ≡ referenc
 led-first g h k r y i p er ey e = (e ∙ ap₂ (λ (x z : ℕ). (x + z) % h .frames) er ey, omega (arith, e, mod-lt (r + y) p))
 
 -- 64 times the same
-pub same-at : (n v i : ℕ) → i < n → getD (replicate n v) i 0 ≡ v
+same-at : (n v i : ℕ) → i < n → getD (replicate n v) i 0 ≡ v
 same-at zero v i l = absurd (omega arith)
 same-at (suc n) v zero l = refl
 same-at (suc n) v (suc i) l = same-at n v i (omega arith)
 
-pub most-same : (n v i : ℕ) → getD (replicate n v) i 0 ≤ v
+most-same : (n v i : ℕ) → getD (replicate n v) i 0 ≤ v
 most-same zero v i = omega arith
 most-same (suc n) v zero = omega arith
 most-same (suc n) v (suc i) = most-same n v i

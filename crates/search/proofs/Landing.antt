@@ -18,12 +18,13 @@ use Rattle.trellis.proofs.Select.{offer-not-none, is-best, best-only}
 use Rattle.words.specs.Word.{bitOf}
 use Rattle.forwarding.specs.declared.Hop.{Hop}
 use Rattle.forwarding.specs.Forwarding.{referenceInto, leastHold, gap, holdInto, isAllowed}
-use Rattle.forwarding.proofs.Holds.{into-gap, least-in}
+use Rattle.forwarding.proofs.Holds.{into-gap}
 use Rattle.forwarding.proofs.Windows.{firstFrame}
-use Rattle.search.specs.Inner.{wayOf, cellIf, lower, Within, Latest, keyAt, Opens, keyFrom, Gathers, stageBy, offers}
+use Rattle.search.specs.Inner.{wayOf, cellIf, lower, Within, Latest, keyAt, Opens, keyFrom, Gathers, offers}
 use Rattle.search.proofs.Cells.{reach-after, reach-never, way-best, way-nobody}
-use Rattle.search.proofs.Positions.{frame-in, gap-position, times-split, position-of}
+use Rattle.search.proofs.Positions.{cycle-most, frame-in, gap-position, times-split, position-of}
 use Rattle.search.proofs.Gathering.{within-time}
+use Rattle.search.proofs.Counting.{stageBy}
 
 -- the order of costs, ranks and nodes, number by number
 in-order : (c r k c′ r′ k′ : ℕ) → c ≤ c′ → (c ≡ c′ → r ≤ r′) → (c ≡ c′ → r ≡ r′ → k ≤ k′) → Precedes (c ∷ r ∷ k ∷ []) (c′ ∷ r′ ∷ k′ ∷ [])
@@ -41,7 +42,7 @@ in-order c r k c′ r′ k′ a b d = one (eq-or-lt-of-le a)
     one (inl x) = two x (eq-or-lt-of-le (b x))
     one (inr x) = inl x
 
-module _ (time : ℕ) (g h : Hop) (w free : ℕ) (cells keys froms : List ℕ) (some : 0 < h .frames) (short : h .frames * time ≤ 960) (opens : Opens h w free)
+module _ (time : ℕ) (g h : Hop) (w free : ℕ) (cells keys froms : List ℕ) (some : 0 < h .frames) (least : leastHold h ≤ h .frames) (short : h .frames * time ≤ 960) (opens : Opens h w free)
     (small : (m : ℕ) → m < g .frames → Within 5760 (getD cells m 0)) (G : Gathers (firstFrame g h) time (h .frames) cells (g .frames) keys froms) where
   abbrev K : ℕ
   K = h .frames
@@ -85,11 +86,7 @@ module _ (time : ℕ) (g h : Hop) (w free : ℕ) (cells keys froms : List ℕ) (
       key-never e = omega (arith, key-of, times-split K i p inside behind upto time, G .waits (p % K) (frame-in K i p inside behind upto) e)
 
       key-reached : getD keys (p % K) 0 < 32768 → key p < 32768
-      key-reached e = omega (arith, key-of, reached-small (p % K) (frame-in K i p inside behind upto) e, cycle-most (ltb p K))
-        where
-          cycle-most : (b : Bool) → cond b (K * time) 0 ≤ 960
-          cycle-most true = short
-          cycle-most false = omega arith
+      key-reached e = omega (arith, key-of, reached-small (p % K) (frame-in K i p inside behind upto) e, cycle-most (ltb p K) (K * time), short)
 
       -- the hold into frame i from a frame that is led there first
       hold-at : (k : ℕ) → first k ≡ p % K → holdInto g h k i ≡ Y + (i + K - p)
@@ -111,7 +108,7 @@ module _ (time : ℕ) (g h : Hop) (w free : ℕ) (cells keys froms : List ℕ) (
     offers-never k l = ap (λ (x : Reach). offerOf st i x k) (reach-never (getD cells k 0) l)
 
     -- an offer comes from a reached frame, over a position within the window
-    pub record Offered (k c r : ℕ) : Type 0 where
+    record Reaching (k c r : ℕ) : Type 0 where
       pub position : ℕ
       pub stands : first k ≡ position % K
       pub behind : i < position
@@ -122,7 +119,7 @@ module _ (time : ℕ) (g h : Hop) (w free : ℕ) (cells keys froms : List ℕ) (
       pub ranks : r ≡ Y + (i + K - position)
       pub into-free : bitOf free i ≡ true
 
-    offered : (k c r : ℕ) → offers st cells i k ≡ offer c r → Offered k c r
+    offered : (k c r : ℕ) → offers st cells i k ≡ offer c r → Reaching k c r
     offered k c r e =
         elim (decLt (getD cells k 0) 32768) [
           | yes l ↦ go (ltb (i + K - P .0) w && bitOf free i) refl l (sym (offers-at (P .0) (P .2) (P .3) k (sym (P .1)) l) ∙ e)
@@ -133,7 +130,7 @@ module _ (time : ℕ) (g h : Hop) (w free : ℕ) (cells keys froms : List ℕ) (
         P = position-of K (first k) i (first-in k) inside
 
         go : (b : Bool) → (ltb (i + K - P .0) w && bitOf free i) ≡ b → getD cells k 0 < 32768
-            → offerIf b (getD cells k 0 + (Y + (i + K - P .0)) * time) (Y + (i + K - P .0)) ≡ offer c r → Offered k c r
+            → offerIf b (getD cells k 0 + (Y + (i + K - P .0)) * time) (Y + (i + K - P .0)) ≡ offer c r → Reaching k c r
         go true t l q =
             let x : getD cells k 0 + (Y + (i + K - P .0)) * time ≡ c = cc in
             let y : Y + (i + K - P .0) ≡ r = cc in
@@ -151,7 +148,7 @@ module _ (time : ℕ) (g h : Hop) (w free : ℕ) (cells keys froms : List ℕ) (
         go false t l q = absurd (let z : _≡_ {A = ℕ} 0 1 = cc in omega arith)
 
     -- nothing is offered
-    none-best : ((k c r : ℕ) → k < g .frames → Offered k c r → ⊥) → nobody ≡ bestOf (offers st cells i) (g .frames)
+    none-best : ((k c r : ℕ) → k < g .frames → Reaching k c r → ⊥) → nobody ≡ bestOf (offers st cells i) (g .frames)
     none-best nothing =
         best-only (offers st cells i) (g .frames) nobody (bestOf (offers st cells i) (g .frames)) (λ k l. go k l (offers st cells i k) refl) (is-best (offers st cells i) (g .frames))
       where
@@ -190,7 +187,7 @@ module _ (time : ℕ) (g h : Hop) (w free : ℕ) (cells keys froms : List ℕ) (
             ∙ ap (λ (b : Bool). offerIf b (getD cells from 0 + hold * time) hold) (both-and (ltb (i + K - p) w) (bitOf free i) (lt-ltb (i + K - p) w (omega (arith, L .begins, L .ends))) shown)
 
         -- ANY OTHER OFFER COMES LATER
-        comes-first : (j c r : ℕ) → j < g .frames → Offered j c r → Precedes ((getD cells from 0 + hold * time) ∷ hold ∷ from ∷ []) (c ∷ r ∷ j ∷ [])
+        comes-first : (j c r : ℕ) → j < g .frames → Reaching j c r → Precedes ((getD cells from 0 + hold * time) ∷ hold ∷ from ∷ []) (c ∷ r ∷ j ∷ [])
         comes-first j c r l o = in-order (getD cells from 0 + hold * time) hold from c r j costs-more holds-longer comes-later
           where
             theirs : getD keys (first j) 0 ≤ getD cells j 0 + (K - first j) * time
@@ -261,7 +258,7 @@ module _ (time : ℕ) (g h : Hop) (w free : ℕ) (cells keys froms : List ℕ) (
               arith,
               small from (owned m .0) .ticks (cell-reached m),
               split m (i + K - p),
-              within-time time K Y (least-in h some) short,
+              within-time time K Y least short,
               within-time time K (i + K - p) (omega (arith, behind-i)) short,
             ) in
             let x : next ≡ getD cells from 0 + hold * time =

@@ -6,7 +6,12 @@ use native.Mathlib.Decide.{decLt}
 use native.Mathlib.Omega.{arith}
 use lib.Dec.{ltb}
 use borrow.Author.Tests.{ltb-true, ltb-false}
-use Rattle.search.specs.Inner.{Latest, Picked, Chosen}
+use Rattle.search.specs.Inner.{Latest, Picked}
+
+-- a pick, with its key
+pub record Chosen (key : ℕ → ℕ) (K e n frame value : ℕ) : Type 0 where
+  pub pick : Picked key K e n frame
+  pub valued : value ≡ key (pick .position)
 
 module _ (key : ℕ → ℕ) where
   -- of one position
@@ -21,7 +26,7 @@ module _ (key : ℕ → ℕ) where
   -- ---- TWO WINDOWS: one of w positions that ends with e, and one of v that ends s positions before it, begins no later, and leaves none out between
   module _ (e f s w v p q : ℕ) (apart : e ≡ f + s) (near : s ≤ w) (far : w ≤ s + v) (a : Latest key e w p) (b : Latest key f v q) where
     -- the far one has the smaller key
-    pub join-far : key q < key p → Latest key e (s + v) q
+    join-far : key q < key p → Latest key e (s + v) q
     join-far l = record {
       begins = omega (arith, b .begins);
       ends = omega (arith, b .ends);
@@ -36,7 +41,7 @@ module _ (key : ℕ → ℕ) where
     }
 
     -- or it has not
-    pub join-near : key p ≤ key q → Latest key e (s + v) p
+    join-near : key p ≤ key q → Latest key e (s + v) p
     join-near l = record {
       begins = omega (arith, a .begins);
       ends = a .ends;
@@ -56,19 +61,20 @@ module _ (key : ℕ → ℕ) where
       go true t =
           let l : y < x = ltb-true y x t in
           record {
-            position = d .position;
-            stands = are ∙ ap (λ (u : Bool). cond u b a) t ∙ d .stands;
+            pick = record {
+              position = d .pick .position;
+              stands = are ∙ ap (λ (u : Bool). cond u b a) t ∙ d .pick .stands;
+              latest = rw many (join-far e f s w v (c .pick .position) (d .pick .position) apart near far (c .pick .latest) (d .pick .latest) (omega (arith, c .valued, d .valued)));
+            };
             valued = zed ∙ ap (λ (u : Bool). cond u y x) t ∙ d .valued;
-            latest = rw many (join-far e f s w v (c .position) (d .position) apart near far (c .latest) (d .latest) (omega (arith, c .valued, d .valued)));
           }
       go false t =
           let l : x ≤ y = ltb-false y x t in
           record {
-            position = c .position;
-            stands = are ∙ ap (λ (u : Bool). cond u b a) t ∙ c .stands;
+            pick = record {
+              position = c .pick .position;
+              stands = are ∙ ap (λ (u : Bool). cond u b a) t ∙ c .pick .stands;
+              latest = rw many (join-near e f s w v (c .pick .position) (d .pick .position) apart near far (c .pick .latest) (d .pick .latest) (omega (arith, c .valued, d .valued)));
+            };
             valued = zed ∙ ap (λ (u : Bool). cond u y x) t ∙ c .valued;
-            latest = rw many (join-near e f s w v (c .position) (d .position) apart near far (c .latest) (d .latest) (omega (arith, c .valued, d .valued)));
           }
-
-  pub chosen-picked : (K e n a x : ℕ) → Chosen key K e n a x → Picked key K e n a
-  chosen-picked K e n a x c = record { position = c .position; stands = c .stands; latest = c .latest }

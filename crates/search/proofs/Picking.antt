@@ -9,12 +9,12 @@ use lib.ListN.{getD, set, length, length-set}
 use lib.Seq.{getD-set-same, getD-set-other}
 use borrow.Author.Count.{below-more}
 use borrow.Author.Tests.{ltb-true, ltb-false}
-use Rattle.search.specs.Inner.{lower, keyAt, Picked, Chosen, Trail, Earlier, Windows}
-use Rattle.search.proofs.Latest.{chosen-join, chosen-picked}
+use Rattle.search.specs.Inner.{lower, keyAt, Picked, Trail, Earlier, Windows}
+use Rattle.search.proofs.Latest.{Chosen, chosen-join}
 use Rattle.search.proofs.Positions.{chosen-own, picked-seen, picked-in}
 
 -- one place more of a list that is filled place by place
-pub stored : (P : ℕ → ℕ → Type 0) (at : ℕ → ℕ) (l : List ℕ) (n v : ℕ) → at n < length l → ((i : ℕ) → i < n → at i ≡ at n → ⊥) → ((i : ℕ) → i < n → P i (getD l (at i) 0)) → P n v
+stored : (P : ℕ → ℕ → Type 0) (at : ℕ → ℕ) (l : List ℕ) (n v : ℕ) → at n < length l → ((i : ℕ) → i < n → at i ≡ at n → ⊥) → ((i : ℕ) → i < n → P i (getD l (at i) 0)) → P n v
     → (i : ℕ) → i < n + 1 → P i (getD (set l (at n) v) (at i) 0)
 stored P at l n v h apart each here =
     below-more (λ i. P i (getD (set l (at n) v) (at i) 0)) n (λ i q. rw (getD-set-other l (at n) (at i) v 0 (apart i q)) (each i q)) (rw (getD-set-same l (at n) v 0 h) here)
@@ -38,7 +38,7 @@ module _ (cycle K : ℕ) (keys : List ℕ) where
   pub trail-more : (e o frame value : ℕ) (behind : List ℕ) → o < 64 → Trail cycle K keys e o behind → Chosen key K (e + K) (o + 1) frame value → Trail cycle K keys e (o + 1) (set behind o frame)
   trail-more e o frame value behind l t c = record {
     long = length-set behind o frame ∙ t .long;
-    each = stored (λ (i x : ℕ). Picked key K (e + K) (i + 1) x) (λ i. i) behind o frame (omega (arith, t .long)) (λ i m q. omega arith) (t .each) (chosen-picked key K (e + K) (o + 1) frame value c);
+    each = stored (λ (i x : ℕ). Picked key K (e + K) (i + 1) x) (λ i. i) behind o frame (omega (arith, t .long)) (λ i m q. omega arith) (t .each) (c .pick);
   }
 
   -- the window of n frames that a block's frame still has up to its first
@@ -70,7 +70,7 @@ module _ (cycle K : ℕ) (keys : List ℕ) where
   -- ---- a block: the frames from `first` on, of which each has a window that begins no later than that frame
   module _ (w base first span : ℕ) (behind : List ℕ) (t : Trail cycle K keys first w behind) (few : K ≤ 64) (narrow : w ≤ K) (part : span ≤ w) (inside : first + span ≤ K) (small : base ≤ 384) where
     -- the part up to `first` of the window of frame first + j
-    pub block-part : (j frame : ℕ) → j < span → frame ≡ getD behind (w - 1 - j) 0 → Picked key K (first + K) (w - j) frame
+    block-part : (j frame : ℕ) → j < span → frame ≡ getD behind (w - 1 - j) 0 → Picked key K (first + K) (w - j) frame
     block-part j frame l f =
         let at : w - 1 - j ≡ w - j - 1 = omega arith in
         trail-part first w (w - j) frame behind t (omega arith) (omega arith) (f ∙ ap (λ (x : ℕ). getD behind x 0) at)
@@ -91,4 +91,4 @@ module _ (cycle K : ℕ) (keys : List ℕ) where
         let far : Chosen key K (first + K) (w - j) frame value = picked-seen cycle K keys first (w - j) frame value (omega arith) (omega arith) (block-part j frame l f) v in
         let both : Chosen key K (first + j + K) w pick best =
         chosen-join key K (first + j + K) (first + K) j (j + 1) (w - j) w r z frame value pick best (omega arith) (omega arith) (omega arith) (omega arith) next far best-is pick-is in
-        (windows-more w base small (first + j) (first + (j + 1)) pick old preds (omega arith) (omega arith) s (chosen-picked key K (first + j + K) w pick best both), next)
+        (windows-more w base small (first + j) (first + (j + 1)) pick old preds (omega arith) (omega arith) s (both .pick), next)

@@ -1,6 +1,6 @@
 -- Positions of two cycles: the frame of a position, its key, and how far it lies before a frame of the second cycle. Assumes nothing.
 use mathlib.Core.Path.{_≡_, sym, _∙_, ap}
-use mathlib.Core.Bool.{Bool, cond}
+use mathlib.Core.Bool.{Bool, true, false, cond}
 use mathlib.Core.List.{List}
 use Prim.Native.Nat.{ℕ, _+_, _-_, _*_, _%_, _<_, _≤_}
 use native.Mathlib.Nat.{mod-eq-of-lt, add-mul}
@@ -11,8 +11,13 @@ use lib.ListN.{getD}
 use borrow.Author.Tests.{lt-ltb, le-ltb}
 use Rattle.forwarding.specs.Forwarding.{gap}
 use Rattle.forwarding.proofs.Holds.{mod-once}
-use Rattle.search.specs.Inner.{keyAt, Latest, Picked, Chosen}
-use Rattle.search.proofs.Latest.{latest-one}
+use Rattle.search.specs.Inner.{keyAt, Picked}
+use Rattle.search.proofs.Latest.{Chosen, latest-one}
+
+-- at most a cycle more
+pub cycle-most : (b : Bool) (cycle : ℕ) → cond b cycle 0 ≤ cycle
+cycle-most true cycle = omega arith
+cycle-most false cycle = omega arith
 
 -- ---- a position after frame i of the cycle before, and up to frame i of this one
 module _ (K i p : ℕ) (inside : i < K) (after : i < p) (upto : p ≤ i + K) where
@@ -64,30 +69,24 @@ module _ (cycle K : ℕ) (keys : List ℕ) where
   chosen-own i frame value l e v =
       let at : (i + K) % K ≡ i = mod-once K (i + K) (omega arith) (omega arith) ∙ omega arith in
       record {
-        position = i + K;
-        stands = e ∙ sym at;
+        pick = record { position = i + K; stands = e ∙ sym at; latest = latest-one (keyAt cycle K keys) (i + K) };
         valued = v ∙ rw (at, le-ltb (i + K) K (omega arith)) (omega arith);
-        latest = latest-one (keyAt cycle K keys) (i + K);
       }
 
   -- the frame o before frame i, as the window of one
   pub chosen-behind : (i o frame value : ℕ) → i < K → o < K → frame ≡ (i + (K - o)) % K → value ≡ getD keys frame 0 + cond (ltb i frame) cycle 0
       → Chosen (keyAt cycle K keys) K (i + (K - o)) 1 frame value
   chosen-behind i o frame value l m e v = record {
-    position = i + (K - o);
-    stands = e;
+    pick = record { position = i + (K - o); stands = e; latest = latest-one (keyAt cycle K keys) (i + (K - o)) };
     valued = seen-key K i (i + (K - o)) l (omega arith) (omega arith) cycle keys frame value e v;
-    latest = latest-one (keyAt cycle K keys) (i + (K - o));
   }
 
   -- a pick, with its key as seen from the frame that its windows end with
   pub picked-seen : (i n frame value : ℕ) → i < K → n ≤ K → Picked (keyAt cycle K keys) K (i + K) n frame → value ≡ getD keys frame 0 + cond (ltb i frame) cycle 0
       → Chosen (keyAt cycle K keys) K (i + K) n frame value
   picked-seen i n frame value l m p v = record {
-    position = p .position;
-    stands = p .stands;
+    pick = p;
     valued = seen-key K i (p .position) l (omega (arith, p .latest .begins)) (p .latest .ends) cycle keys frame value (p .stands) v;
-    latest = p .latest;
   }
 
   -- and it is a frame

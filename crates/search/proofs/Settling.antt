@@ -1,6 +1,6 @@
 -- The cells of a hop and its predecessors, settled frame by frame, are the row and the predecessors of survivor search. Assumes nothing.
 use mathlib.Core.Path.{_≡_, refl, sym, _∙_, ap, ap₂, subst, fun-ext}
-use mathlib.Core.Bool.{Bool, true, false, cond}
+use mathlib.Core.Bool.{cond}
 use mathlib.Core.List.{List}
 use Prim.Native.Nat.{ℕ, _+_, _-_, _*_, _%_, _<_, _≤_}
 use native.Mathlib.Nat.{mul-div-le}
@@ -15,13 +15,12 @@ use Rattle.words.specs.Inner.{WindowOnes}
 use Rattle.forwarding.specs.Forwarding.{leastHold, frameTime}
 use Rattle.forwarding.specs.Hops.{HopReady}
 use Rattle.forwarding.specs.Route.{stageOf, stage}
-use Rattle.forwarding.proofs.Holds.{least-in}
 use Rattle.forwarding.proofs.Transitions.{delay-frames}
 use Rattle.forwarding.proofs.Windows.{firstFrame}
-use Rattle.search.specs.Inner.{cellIf, lower, Latest, keyAt, Picked, Keys, Windows, Opens, Gathers, leadings, Gathering, Settled, Settling, stageBy, counts, Entering, Advanced}
-use Rattle.search.proofs.Positions.{frame-in, times-split, seen-key, picked-in}
+use Rattle.search.specs.Inner.{cellIf, lower, Latest, keyAt, Picked, Keys, Windows, Opens, Gathers, leadings, Gathering, Settled, Settling, counts, Entering, Advanced}
+use Rattle.search.proofs.Positions.{cycle-most, frame-in, times-split, seen-key, picked-in}
 use Rattle.search.proofs.Gathering.{within-time, none-gathered, gathered-keys, gathered-waits}
-use Rattle.search.proofs.Counting.{all-counted, ones-few}
+use Rattle.search.proofs.Counting.{stageBy, ready-least, all-counted, ones-few}
 use Rattle.search.proofs.Landing.{landed, landed-most}
 
 module _ (time lead K free w base : ℕ) (keys froms : List ℕ) where
@@ -29,7 +28,7 @@ module _ (time lead K free w base : ℕ) (keys froms : List ℕ) where
   key = keyAt (K * time) K keys
 
   -- the picks are there
-  pub none-settled : (old next preds : List ℕ) → length next ≡ 64 → Windows (K * time) K keys w base K old preds → Settled time lead K free w base keys froms 0 preds next preds
+  none-settled : (old next preds : List ℕ) → length next ≡ 64 → Windows (K * time) K keys w base K old preds → Settled time lead K free w base keys froms 0 preds next preds
   none-settled old next preds l s = record {
     long = s .long;
     next-long = l;
@@ -41,7 +40,7 @@ module _ (time lead K free w base : ℕ) (keys froms : List ℕ) where
   module _ (n : ℕ) (old next preds : List ℕ) (s : Settled time lead K free w base keys froms n old next preds) (small : base ≤ 384) (few : n < 64) (frame value cell : ℕ) (P : Picked key K (n + K) w frame)
       (valued : value ≡ key (P .position)) (lands : cell ≡ cellIf free n (lower (value + lead - (K - n) * time) 32768)) where
     -- one frame more
-    pub one-settled : Settled time lead K free w base keys froms (n + 1) old (set next n cell) (set preds (base + n) (getD froms frame 0))
+    one-settled : Settled time lead K free w base keys froms (n + 1) old (set next n cell) (set preds (base + n) (getD froms frame 0))
     one-settled = record {
       long = length-set preds (base + n) (getD froms frame 0) ∙ s .long;
       next-long = length-set next n cell ∙ s .next-long;
@@ -93,11 +92,7 @@ module _ (time lead K free w base : ℕ) (keys froms row₀ preds₀ : List ℕ)
         (v ∙ ap₂ (λ (x y : ℕ). getD keys x 0 + cond (ltb i x) y 0) is whole)
 
     pub value-small : value ≤ 34688
-    value-small = omega (arith, v, whole, S .ring .small frame, S .ring .short, cycle-most (ltb i frame))
-      where
-        cycle-most : (b : Bool) → cond b cycle 0 ≤ cycle
-        cycle-most true = omega arith
-        cycle-most false = omega arith
+    value-small = omega (arith, v, whole, S .ring .small frame, S .ring .short, cycle-most (ltb i frame) cycle)
 
     -- the key has the time to the end of the cycle
     pub value-waits : (wait : ℕ) → wait ≡ (K - i) * time → wait ≤ value
@@ -129,17 +124,18 @@ module _ (T : ℕ) (g h : Hop) (cells old : List ℕ) (base time : ℕ) (E : Ent
   in-time = time-fits T (h .frames) time (E .cycle) timed
 
   pub least-time : (least : ℕ) → least ≡ leastHold h → least * time ≤ 960
-  least-time least e = within-time time (h .frames) least (omega (arith, least-in h (E .ready .some-frame))) in-time
+  least-time least e = within-time time (h .frames) least (omega (arith, ready-least T h (E .ready))) in-time
 
   -- its frames may be gathered
-  pub begins-gathering : (w free : ℕ) (ones froms : List ℕ) → Opens h w free → WindowOnes free (h .frames) w (h .frames) ones → length froms ≡ 64 → Gathering g h time cells ones (replicate 64 33728) froms
-  begins-gathering w free ones froms o s l = record {
+  pub begins-gathering : (w free : ℕ) (blank ones froms : List ℕ) → Opens h w free → WindowOnes free (h .frames) w (h .frames) blank ones → length froms ≡ 64 → Gathering g h time cells ones (replicate 64 33728) froms
+  begins-gathering w free blank ones froms o s l = record {
     few-before = E .few-before;
     some-frame = E .ready .some-frame;
     few-frames = E .ready .few-frames;
+    led = ready-least T h (E .ready);
     in-time = in-time;
     small = E .small;
-    few-ones = ones-few free (h .frames) w ones (omega (arith, o .within, E .ready .few-frames)) s;
+    few-ones = ones-few free (h .frames) w blank ones (omega (arith, o .within, E .ready .few-frames)) s;
     begun = none-gathered (firstFrame g h) time (h .frames) cells in-time froms (E .ready .few-frames) l;
   }
 
@@ -161,24 +157,24 @@ module _ (T : ℕ) (g h : Hop) (cells old : List ℕ) (base time : ℕ) (E : Ent
       }
 
       -- THEN IT HAS ITS ROW
-      pub hop-advanced : (ones : List ℕ) (count : ℕ) (next new : List ℕ) → WindowOnes free (h .frames) w (h .frames) ones → count ≡ leadings (firstFrame g h) cells ones (g .frames)
+      pub hop-advanced : (blank ones : List ℕ) (count : ℕ) (next new : List ℕ) → WindowOnes free (h .frames) w (h .frames) blank ones → count ≡ leadings (firstFrame g h) cells ones (g .frames)
           → ((w : ℕ) → Settling time lead (h .frames) free w base keys froms cells preds → Settled time lead (h .frames) free w base keys froms (h .frames) preds next new)
           → Advanced (stage T g h) cells (g .frames) base old next new count
-      hop-advanced ones count next new O c all =
+      hop-advanced blank ones count next new O c all =
           subst (λ (st : Stage). Advanced st cells (g .frames) base old next new count) (ap (λ (x : ℕ). stageBy x g h) timed ∙ stage-by T g h (E .ready)) advanced
         where
           settled : Settled time lead (h .frames) free w base keys froms (h .frames) preds next new
           settled = all w begins-settling
 
           counted : count ≡ counts (stageBy time g h) cells (g .frames)
-          counted = c ∙ all-counted g h w free cells ones (E .ready .some-frame) opens O time (g .frames)
+          counted = c ∙ all-counted g h w free cells blank ones (E .ready .some-frame) opens O time (g .frames)
 
           advanced : Advanced (stageBy time g h) cells (g .frames) base old next new count
           advanced = record {
             inside = λ i l. let o = settled .settled i l in
-                landed time g h w free cells keys froms (E .ready .some-frame) in-time opens (E .small) G i l (o .0) (o .1) lead (getD next i 0) (getD new (base + i) 0) led (o .2) (o .3);
+                landed time g h w free cells keys froms (E .ready .some-frame) (ready-least T h (E .ready)) in-time opens (E .small) G i l (o .0) (o .1) lead (getD next i 0) (getD new (base + i) 0) led (o .2) (o .3);
             most = λ i l. let o = settled .settled i l in
-                landed-most time g h w free cells keys froms (E .ready .some-frame) in-time opens (E .small) G i l (o .0) (o .1) lead (getD next i 0) (getD new (base + i) 0) led (o .2) (o .3);
+                landed-most time g h w free cells keys froms (E .ready .some-frame) (ready-least T h (E .ready)) in-time opens (E .small) G i l (o .0) (o .1) lead (getD next i 0) (getD new (base + i) 0) led (o .2) (o .3);
             counted = counted;
             earlier = λ m l. settled .earlier m l ∙ W .earlier m l;
             next-long = settled .next-long;

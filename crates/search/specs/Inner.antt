@@ -4,7 +4,7 @@ use mathlib.Core.Path.{_≡_}
 use mathlib.Core.Bool.{Bool, true, false, _&&_, cond}
 use mathlib.Core.List.{List, [], _∷_}
 use Prim.Native.Nat.{ℕ, zero, suc, _+_, _-_, _*_, _%_, _<_, _≤_}
-use lib.Dec.{ltb}
+use lib.Dec.{ltb, eqb}
 use lib.ListN.{getD, set, length}
 use Rattle.lists.specs.Count.{oneIf, sumBelow, countBelow}
 use Rattle.trellis.specs.Trellis.{Reach, never, after, Stage, Trellis, entry, width}
@@ -13,9 +13,8 @@ use Rattle.trellis.proofs.Survivor.{Offer, offerOf, Best, nobody, best, bestOf,
 use Rattle.trellis.proofs.Ladder.{ladder}
 use Rattle.words.specs.Word.{bitOf}
 use Rattle.forwarding.specs.declared.Hop.{Hop}
-use Rattle.forwarding.specs.Forwarding.{gap, isAllowed}
+use Rattle.forwarding.specs.Forwarding.{leastHold, gap, isAllowed, choices}
 use Rattle.forwarding.specs.Hops.{HopReady, Ready}
-use Rattle.forwarding.specs.Route.{stageOf}
 use Rattle.forwarding.specs.Inner.{hopAt, stageAfter}
 use Rattle.forwarding.proofs.Windows.{firstFrame}
 
@@ -62,16 +61,10 @@ pub record Latest (key : ℕ → ℕ) (e n p : ℕ) : Type 0 where
 unfoldable pub keyAt : ℕ → ℕ → List ℕ → ℕ → ℕ
 keyAt cycle K keys p = getD keys (p % K) 0 + cond (ltb p K) cycle 0
 
--- a stored frame that stands for that latest position; and beside its key
+-- a stored frame that stands for that latest position
 pub record Picked (key : ℕ → ℕ) (K e n frame : ℕ) : Type 0 where
   pub position : ℕ
   pub stands : frame ≡ position % K
-  pub latest : Latest key e n position
-
-pub record Chosen (key : ℕ → ℕ) (K e n frame value : ℕ) : Type 0 where
-  pub position : ℕ
-  pub stands : frame ≡ position % K
-  pub valued : value ≡ key position
   pub latest : Latest key e n position
 
 -- the keys of a link's frames: checks 3 and 7
@@ -99,6 +92,13 @@ pub record Windows (cycle K : ℕ) (keys : List ℕ) (w base n : ℕ) (old preds
 -- ---- a hop entered
 
 -- how many frames a frame leads to, and the free frames: where there is no hold at all, one, and none of them
+abbrev pub openWidth : Hop → ℕ
+openWidth h = cond (eqb (choices h) 0) 1 (choices h)
+
+abbrev pub openFree : Hop → ℕ
+openFree h = cond (eqb (choices h) 0) 0 (h .free)
+
+-- what these are for
 pub record Opens (h : Hop) (width free : ℕ) : Type 0 where
   pub some : 0 < width
   pub within : width ≤ h .frames
@@ -113,7 +113,8 @@ pub record Entered (a key k : ℕ) (keys froms keys′ froms′ : List ℕ) : Ty
   pub keyed : keys′ ≡ set keys a (cond (ltb key (getD keys a 0)) key (getD keys a 0))
   pub from : froms′ ≡ set froms a (cond (ltb key (getD keys a 0)) k (getD froms a 0))
 
--- each frame has the least key of the first n frames of the hop before that lead to it, and the smallest frame that has it
+-- each frame has the least key of the first n frames of the hop before that lead to it, and where some schedule leads to one of these the smallest frame that has it. Where none does,
+-- the key is at least 32,768 and the time to the end of the cycle, so that it is still that of no schedule when that time is taken off
 pub record Gathers (first : ℕ → ℕ) (time K : ℕ) (cells : List ℕ) (n : ℕ) (keys froms : List ℕ) : Type 0 where
   pub keys-long : length keys ≡ 64
   pub froms-long : length froms ≡ 64
@@ -129,10 +130,11 @@ leadings first cells ones n = sumBelow n (λ k. oneIf (reached (cellReach (getD 
 
 -- what is known where the frames of the hop g are gathered by the frames of the hop h after it
 pub record Gathering (g h : Hop) (time : ℕ) (cells ones keys froms : List ℕ) : Type 0 where
-  -- check 7 of both links
+  -- check 7 of both links, and the least hold of the one entered
   pub few-before : g .frames ≤ 64
   pub some-frame : 0 < h .frames
   pub few-frames : h .frames ≤ 64
+  pub led : leastHold h ≤ h .frames
   -- checks 3 and 7: K frames last T ticks, at most 960
   pub in-time : h .frames * time ≤ 960
   -- check 12: at most six transitions lie behind, of a cycle each at most
@@ -152,17 +154,15 @@ pub record Settled (time lead K free w base : ℕ) (keys froms : List ℕ) (n : 
 
 -- what is known where the frames of a hop are settled
 pub record Settling (time lead K free w base : ℕ) (keys froms next preds : List ℕ) : Type 0 where
+  -- checks 3 and 7
   pub ring : Keys (K * time) K keys
   pub waits : (a : ℕ) → a < K → (K - a) * time ≤ getD keys a 0
+  -- checks 3, 7 and 8: neither the least hold nor the number of holds passes a cycle
   pub led : lead ≤ 960
   pub narrow : w ≤ K
   -- check 12: hop 7 is the last, and its predecessors stand from 384 on
   pub within : base ≤ 384
   pub begun : Settled time lead K free w base keys froms 0 preds next preds
-
--- the stage of a hop by the time of its frame: the delay is the hold times that time
-abbrev pub stageBy : ℕ → Hop → Hop → Stage
-stageBy time g h = stageOf (λ D. D * time) g h
 
 -- what the frames of the hop before, with this row, offer to frame i
 abbrev pub offers : Stage → List ℕ → ℕ → ℕ → Offer
@@ -182,6 +182,7 @@ pub record Entering (t : ℕ) (g h : Hop) (cells preds : List ℕ) (base : ℕ) 
   pub ready : HopReady t h
   -- check 12: at most six transitions lie behind, of a cycle each at most
   pub small : (m : ℕ) → m < g .frames → Within 5760 (getD cells m 0)
+  -- check 12: hop 7 is the last, and its predecessors stand from 384 on
   pub within : base ≤ 384
   pub cells-long : length cells ≡ 64
   pub long : length preds ≡ 448

@@ -15,11 +15,11 @@ ghost use Rattle.lists.specs.Count.{oneIf};
 ghost use Rattle.trellis.specs.Paths.{reached};
 ghost use Rattle.trellis.proofs.Survivor.{bestOf};
 ghost use Rattle.forwarding.specs.Forwarding.{referenceInto};
-ghost use Rattle.forwarding.specs.Hops.{Ready};
+ghost use Rattle.forwarding.specs.Hops.{HopReady, Ready};
 ghost use Rattle.forwarding.specs.Route.{stage};
 ghost use Rattle.forwarding.proofs.Windows.{firstFrame};
 ghost use Rattle.search.specs.Reading.{Finds};
-ghost use Rattle.search.specs.Inner.{cellReach, wayOf, cellIf, Keys, Trail, Windows, Opens, Entered, Gathers, leadings, Gathering, Settled, Settling, Entering, Advanced, FirstRow, Sweeps, Swept, endOffers, chainOf, ChainFits};
+ghost use Rattle.search.specs.Inner.{cellReach, wayOf, cellIf, lower, Keys, Trail, Windows, openWidth, openFree, Entered, Gathers, leadings, Gathering, Settled, Settling, Entering, Advanced, FirstRow, Sweeps, Swept, endOffers, chainOf, ChainFits};
 
 // The cell of a frame that no schedule leads to. No delay passes 6,720.
 const NEVER: u16 = 32768;
@@ -40,7 +40,8 @@ pub struct Finding {
     pub frames: [u8; 8],
 }
 
-// A frame, and the key that it is chosen by.
+// A frame, and the key that it is chosen by. Of a frame that the least hold leads to, the key is the delay as it would be at the end of the cycle without a hold: the cell of the frame
+// before and the time from the frame to the end. So two keys compare wherever a hold ends. Of an end of the route it is the cell.
 struct Choice {
     key: u16,
     frame: u8,
@@ -70,10 +71,10 @@ fn if_free(free: u64, i: u16, cell: u16) -> u16
     if words::has_bit(free, i) { cell } else { NEVER }
 }
 
-// Where there is no hold at all, a frame leads to one frame, and none is free. Checks 7 and 8 of the hop's link.
+// As many frames as there are holds, and the free frames; where there is no hold at all, one frame, and none free. Checks 7 and 8 have shown what is required.
 fn opened(hop: Hop) -> Opening
-    requires { ⌜ (0 < hop .frames) × (hop .frames ≤ 64) × (hop .range ≤ hop .frames) ⌝ }
-    ensures { λ r. ⌜ Opens hop (r .width) (r .free) ⌝ }
+    requires { ⌜ ((T : ℕ) × HopReady T hop) ⌝ }
+    ensures { λ r. ⌜ (r .width ≡ openWidth hop) × (r .free ≡ openFree hop) ⌝ }
 {
     let width = forwarding::choices(hop);
     if width == 0 {
@@ -154,7 +155,7 @@ fn gather(
     count
 }
 
-// The key of frame i as seen from another: where it lies after that one it is meant in the cycle before, and has a cycle more.
+// The key of frame i as seen from another: where it lies after that one it is meant in the cycle before, and has a cycle more. Check 7: a frame is below 64.
 fn seen(keys: &[u16; 64], cycle: Delay, i: u16, from: u16) -> u16
     requires { ⌜ (i < 64) × (getD (now keys) i 0 + cycle .0 ≤ 65535) ⌝ }
     ensures { λ r. ⌜ r ≡ getD (now (keys .entry)) i 0 + cond (ltb from i) (cycle .0) 0 ⌝ }
@@ -163,7 +164,7 @@ fn seen(keys: &[u16; 64], cycle: Delay, i: u16, from: u16) -> u16
     if from < i { key + cycle.0 } else { key }
 }
 
-// The picks of the windows that end with frame `end`, of 1 to `width` frames: that of o + 1 frames at o.
+// The picks of the windows that end with frame `end`, of 1 to `width` frames: that of o + 1 frames at o. Checks 3, 7 and 8, also of the two below.
 fn trail(keys: &[u16; 64], cycle: Delay, frames: u16, end: u16, width: u16, behind: &mut [u8; 64])
     requires { ⌜ Keys (cycle .0) frames (now keys) × (end < frames) × (0 < width) × (width ≤ frames) × (length (now behind) ≡ 64) ⌝ }
     ensures { λ r. ⌜ Trail (cycle .0) frames (now (keys .entry)) end width (now (behind .exit)) ⌝ }
@@ -227,7 +228,7 @@ fn block(
 
 // The smaller of two numbers.
 fn smaller(a: u16, b: u16) -> u16
-    ensures { λ r. ⌜ r ≡ cond (ltb a b) a b ⌝ }
+    ensures { λ r. ⌜ r ≡ lower a b ⌝ }
 {
     if a < b { a } else { b }
 }
@@ -254,7 +255,8 @@ fn windows(
     }
 }
 
-// The row of a hop: a cell for each frame over the one that is picked for it, whose frame before is the predecessor.
+// The row of a hop: a cell for each frame over the one that is picked for it, whose frame before is the predecessor. Of the key the time from the frame to the end of the cycle is taken off,
+// and the time of the least hold, `lead`, is added.
 fn settle(
     keys: &[u16; 64],
     froms: &[u8; 64],

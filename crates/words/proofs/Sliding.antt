@@ -20,7 +20,10 @@ sum-slide (suc n) f = omega (arith, sum-slide n f)
 module _ (word K w : ℕ) where
   -- the window that begins with frame 0
   pub window-first : w ≤ K → countBelow w (bitOf word) ≡ windowOnes word K w 0
-  window-first h = sum-cong w (λ i. oneIf (bitOf word i)) (λ d. oneIf (bitOf word ((0 + d) % K))) (λ d l. let e : d ≡ (0 + d) % K = omega (arith, mod-eq-of-lt {n = 0 + d} {m = K} (omega arith)) in ap (λ (x : ℕ). oneIf (bitOf word x)) e)
+  window-first h = sum-cong w (λ i. oneIf (bitOf word i)) (λ d. oneIf (bitOf word ((0 + d) % K))) (λ d l. ap (λ (x : ℕ). oneIf (bitOf word x)) (itself d (omega arith)))
+    where
+      itself : (d : ℕ) → d < K → d ≡ (0 + d) % K
+      itself d l = omega (arith, mod-eq-of-lt {n = 0 + d} {m = K} (omega arith))
 
   -- THE WINDOW OF THE NEXT FRAME has not this frame, and has the frame after the last
   pub window-next : (a n here there : ℕ) → a < K → n ≡ windowOnes word K w a → here ≡ oneIf (bitOf word a) → there ≡ oneIf (bitOf word ((a + w) % K))
@@ -38,12 +41,13 @@ module _ (word K w : ℕ) where
   pub window-few : (a : ℕ) → windowOnes word K w a ≤ w
   window-few a = count-le w (λ d. bitOf word ((a + d) % K))
 
-  pub no-windows : (ones : List ℕ) → length ones ≡ 64 → WindowOnes word K w 0 ones
-  no-windows ones l = record { long = l; each = λ a m. absurd (omega arith) }
+  pub no-windows : (ones : List ℕ) → length ones ≡ 64 → WindowOnes word K w 0 ones ones
+  no-windows ones l = record { long = l; each = λ a m. absurd (omega arith); rest = λ a m. refl }
 
-  pub one-window : (n : ℕ) (ones : List ℕ) (v : ℕ) → n < 64 → WindowOnes word K w n ones → v ≡ windowOnes word K w n → WindowOnes word K w (n + 1) (set ones n v)
-  one-window n ones v l s e = record {
+  pub one-window : (n : ℕ) (old ones : List ℕ) (v : ℕ) → n < 64 → WindowOnes word K w n old ones → v ≡ windowOnes word K w n → WindowOnes word K w (n + 1) old (set ones n v)
+  one-window n old ones v l s e = record {
     long = length-set ones n v ∙ s .long;
     each = below-more (λ a. getD (set ones n v) a 0 ≡ windowOnes word K w a) n (λ a m. getD-set-other ones n a v 0 (λ x. omega arith) ∙ s .each a m)
         (getD-set-same ones n v 0 (omega (arith, s .long)) ∙ e);
+    rest = λ a m. getD-set-other ones n a v 0 (λ x. omega arith) ∙ s .rest a (omega arith);
   }

@@ -88,7 +88,7 @@ fn ones_among(word: u64, n: u16) -> u32
 // without its first frame and with the frame after its last.
 pub fn window_ones(word: u64, frames: u16, width: u16, ones: &mut [u8; 64])
     requires { ⌜ (0 < width) × (width ≤ frames) × (frames ≤ 64) × (length (now ones) ≡ 64) ⌝ }
-    ensures { λ r. ⌜ WindowOnes word frames width frames (now (ones .exit)) ⌝ }
+    ensures { λ r. ⌜ WindowOnes word frames width frames (now (ones .entry)) (now (ones .exit)) ⌝ }
 {
     let mut n = ones_among(word, width);
     let mut a: u16 = 0;

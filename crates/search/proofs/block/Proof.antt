@@ -5,7 +5,8 @@ use native.Mathlib.Nat.{le-trans}
 use native.Mathlib.Omega.{arith}
 use lib.ListN.{getD}
 use borrow.Author.Needs.{needs}
-use Rattle.search.specs.Inner.{keyAt, Chosen, Windows}
+use Rattle.search.specs.Inner.{keyAt, Windows}
+use Rattle.search.proofs.Latest.{Chosen}
 use Rattle.search.proofs.Positions.{chosen-own}
 use Rattle.search.proofs.Picking.{trail-part, windows-more, windows-here, windows-on, block-in, block-more}
 use Rattle.search.proofs.block.Statement.{statement}

@@ -9,7 +9,7 @@ use borrow.Author.Needs.{needs}
 use Rattle.lists.specs.Count.{oneIf}
 use Rattle.lists.proofs.Sums.{one-times-le}
 use Rattle.trellis.specs.Paths.{reached}
-use Rattle.forwarding.proofs.Holds.{reference-in, least-in}
+use Rattle.forwarding.proofs.Holds.{reference-in}
 use Rattle.forwarding.proofs.Windows.{firstFrame}
 use Rattle.search.specs.Inner.{cellReach, Gathers, leadings}
 use Rattle.search.proofs.Gathering.{within-time, led-first, one-gathered}
@@ -47,7 +47,7 @@ frame-on-requires c κs =
     let a = s .args in
     let l = c .before .before .before .loop in (
       omega (arith, c .reference .ensures, reference-in (a .before) (a .hop) (l .k) (s .pre .some-frame) (omega arith)),
-      omega (arith, c .before .before .before .before .least-hold .ensures, least-in (a .hop) (s .pre .some-frame)),
+      omega (arith, c .before .before .before .before .least-hold .ensures, s .pre .led),
       s .pre .few-frames,
     )
 

@@ -4,8 +4,8 @@ use Prim.Native.Nat.{_+_, _-_, _<_, _≤_}
 use native.Mathlib.Nat.{mod-lt}
 use native.Mathlib.Omega.{arith}
 use borrow.Author.Needs.{needs}
-use Rattle.search.specs.Inner.{keyAt, Chosen, Trail}
-use Rattle.search.proofs.Latest.{chosen-join}
+use Rattle.search.specs.Inner.{keyAt, Trail}
+use Rattle.search.proofs.Latest.{Chosen, chosen-join}
 use Rattle.search.proofs.Positions.{chosen-own, chosen-behind}
 use Rattle.search.proofs.Picking.{trail-none, trail-more}
 use Rattle.search.proofs.trail.Statement.{statement}

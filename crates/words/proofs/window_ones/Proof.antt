@@ -13,7 +13,7 @@ use Rattle.words.proofs.window_ones.Statement.{statement}
 use Rattle.words.proofs.window_ones.Tie as tie
 
 abbrev Inv-loop : tie.InvT-loop
-Inv-loop word frames width ones₀ n₀ a₀ ones n a = (a ≤ frames) × WindowOnes word frames width a ones × (n ≡ windowOnes word frames width a)
+Inv-loop word frames width ones₀ n₀ a₀ ones n a = (a ≤ frames) × WindowOnes word frames width a ones₀ ones × (n ≡ windowOnes word frames width a)
 
 abbrev μ-loop : tie.MeasureT-loop
 μ-loop word frames width ones₀ n₀ a₀ ones n a = frames - a
@@ -75,7 +75,7 @@ loop-again c =
     let l = c .before .before .before .before .loop in
     let there = c .before .one-at .ensures ∙ ap (λ (x : ℕ). oneIf (bitOf (a .word) x)) (c .before .before .frame-on .ensures) in
     let next = window-next (a .word) (a .frames) (a .width) (l .a) (l .n) (c .one-at2 .result) (c .before .one-at .result) (omega arith) (l .inv .2) (c .one-at2 .ensures) there in
-    (omega arith, one-window (a .word) (a .frames) (a .width) (l .a) (l .ones) (l .n) (omega arith) (l .inv .1) (l .inv .2), omega (arith, next))
+    (omega arith, one-window (a .word) (a .frames) (a .width) (l .a) (a .ones .now) (l .ones) (l .n) (omega arith) (l .inv .1) (l .inv .2), omega (arith, next))
 
 returns : tie.Need-returns Inv-loop μ-loop
 returns c =
