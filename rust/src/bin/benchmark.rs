@@ -201,32 +201,34 @@ fn per_quote<const S: usize>(
 /// (a) Quotes over 8 hops of 64 frames: the better of a list of as many as the calls' bytes hold and of a short list, which goes round more
 /// often.
 fn quotes(out: &mut [u8], random: &mut Random) {
-    let route = [0, 1, 2, 3, 4, 5, 6, 7];
     for (frames, closing) in [
         ("all free", Closing::None),
         ("half free", Closing::ExactlyHalf),
     ] {
         for range in [4, 16, 64] {
             let file = file_of(range, (0..8).map(|_| closed_frames(random, 64, closing)));
-            let few = &Work {
-                file: file.clone(),
-                calls: list_of_quotes(&route, FEW),
-            };
-            let all = &Work {
-                file,
-                calls: list_of_quotes(&route, QUOTES),
-            };
-            line(
-                &format!("quote, 8 hops of 64 frames, Z {range}, {frames}"),
-                per_quote(few, all, &SIDES, out).map(Some),
-            );
-            let [library, sharper] = per_quote(few, all, &SHARPER, out);
-            line(
-                "  beside the survivor search by comparison",
-                [Some(library), None, Some(sharper), None],
-            );
+            lines_of_quotes(range, frames, &file, out);
         }
     }
+    // The range that costs the search by windows most: a second block of one frame has a whole window behind it.
+    lines_of_quotes(63, "all free", &file_of(63, [0; 8].into_iter()), out);
+}
+
+/// Quotes over the eight links of a file, on all sides, and beside the sharper survivor search.
+fn lines_of_quotes(range: u32, frames: &str, file: &[u8], out: &mut [u8]) {
+    let [few, all] = [FEW, QUOTES].map(|number| Work {
+        file: file.to_vec(),
+        calls: list_of_quotes(&[0, 1, 2, 3, 4, 5, 6, 7], number),
+    });
+    line(
+        &format!("quote, 8 hops of 64 frames, Z {range}, {frames}"),
+        per_quote(&few, &all, &SIDES, out).map(Some),
+    );
+    let [library, sharper] = per_quote(&few, &all, &SHARPER, out);
+    line(
+        "  beside the survivor search by comparison",
+        [Some(library), None, Some(sharper), None],
+    );
 }
 
 /// Quotes over ever other routes, of 8 among 32 links of which half of the frames are free: no processor learns the branches of so many
