@@ -1,6 +1,6 @@
 //! Wrong window searches, each with one mistake.
 
-use crate::route::has;
+use crate::route::{has, Hop};
 use crate::tried::Wrong;
 use crate::windows::{Method, Part, Way, NEVER, RIGHT};
 
@@ -19,19 +19,29 @@ fn wrong(name: &'static str, does: Method) -> Wrong<Method> {
     Wrong { name, does }
 }
 
+/// One frame fewer than the range has.
+fn one_short(here: &Hop) -> u32 {
+    here.range - 1
+}
+
+/// One frame more, where the cycle has one.
+fn one_long(here: &Hop) -> u32 {
+    here.frames.min(here.range + 1)
+}
+
 fn wrong_windows() -> Vec<Wrong<Method>> {
     vec![
         wrong(
             "window one frame short",
             Method {
-                window: |here| here.range - 1,
+                window: one_short,
                 ..RIGHT
             },
         ),
         wrong(
             "window one frame long",
             Method {
-                window: |here| here.frames.min(here.range + 1),
+                window: one_long,
                 ..RIGHT
             },
         ),
@@ -203,14 +213,14 @@ fn wrong_counts() -> Vec<Wrong<Method>> {
         wrong(
             "count one frame short",
             Method {
-                counted: |here| here.range - 1,
+                counted: one_short,
                 ..RIGHT
             },
         ),
         wrong(
             "count one frame long",
             Method {
-                counted: |here| here.frames.min(here.range + 1),
+                counted: one_long,
                 ..RIGHT
             },
         ),
