@@ -19,13 +19,19 @@ recordWithin kind width start end s =
 unfoldable pub routedRecord : Kind → ℕ → List ℕ → Record
 routedRecord kind width s = recordWithin kind width (2 + width) (2 + width + getD s (1 + width) 0) s
 
+-- the record of a kind at the start of s
+unfoldable pub recordBy : ℕ → List ℕ → Record
+recordBy kind s =
+    cond (eqb kind 1) (routedRecord SetUp 2 s)
+    (cond (eqb kind 2) (routedRecord Quote 0 s)
+    (cond (eqb kind 3) (recordWithin Release 2 3 3 s)
+    (cond (eqb kind 4) (routedRecord SetUp 4 s)
+    (cond (eqb kind 5) (recordWithin Release 4 5 5 s)
+    (noRecord (length s))))))
+
 -- the record at the start of s; where s is empty its kind counts as 0
 unfoldable pub readRecord : List ℕ → Record
-readRecord s =
-    cond (eqb (getD s 0 0) 1) (routedRecord SetUp 2 s)
-    (cond (eqb (getD s 0 0) 2) (routedRecord Quote 0 s)
-    (cond (eqb (getD s 0 0) 3) (recordWithin Release 2 3 3 s)
-    (noRecord (length s))))
+readRecord s = recordBy (getD s 0 0) s
 
 -- a record that lies within as many bytes
 pub record InBytes (r : Record) (n : ℕ) : Type 0 where

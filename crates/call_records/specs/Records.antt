@@ -1,11 +1,12 @@
--- Call records (document 01, "The program frames"): what their bytes say. Assumes nothing.
+-- Call records (document 01, "The program frames", and W-205 of document 02): what their bytes say. Assumes nothing.
 use mathlib.Core.Path.{_≡_}
 use mathlib.Core.Bool.{cond}
 use mathlib.Core.List.{List, [], _∷_}
-use Prim.Native.Nat.{ℕ, zero, suc, _+_, _*_, _≤_, min}
+use Prim.Native.Nat.{ℕ, zero, suc, _≤_, min}
 use lib.ListN.{length, take, drop}
 use lib.Dec.{eqb, ltb}
 use Rattle.refusals.specs.Refusals.{Outcome, given, refused}
+use Rattle.numbers.specs.Numbers.{numberIn}
 use Rattle.ledger.specs.Calls.{Call, SetUp, Quote, Release}
 
 -- what the record at the start of some bytes says, and the bytes after it
@@ -13,40 +14,42 @@ pub record CallSaid : Type 0 where
   pub call : Outcome Call
   pub rest : List ℕ
 
--- 11: "A call record's kind isn't 1 to 3, or the record runs past the end"; it "ends the calls"
+-- 11: "A call record's kind isn't 1 to 3, or the record runs past the end", W-205: "now admits kinds 1 to 5"; it "ends the calls"
 abbrev pub unreadable : CallSaid
 unreadable = record { call = refused 11; rest = [] }
 
--- "route length, route": n links, and the bytes after them
-unfoldable pub withRoute : (List ℕ → Call) → ℕ → List ℕ → CallSaid
-withRoute call n s = cond (ltb (length s) n) unreadable (record { call = given (call (take n s)); rest = drop n s })
+-- "number in two bytes low first", W-205: "in four bytes, low first": the number in so many bytes, and then what the bytes after it say with it
+unfoldable pub withNumber : ℕ → (ℕ → List ℕ → CallSaid) → List ℕ → CallSaid
+withNumber width said s = cond (ltb (length s) width) unreadable (said (numberIn width s) (drop width s))
 
--- "01 set-up (number in two bytes low first, route length, route)", from the number on
-unfoldable pub setUpSaid : List ℕ → CallSaid
-setUpSaid [] = unreadable
-setUpSaid (low ∷ []) = unreadable
-setUpSaid (low ∷ high ∷ []) = unreadable
-setUpSaid (low ∷ high ∷ n ∷ s) = withRoute (SetUp (low + 256 * high)) n s
+-- "route length, route": so many links, and the bytes after them
+unfoldable pub withRoute : (List ℕ → Call) → List ℕ → CallSaid
+withRoute call [] = unreadable
+withRoute call (n ∷ s) = cond (ltb (length s) n) unreadable (record { call = given (call (take n s)); rest = drop n s })
 
--- "02 quote (route length, route)", from the route's length on
+-- "set-up (number in two bytes low first, route length, route)", from the number on, for a number in so many bytes
+unfoldable pub setUpSaid : ℕ → List ℕ → CallSaid
+setUpSaid width s = withNumber width (λ n. withRoute (SetUp n)) s
+
+-- "quote (route length, route)", from the route's length on
 unfoldable pub quoteSaid : List ℕ → CallSaid
-quoteSaid [] = unreadable
-quoteSaid (n ∷ s) = withRoute Quote n s
+quoteSaid s = withRoute Quote s
 
--- "03 release (number)", from the number on
-unfoldable pub releaseSaid : List ℕ → CallSaid
-releaseSaid [] = unreadable
-releaseSaid (low ∷ []) = unreadable
-releaseSaid (low ∷ high ∷ s) = record { call = given (Release (low + 256 * high)); rest = s }
+-- "release (number)", from the number on, for a number in so many bytes
+unfoldable pub releaseSaid : ℕ → List ℕ → CallSaid
+releaseSaid width s = withNumber width (λ n rest. record { call = given (Release n); rest = rest }) s
 
--- WHAT THE RECORD AT THE START OF SOME CALL BYTES SAYS, by its kind; a kind that is added later stands here
+-- WHAT THE RECORD AT THE START OF SOME CALL BYTES SAYS, by its kind: "01 set-up", "02 quote", "03 release"; W-205: "Call kinds 04 and 05 are set-up and release with
+-- the number in four bytes, low first; 01 and 03 remain"; a kind that is added later stands here
 unfoldable pub firstCall : List ℕ → CallSaid
 firstCall [] = unreadable
 firstCall (kind ∷ s) =
-    cond (eqb kind 1) (setUpSaid s)
+    cond (eqb kind 1) (setUpSaid 2 s)
     (cond (eqb kind 2) (quoteSaid s)
-    (cond (eqb kind 3) (releaseSaid s)
-    unreadable))
+    (cond (eqb kind 3) (releaseSaid 2 s)
+    (cond (eqb kind 4) (setUpSaid 4 s)
+    (cond (eqb kind 5) (releaseSaid 4 s)
+    unreadable))))
 
 -- the calls of some call bytes, in their order; f is at least the number of bytes, and only says that the definition ends
 unfoldable pub callsBy : ℕ → List ℕ → List (Outcome Call)

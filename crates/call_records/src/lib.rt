@@ -1,4 +1,4 @@
-// Call records (document 01, "The program frames"): what the record at the start of some call bytes says, and its route as a part of those bytes.
+// Call records (document 01, "The program frames", and W-205 of document 02): what the record at the start of some call bytes says, and its route as a part of those bytes.
 ghost use mathlib.Core.Path.{_≡_};
 ghost use Prim.Native.Nat.{_+_, _≤_, _<_, min};
 ghost use lib.ListN.{length, getD};
@@ -17,7 +17,7 @@ pub enum Kind {
 // What a record says: its call, the session's number (0 for a quote), the place after the bytes before its route, and the place after the record.
 pub struct Record {
     pub kind: Kind,
-    pub number: u16,
+    pub number: u32,
     pub start: usize,
     pub end: usize,
 }
@@ -56,7 +56,7 @@ fn unreadable(bytes: usize) -> Record
 
 // A record of a kind, its number in `width` bytes after the kind, which is to end within `rest`.
 fn within(rest: &[u8], kind: Kind, width: usize, start: usize, end: usize) -> Record
-    requires { ⌜ (width ≤ 2) × (1 + width ≤ end) ⌝ }
+    requires { ⌜ (width ≤ 4) × (1 + width ≤ end) ⌝ }
     ensures { λ r. ⌜ r ≡ recordWithin kind width start end (now (rest .entry)) ⌝ }
 {
     if rest.len() < end {
@@ -64,7 +64,7 @@ fn within(rest: &[u8], kind: Kind, width: usize, start: usize, end: usize) -> Re
     }
     Record {
         kind,
-        number: numbers::read_number(&rest[1..], width) as u16,
+        number: numbers::read_number(&rest[1..], width) as u32,
         start,
         end,
     }
@@ -72,7 +72,7 @@ fn within(rest: &[u8], kind: Kind, width: usize, start: usize, end: usize) -> Re
 
 // A record whose number is followed by a route's length and the route.
 fn with_route(rest: &[u8], kind: Kind, width: usize) -> Record
-    requires { ⌜ width ≤ 2 ⌝ }
+    requires { ⌜ width ≤ 4 ⌝ }
     ensures { λ r. ⌜ r ≡ routedRecord kind width (now (rest .entry)) ⌝ }
 {
     let start = 2 + width;
@@ -92,6 +92,8 @@ pub fn read_record(rest: &[u8]) -> Record
         1 => with_route(rest, Kind::SetUp, 2),
         2 => with_route(rest, Kind::Quote, 0),
         3 => within(rest, Kind::Release, 2, 3, 3),
+        4 => with_route(rest, Kind::SetUp, 4),
+        5 => within(rest, Kind::Release, 4, 5, 5),
         _ => unreadable(rest.len()),
     }
 }

@@ -116,7 +116,7 @@ fn show(shown: Shown, out: &mut [u16]) -> u64
 
 // Lookup on the state after call records: how many hops the live session with the number has, its delay, and the link, the frame and the cycle of each hop.
 #[no_mangle]
-pub extern "C" fn frames_lookup(file: &[u8], calls: &[u8], number: u16, out: &mut [u16]) -> u64
+pub extern "C" fn frames_lookup(file: &[u8], calls: &[u8], number: u32, out: &mut [u16]) -> u64
     ensures { λ r. ⌜ Exports (lookupAfter (now (file .entry)) (now (calls .entry)) number (length (now (out .entry)))) (now (out .entry)) (now (out .exit)) r ⌝ }
 {
     let loaded = network_file::read_network(file);

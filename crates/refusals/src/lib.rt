@@ -26,7 +26,7 @@ pub enum Refusal {
     ClosedOutside,
     // 10. Bytes follow the last record.
     BytesFollow,
-    // 11. A call record's kind isn't 1 to 3, or the record runs past the end.
+    // 11. A call record's kind isn't 1 to 5 (W-205), or the record runs past the end.
     UnreadableCall,
     // 12. The route is empty or has over 8 links.
     RouteLength,

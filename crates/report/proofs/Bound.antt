@@ -33,7 +33,8 @@ use Rattle.ledger.proofs.Refused.{not-eighteen}
 use Rattle.ledger.proofs.Kept.{next-intact}
 use Rattle.routes.proofs.Hops.{route-ready, route-all-ready}
 use Rattle.call_records.specs.Records.{firstCall, callsIn, counted}
-use Rattle.call_records.proofs.Calls.{TookBy, first-took, by-records, no-calls, first-then-rest}
+use Rattle.call_records.proofs.Said.{TookBy}
+use Rattle.call_records.proofs.Calls.{first-took, by-records, no-calls, first-then-rest}
 use Rattle.text.specs.Characters.{questionMark}
 use Rattle.text.specs.Lines.{letterOf, line, liveLine}
 use Rattle.text.proofs.Long.{scheduled-long, freed-long, refused-long, blocked-long, live-long, network-long}

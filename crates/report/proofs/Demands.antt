@@ -12,7 +12,8 @@ use Rattle.ledger.specs.Demand.{fresh, Runs, over, callThen}
 use Rattle.ledger.proofs.Whole.{demand3}
 use Rattle.call_records.specs.Records.{firstCall, callsIn, counted}
 use Rattle.call_records.specs.Served.{viewAfterAll}
-use Rattle.call_records.proofs.Calls.{TookBy, first-took, by-records, no-calls, first-then-rest}
+use Rattle.call_records.proofs.Said.{TookBy}
+use Rattle.call_records.proofs.Calls.{first-took, by-records, no-calls, first-then-rest}
 use Rattle.text.specs.Characters.{questionMark}
 use Rattle.text.specs.Lines.{letterOf, line, liveLine}
 use Rattle.report.specs.Transcript.{linesOf, transcript}

@@ -74,7 +74,7 @@ fn put_verdict(out: &mut [u8], at: usize, place: u32, verdict: Verdict) -> usize
 }
 
 // A set-up and its line.
-fn set_up(st: State, number: u16, route: &[u8], place: u32, out: &mut [u8], at: usize) -> Turn
+fn set_up(st: State, number: u32, route: &[u8], place: u32, out: &mut [u8], at: usize) -> Turn
     requires { ⌜ (intact (viewOf st) ≡ true) × (at + length (lineOf place (viewOf st) (given (SetUp number (now route)))) ≤ length (now out)) ⌝ }
     ensures { λ r. ⌜ Turns st (given (SetUp number (now (route .entry)))) place at (now (out .entry)) (now (out .exit)) r ⌝ }
 {
@@ -102,7 +102,7 @@ fn quote(st: State, route: &[u8], place: u32, out: &mut [u8], at: usize) -> Turn
 }
 
 // A release and its line.
-fn release(st: State, number: u16, place: u32, out: &mut [u8], at: usize) -> Turn
+fn release(st: State, number: u32, place: u32, out: &mut [u8], at: usize) -> Turn
     requires { ⌜ (intact (viewOf st) ≡ true) × (at + length (lineOf place (viewOf st) (given (Release number))) ≤ length (now out)) ⌝ }
     ensures { λ r. ⌜ Turns st (given (Release number)) place at (now (out .entry)) (now (out .exit)) r ⌝ }
 {

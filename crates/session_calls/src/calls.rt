@@ -41,7 +41,7 @@ fn begin(line: &[u8]) -> Begun {
 }
 
 // A set-up, or a quote, which never changes a state.
-pub(super) fn served(st: State, number: u16, route: &[u8], quotes: bool) -> State {
+pub(super) fn served(st: State, number: u32, route: &[u8], quotes: bool) -> State {
     let served = if quotes {
         sessions::quote(st, route)
     } else {
@@ -85,7 +85,7 @@ fn route_call(st: State, line: &[u8], k: usize, letter: u8) -> State
     }
     served(
         st,
-        lines::word(lines::number(line, 1)),
+        lines::session(lines::number(line, 1)),
         route,
         letter == b'Q',
     )
@@ -95,14 +95,14 @@ fn route_call(st: State, line: &[u8], k: usize, letter: u8) -> State
 pub(super) fn number_call(st: State, letter: u8, x: usize) -> State {
     match letter {
         b'R' => {
-            let released = sessions::release(st, lines::word(x));
+            let released = sessions::release(st, lines::session(x));
             let verdict = released.verdict;
             show::verdict(verdict);
             show::after(same::after(verdict, st, released.state));
             released.state
         }
         b'L' | b'E' => {
-            let looked = sessions::lookup(st, lines::word(x));
+            let looked = sessions::lookup(st, lines::session(x));
             let shown = looked.shown;
             show::session(shown, letter);
             show::after(same::state(st, looked.state));
@@ -128,7 +128,7 @@ fn with_verdict(accepted: u64, verdict: Verdict) -> u64 {
 }
 
 // A set-up or a release: its verdict, and the state after it.
-fn set_up_or_release(st: State, number: u16, route: &[u8], sets_up: bool) -> Released {
+fn set_up_or_release(st: State, number: u32, route: &[u8], sets_up: bool) -> Released {
     if !sets_up {
         return sessions::release(st, number);
     }
@@ -144,8 +144,8 @@ fn set_up_or_release(st: State, number: u16, route: &[u8], sets_up: bool) -> Rel
 fn many(st: State, line: &[u8], sets_up: bool) -> State {
     let one = [lines::byte(lines::number(line, 3)); 1];
     let route: &[u8] = &one;
-    let to = lines::word(lines::number(line, 2));
-    let mut number = lines::word(lines::number(line, 1));
+    let to = lines::session(lines::number(line, 2));
+    let mut number = lines::session(lines::number(line, 1));
     let mut next = st;
     let mut accepted: u64 = 0;
     let mut same = true;

@@ -42,3 +42,8 @@ pub(super) fn byte(x: usize) -> u8 {
 pub(super) fn word(x: usize) -> u16 {
     (x % 65536) as u16
 }
+
+// The number of a session.
+pub(super) fn session(x: usize) -> u32 {
+    (x % 4294967296) as u32
+}

@@ -116,7 +116,7 @@ fn broken_answer(st: State) -> Served
 
 // Set-up: holds the frames of the least-delay schedule over the route for a session of this number. Refuses with 0, 12 to 17, or 18 with
 // the count.
-pub fn set_up(st: State, number: u16, route: &[u8]) -> Served
+pub fn set_up(st: State, number: u32, route: &[u8]) -> Served
     ensures { λ r. ⌜ Serves st (SetUp number (now (route .entry))) r ⌝ }
 {
     if state_check::broken(st) {
@@ -139,7 +139,7 @@ pub fn quote(st: State, route: &[u8]) -> Served
 }
 
 // Release: frees exactly the frames of the session with the number. Refuses with 0 or 19.
-pub fn release(st: State, number: u16) -> Released
+pub fn release(st: State, number: u32) -> Released
     ensures { λ r. ⌜ Releases st number r ⌝ }
 {
     if state_check::broken(st) {
@@ -182,7 +182,7 @@ fn shown_place(place: Place) -> Shown
 }
 
 // Lookup: the route, frames, cycles and delay of the live session with the number. Refuses with 0 or 19.
-pub fn lookup(st: State, number: u16) -> Looked
+pub fn lookup(st: State, number: u32) -> Looked
     ensures { λ r. ⌜ Looks st number r ⌝ }
 {
     if state_check::broken(st) {

@@ -153,7 +153,7 @@ pub fn quote(st: State, route: &[u8]) -> Quoted
 }
 
 // Whether the number is live.
-fn is_live(table: Table, number: u16) -> bool
+fn is_live(table: Table, number: u32) -> bool
     requires { ⌜ table .live ≤ 96 ⌝ }
     ensures { λ r. ⌜ r ≡ isLive number (liveOf table) ⌝ }
 {
@@ -168,7 +168,7 @@ fn is_full(live: usize) -> bool
 }
 
 // The checks of a set-up after 0: 12 to 17.
-fn check_set_up(network: Network, table: Table, number: u16, route: &[u8]) -> Verdict
+fn check_set_up(network: Network, table: Table, number: u32, route: &[u8]) -> Verdict
     requires { ⌜ (networkCheck (topologyOf network) ≡ given pass) × (table .live ≤ 96) ⌝ }
     ensures { λ r. ⌜ ruling r ≡ callCheck (topologyOf network) (liveOf table) (SetUp number (now (route .entry))) ⌝ }
 {
@@ -188,7 +188,7 @@ fn check_set_up(network: Network, table: Table, number: u16, route: &[u8]) -> Ve
 }
 
 // A session of this number over the route, as it is stored. Check 12: the route has at most 8 links.
-fn new_place(number: u16, route: &[u8], held: Held) -> Place
+fn new_place(number: u32, route: &[u8], held: Held) -> Place
     requires { ⌜ length (now route) ≤ 8 ⌝ }
     ensures { λ r. ⌜ sessionOf r ≡ record { number = number; route = now (route .entry); held = holdingOf (length (now (route .entry))) held } ⌝ }
 {
@@ -202,7 +202,7 @@ fn new_place(number: u16, route: &[u8], held: Held) -> Place
 
 // Set-up: holds the frames of the least-delay schedule over the route, or refuses and leaves all as it was.
 // Form: the search's enum is taken apart by `let .. else`, and its refusal passed on before anything is held.
-pub fn set_up(st: State, number: u16, route: &[u8]) -> Served
+pub fn set_up(st: State, number: u32, route: &[u8]) -> Served
     requires { ⌜ intact (viewOf st) ≡ true ⌝ }
     ensures { λ r. ⌜ Serves st (SetUp number (now (route .entry))) r ⌝ }
 {
@@ -238,7 +238,7 @@ pub fn set_up(st: State, number: u16, route: &[u8]) -> Served
 }
 
 // Release: frees exactly the frames of the session with the number.
-pub fn release(st: State, number: u16) -> Released
+pub fn release(st: State, number: u32) -> Released
     requires { ⌜ intact (viewOf st) ≡ true ⌝ }
     ensures { λ r. ⌜ Releases st number r ⌝ }
 {

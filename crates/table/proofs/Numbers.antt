@@ -1,70 +1,67 @@
--- The words of the numbers of sessions, 64 numbers to a word. Assumes nothing.
-use mathlib.Core.Path.{_≡_, refl, sym, ap, subst, _∙_}
-use mathlib.Core.Bool.{Bool, true, false, _&&_, _||_}
-use mathlib.Core.List.{List}
-use Prim.Native.Nat.{ℕ, _+_, _*_, _/_, _%_, _<_}
+-- The numbers of the sessions in the first places, one after the other. Assumes nothing.
+use mathlib.Core.Path.{_≡_, refl, sym, ap, ap₂, _∙_}
+use mathlib.Core.Bool.{Bool, false, _||_}
+use mathlib.Core.List.{List, [], _∷_, _++_, map-append}
+use Prim.Native.Nat.{ℕ, _+_, _<_, _≤_}
 use native.Mathlib.Omega.{arith}
-use lib.ListN.{getD, set, replicate}
+use lib.ListN.{length, getD, set, replicate, length-set}
+use lib.Seq.{getD-set-same}
 use lib.Dec.{eqb}
-use borrow.Author.Tests.{eq-eqb, eqb-true, eqb-false}
 use Rattle.places.specs.Places.{firsts}
-use Rattle.words.specs.Word.{bitOf, withBit, Words}
+use Rattle.places.proofs.Firsts.{firsts-snoc, firsts-past}
 use Rattle.ledger.specs.Lists.{anyOf, anyTwo}
 use Rattle.ledger.specs.Sessions.{Session}
 use Rattle.ledger.specs.Sound.{sameNumber, numberTwice}
 use Rattle.ledger.proofs.Lists.{any-snoc}
+use Rattle.ledger.proofs.Shown.{numbersOf}
 use Rattle.table.specs.declared.Place.{Place}
 use Rattle.table.specs.Table.{sessionOf, noPlace, inPlaces}
 use Rattle.table.proofs.Live.{in-snoc}
-use Rattle.table.proofs.Banks.{words-bit, words-same, words-none, words-put}
 
--- some of the first i sessions has the number 64 × a + b
-pub seenIn : List Place → ℕ → ℕ → ℕ → Bool
-seenIn places i a b = anyOf (λ s. eqb (64 * a + b) (s .number)) (inPlaces i places)
+-- ---- whether a number is one of the first j
+module _ (number : ℕ) (numbers : List ℕ) where
+  pub none-met : false ≡ anyOf (eqb number) (firsts 0 numbers 0)
+  unfolding firsts
+  none-met = refl
 
-pub none-seen : (places : List Place) → Words 1024 (replicate 1024 0) (seenIn places 0)
-unfolding firsts seenIn
-none-seen places = words-none 1024
+  pub one-met : (j : ℕ) (met : Bool) → met ≡ anyOf (eqb number) (firsts j numbers 0) → (met || eqb number (getD numbers j 0)) ≡ anyOf (eqb number) (firsts (j + 1) numbers 0)
+  one-met j met e =
+      ap (λ (b : Bool). b || eqb number (getD numbers j 0)) e
+      ∙ sym (ap (anyOf (eqb number)) (firsts-snoc j numbers 0) ∙ any-snoc (eqb number) (firsts j numbers 0) (getD numbers j 0))
 
--- the bit of a number
-pub number-seen : (places : List Place) (i : ℕ) (seen : List ℕ) → Words 1024 seen (seenIn places i) → (n : ℕ) → n ≡ getD places i noPlace .number → n < 65536
-    → bitOf (getD seen (n / 64) 0) (n % 64) ≡ anyOf (λ s. sameNumber s (sessionOf (getD places i noPlace))) (inPlaces i places)
-unfolding seenIn
-number-seen places i seen w n e h =
-    words-bit 1024 seen (seenIn places i) w (n / 64) (n % 64) (omega (arith, h)) (omega arith)
-    ∙ ap (λ (m : ℕ). anyOf (λ s. eqb m (s .number)) (inPlaces i places)) {x = 64 * (n / 64) + n % 64} {y = getD places i noPlace .number} (omega (arith, e))
+  pub all-met : (n j : ℕ) (met : Bool) → met ≡ anyOf (eqb number) (firsts j numbers 0) → j ≤ n → n ≤ j → met ≡ anyOf (eqb number) (firsts n numbers 0)
+  all-met n j met e h k = e ∙ ap (λ (m : ℕ). anyOf (eqb number) (firsts m numbers 0)) {x = j} {y = n} (omega arith)
 
-same-parts : (n a b : ℕ) → b < 64 → (eqb (n / 64) a && eqb (n % 64) b) ≡ eqb (64 * a + b) n
-same-parts n a b h = go (eqb (64 * a + b) n) refl
-  where
-    both : (x y : Bool) → x ≡ true → y ≡ true → (x && y) ≡ true
-    both true true p q = refl
-    both true false p q = q
-    both false y p q = p
+-- ---- the numbers of the first i sessions
+pub record Numbered (places : List Place) (i : ℕ) (numbers : List ℕ) : Type 0 where
+  pub long : length numbers ≡ 96
+  pub same : firsts i numbers 0 ≡ numbersOf (inPlaces i places)
 
-    go : (z : Bool) → eqb (64 * a + b) n ≡ z → (eqb (n / 64) a && eqb (n % 64) b) ≡ z
-    go true e =
-        let q : 64 * a + b ≡ n = eqb-true (64 * a + b) n e in
-        both (eqb (n / 64) a) (eqb (n % 64) b) (eq-eqb (n / 64) a (omega (arith, q, h))) (eq-eqb (n % 64) b (omega (arith, q, h)))
-    go false e = apart (eqb (n / 64) a) (eqb (n % 64) b) refl refl
+module _ (places : List Place) where
+  pub none-numbered : Numbered places 0 (replicate 96 0)
+  unfolding firsts
+  none-numbered = record { long = refl; same = refl }
+
+  module _ (i : ℕ) (numbers : List ℕ) (h : Numbered places i numbers) where
+    pub one-numbered : i < 96 → Numbered places (i + 1) (set numbers i (getD places i noPlace .number))
+    one-numbered l =
+        let n : ℕ = getD places i noPlace .number in
+        record {
+          long = length-set numbers i n ∙ h .long;
+          same =
+              firsts-snoc i (set numbers i n) 0
+              ∙ ap₂ (λ (ns : List ℕ) (m : ℕ). ns ++ (m ∷ [])) (firsts-past i i numbers n 0 (omega arith) ∙ h .same) (getD-set-same numbers i n 0 (omega (arith, h .long)))
+              ∙ sym (ap numbersOf (in-snoc i places) ∙ rw map-append);
+        }
+
+    -- one of them is that of the next session
+    pub number-met : (b : Bool) → b ≡ anyOf (eqb (getD places i noPlace .number)) (firsts i numbers 0)
+        → b ≡ anyOf (λ s. sameNumber s (sessionOf (getD places i noPlace))) (inPlaces i places)
+    number-met b e = e ∙ ap (anyOf (eqb (getD places i noPlace .number))) (h .same) ∙ any-map (eqb (getD places i noPlace .number)) (inPlaces i places)
       where
-        apart : (x y : Bool) → eqb (n / 64) a ≡ x → eqb (n % 64) b ≡ y → (x && y) ≡ false
-        apart true true p q =
-            absurd (eqb-false (64 * a + b) n e (omega (arith, eqb-true (n / 64) a p, eqb-true (n % 64) b q)))
-        apart true false p q = refl
-        apart false y p q = refl
-
--- the bit of one number more
-pub number-put : (places : List Place) (i : ℕ) (seen : List ℕ) → Words 1024 seen (seenIn places i) → (n : ℕ) → n ≡ getD places i noPlace .number → n < 65536
-    → (x : ℕ) → x ≡ withBit 64 (getD seen (n / 64) 0) (n % 64) → Words 1024 (set seen (n / 64) x) (seenIn places (i + 1))
-unfolding seenIn
-number-put places i seen w n e h x ex =
-    subst (λ (y : ℕ). Words 1024 (set seen (n / 64) y) (seenIn places (i + 1))) (sym ex)
-    (words-same 1024 _ (λ a b. seenIn places i a b || (eqb (n / 64) a && eqb (n % 64) b)) (seenIn places (i + 1))
-    (λ a b ha hb.
-    ap (λ (x : Bool). seenIn places i a b || x) (same-parts n a b hb ∙ ap (λ (m : ℕ). eqb (64 * a + b) m) e)
-    ∙ sym (ap (anyOf (λ s. eqb (64 * a + b) (s .number))) (in-snoc i places) ∙ any-snoc (λ s. eqb (64 * a + b) (s .number)) (inPlaces i places) (sessionOf (getD places i noPlace))))
-    (words-put 1024 seen (seenIn places i) w (n / 64) (n % 64) (omega (arith, h))))
+        any-map : (p : ℕ → Bool) (ss : List Session) → anyOf p (numbersOf ss) ≡ anyOf (λ s. p (s .number)) ss
+        any-map p [] = refl
+        any-map p (s ∷ ss) = ap (λ (x : Bool). p (s .number) || x) (any-map p ss)
 
 -- "a number is live twice", by twos
 pub numbers-rule : (ss : List Session) → anyTwo sameNumber ss ≡ numberTwice ss

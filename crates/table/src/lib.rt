@@ -8,6 +8,7 @@ ghost use mathlib.Core.Path.{_≡_};
 ghost use mathlib.Core.List.{[], _∷_, _++_};
 ghost use Prim.Native.Nat.{_<_, _≤_};
 ghost use lib.ListN.{length};
+ghost use lib.Dec.{eqb};
 ghost use Rattle.places.specs.Places.{firsts};
 ghost use Rattle.ledger.specs.Lists.{anyOf, keep};
 ghost use Rattle.ledger.specs.Held.{noHolding, holdingOf, heldPlaces};
@@ -18,13 +19,13 @@ ghost use Rattle.ledger.specs.Calls.{otherThan};
 ghost use Rattle.table.specs.Table.{sessionOf, liveOf, placeOf};
 ghost use Rattle.table.specs.Inner.{Within, PlaceWithin, AllWithin, Marked, markedIn};
 
-// A session as it is stored ("Calls on sessions"): how many hops it has, their links, hop 0 first, what it holds, and its number. The number stands beside the
-// delay, of the same size, so that a place has 40 bytes and not 48.
+// A session as it is stored ("Calls on sessions"; W-205: "A session stores 32 bits"): how many hops it has, their links, hop 0 first, what it holds, and its
+// number. The number stands after the delay, so that a place has 40 bytes and not 48.
 pub struct Place {
     pub hops: usize,
     pub route: [u8; 8],
     pub held: Held,
-    pub number: u16,
+    pub number: u32,
 }
 
 // The live sessions: how many, and their places.
@@ -34,7 +35,7 @@ pub struct Table {
 }
 
 // The place of the session with the number; where none has it, how many there are.
-pub fn place_of(table: Table, number: u16) -> usize
+pub fn place_of(table: Table, number: u32) -> usize
     requires { ⌜ table .live ≤ 96 ⌝ }
     ensures { λ r. ⌜ r ≡ placeOf number (liveOf table) ⌝ }
 {
@@ -63,7 +64,7 @@ pub fn with_place(table: Table, place: Place) -> Table
 }
 
 // The table without the session of the number, the others in their order.
-pub fn without(table: Table, number: u16) -> Table
+pub fn without(table: Table, number: u32) -> Table
     requires { ⌜ table .live ≤ 96 ⌝ }
     ensures { λ r. ⌜ liveOf r ≡ keep (otherThan number) (liveOf table) ⌝ }
 {
@@ -169,22 +170,35 @@ pub fn frame_twice(table: Table) -> bool
     false
 }
 
-// Whether a number is live twice: each number is marked in a word of its own bits, so that the work goes with the live sessions.
+// Whether a number is one of the first n. It looks at all of them, whatever it meets: a loop with one way out compares four at a time.
+fn among(number: u32, numbers: &[u32; 96], n: usize) -> bool
+    requires { ⌜ n ≤ 96 ⌝ }
+    ensures { λ r. ⌜ r ≡ anyOf (eqb number) (firsts n (now (numbers .entry)) 0) ⌝ }
+{
+    let mut met = false;
+    let mut j: usize = 0;
+    while j < n {
+        met = met | (number == numbers[j]);
+        j += 1;
+    }
+    met
+}
+
+// Whether a number is live twice: each is compared with those before it, by all its 32 bits.
 pub fn number_twice(table: Table) -> bool
     requires { ⌜ table .live ≤ 96 ⌝ }
     ensures { λ r. ⌜ r ≡ numberTwice (liveOf table) ⌝ }
 {
     let live = table.live;
-    let mut seen = [0u64; 1024];
+    let mut numbers = [0u32; 96];
     let mut i: usize = 0;
     while i < live {
         let place = table.places[i];
-        let at = (place.number / 64) as usize;
-        let bit = place.number % 64;
-        if words::has_bit(seen[at], bit) {
+        let number = place.number;
+        if among(number, &numbers, i) {
             return true;
         }
-        seen[at] = words::set_bit(seen[at], bit);
+        numbers[i] = number;
         i += 1;
     }
     false
