@@ -1,4 +1,5 @@
 pub mod Records
 pub mod Reading
 pub mod Served
+pub mod Widths
 pub mod Inner
