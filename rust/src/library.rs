@@ -15,7 +15,7 @@ extern "C" {
         file_len: usize,
         calls: *const u8,
         calls_len: usize,
-        number: u16,
+        number: u32,
         out: *mut u16,
         out_len: usize,
     ) -> u64;
@@ -122,7 +122,7 @@ pub fn report(file: &[u8], calls: &[u8], out: &mut [u8]) -> Result<usize, u64> {
 /// Looks a session up after the calls: puts hops, delay, the links, the frames and their cycles at the start of `out`
 /// and answers how many numbers these are, at most `SESSION_MOST`, or answers the refusal number. `out` stays as it was
 /// behind them, and as a whole where the lookup is refused.
-pub fn lookup(file: &[u8], calls: &[u8], number: u16, out: &mut [u16]) -> Result<usize, u64> {
+pub fn lookup(file: &[u8], calls: &[u8], number: u32, out: &mut [u16]) -> Result<usize, u64> {
     // SAFETY: each pointer comes with the length of the slice it was taken from.
     length_or_refusal(unsafe {
         frames_lookup(

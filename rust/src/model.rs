@@ -1,6 +1,6 @@
 //! The program `frames` as a plain model: the calls, their refusals, the ledger and the text; lookup, free frames and ways.
 
-use crate::call_records::{read_call, Call};
+use crate::call_records::{read_call, Call, Read};
 use crate::network_file::{read_network, refuse, Link, Network, Refusal};
 use crate::route::{self, Answer, Hop, MAX_HOPS};
 use crate::ways;
@@ -28,7 +28,7 @@ struct Found {
 /// An entry of the ledger: a live session's number, route, frames, their cycles and delay.
 #[derive(Clone)]
 pub struct Session {
-    pub number: u16,
+    pub number: u32,
     pub route: Vec<u8>,
     pub frames: Vec<u8>,
     pub cycles: Vec<u8>,
@@ -66,6 +66,11 @@ pub trait Rules {
         INPUT_LIMIT
     }
 
+    /// Reads the call record at the start of the bytes.
+    fn read_call<'a>(&self, bytes: &'a [u8]) -> Read<'a> {
+        read_call(bytes)
+    }
+
     /// Where a record can't be read: the bytes from which on calls are served all the same, here none.
     fn after_unreadable<'a>(&self, _rest: &'a [u8]) -> &'a [u8] {
         &[]
@@ -91,7 +96,7 @@ pub trait Rules {
         &self,
         network: &Network,
         ledger: &Ledger,
-        number: u16,
+        number: u32,
         route: &[u8],
     ) -> Result<(), Refusal> {
         self.check_route(network, route)?;
@@ -100,13 +105,23 @@ pub trait Rules {
     }
 
     /// Check 16 of a set-up.
-    fn check_number(&self, ledger: &Ledger, number: u16) -> Result<(), Refusal> {
+    fn check_number(&self, ledger: &Ledger, number: u32) -> Result<(), Refusal> {
         refuse(16, ledger.place_of(number).is_some())
     }
 
     /// Check 17 of a set-up.
     fn check_places(&self, ledger: &Ledger) -> Result<(), Refusal> {
         refuse(17, ledger.sessions.len() >= self.places())
+    }
+
+    /// The number that a session is entered with.
+    fn entered(&self, number: u32) -> u32 {
+        number
+    }
+
+    /// Where the session stands that a release of that number strikes out; check 19.
+    fn to_release(&self, ledger: &Ledger, number: u32) -> Option<usize> {
+        ledger.place_of(number)
     }
 
     /// Frees the frames of a session that has just been struck out.
@@ -169,7 +184,7 @@ fn serve_all(rules: &impl Rules, network: &Network, calls: &[u8], text: &mut Vec
     let mut place = 0;
     while !rest.is_empty() {
         place += 1;
-        match read_call(rest) {
+        match rules.read_call(rest) {
             Err(refusal) => {
                 line(text, format_args!("{place} ? no {refusal}"));
                 rest = rules.after_unreadable(rest);
@@ -212,7 +227,7 @@ fn serve(rules: &impl Rules, network: &Network, ledger: &mut Ledger, call: Call<
             }
             let outcome = search(rules, network, ledger, route);
             if let Outcome::Schedule(found) = &outcome {
-                ledger.enter(number, route, found);
+                ledger.enter(rules.entered(number), route, found);
             }
             outcome
         }
@@ -226,7 +241,7 @@ fn serve(rules: &impl Rules, network: &Network, ledger: &mut Ledger, call: Call<
             }
             outcome
         }
-        Call::Release { number } => match ledger.place_of(number) {
+        Call::Release { number } => match rules.to_release(ledger, number) {
             None => Outcome::Refused(19),
             Some(place) => {
                 let session = ledger.sessions.swap_remove(place);
@@ -286,12 +301,12 @@ impl Ledger {
     }
 
     /// Where the live session of that number stands.
-    pub fn place_of(&self, number: u16) -> Option<usize> {
+    pub fn place_of(&self, number: u32) -> Option<usize> {
         self.sessions.iter().position(|s| s.number == number)
     }
 
     /// Enters a session and holds its frames.
-    fn enter(&mut self, number: u16, route: &[u8], found: &Found) {
+    fn enter(&mut self, number: u32, route: &[u8], found: &Found) {
         for (&link, &frame) in route.iter().zip(&found.frames) {
             self.held[usize::from(link)] |= 1 << frame;
         }
@@ -328,7 +343,7 @@ impl Session {
 
 impl State {
     /// The live session of that number; check 19.
-    pub fn lookup(&self, number: u16) -> Result<&Session, Refusal> {
+    pub fn lookup(&self, number: u32) -> Result<&Session, Refusal> {
         let place = self.ledger.place_of(number).ok_or(19u32)?;
         Ok(&self.ledger.sessions[place])
     }
@@ -353,7 +368,7 @@ impl State {
 }
 
 /// What a lookup after the calls hands out, where so many numbers are room for it: the refusal of the file, 19, 20.
-pub fn lookup(stored: &Stored, number: u16, room: usize) -> Result<Vec<u16>, Refusal> {
+pub fn lookup(stored: &Stored, number: u32, room: usize) -> Result<Vec<u16>, Refusal> {
     let state = stored.as_ref().map_err(Refusal::clone)?;
     let shown = state.lookup(number)?.shown();
     refuse(20, room < shown.len())?;
@@ -470,12 +485,17 @@ mod tests {
     #[test]
     fn broken_call_records() {
         assert_eq!(text(&TWO_LINKS, &[]), "live 0\n");
-        assert_eq!(text(&TWO_LINKS, &[4, 1, 0]), "1 ? no 11\nlive 0\n");
+        assert_eq!(text(&TWO_LINKS, &[0, 1, 0]), "1 ? no 11\nlive 0\n");
+        assert_eq!(text(&TWO_LINKS, &[6; 20]), "1 ? no 11\nlive 0\n");
         assert_eq!(
             text(&TWO_LINKS, &[1, 7, 0, 1, 0, 0]),
             "1 S ok 0 0 0 / 0\n2 ? no 11\nlive 1\n"
         );
-        assert_eq!(text(&TWO_LINKS, &[1, 7, 0, 2, 0]), "1 ? no 11\nlive 0\n");
+        for cut in [&[1, 7, 0, 2, 0][..], &[4, 7, 0, 0, 0, 2, 0], &[5, 7, 0, 0]] {
+            for length in 1..=cut.len() {
+                assert_eq!(text(&TWO_LINKS, &cut[..length]), "1 ? no 11\nlive 0\n");
+            }
+        }
         let mut long = vec![2, 200];
         long.extend([0; 200]);
         assert_eq!(text(&TWO_LINKS, &long[..201]), "1 ? no 11\nlive 0\n");
@@ -492,10 +512,56 @@ mod tests {
         let calls = [3, 0, 0].repeat(21_846);
         let text = text(&TWO_LINKS, &calls);
         assert!(text.ends_with("21845 R no 19\n21846 ? no 11\nlive 0\n"));
+        // With numbers of four bytes 13,107 fill as many, and four bytes of the next record lie beyond the limit.
+        let calls = [5, 0, 0, 0, 0].repeat(13_108);
+        let text = self::text(&TWO_LINKS, &calls);
+        assert!(text.ends_with("13107 R no 19\n13108 ? no 11\nlive 0\n"));
         // 32,768 empty quotes fill the bytes that count; what follows is ignored.
         let calls = [2, 0].repeat(40_000);
         let text = String::from_utf8(transcript(&TWO_LINKS, &calls, dijkstra::least)).unwrap();
         assert!(text.ends_with("\n32768 Q no 12\nlive 0\n"));
+    }
+
+    #[test]
+    fn one_number_in_two_bytes_and_in_four() {
+        let calls: [&[u8]; 7] = [
+            &[4, 5, 0, 0, 0, 1, 0],
+            &[1, 5, 0, 1, 1],
+            &[3, 5, 0],
+            &[1, 5, 0, 1, 0],
+            &[4, 5, 0, 0, 0, 1, 1],
+            &[5, 5, 0, 0, 0],
+            &[3, 5, 0],
+        ];
+        assert_eq!(
+            text(&TWO_LINKS, &calls.concat()),
+            "1 S ok 0 0 0 / 0\n2 S no 16\n3 R ok\n4 S ok 0 0 0 / 0\n5 S no 16\n6 R ok\n7 R no 19\nlive 0\n"
+        );
+    }
+
+    #[test]
+    fn numbers_alike_in_their_low_16_bits() {
+        // 65,541 gets frame 0 of link 0, is not released by 5, and stands beside 5 with frame 1 and 16,777,221 with frame 2.
+        let calls: [&[u8]; 8] = [
+            &[4, 5, 0, 1, 0, 1, 0],
+            &[3, 5, 0],
+            &[5, 5, 0, 0, 0],
+            &[1, 5, 0, 1, 0],
+            &[4, 5, 0, 0, 1, 1, 0],
+            &[5, 5, 0, 0, 1],
+            &[3, 5, 0],
+            &[2, 1, 0],
+        ];
+        let calls = calls.concat();
+        assert_eq!(
+            text(&TWO_LINKS, &calls),
+            "1 S ok 0 0 0 / 0\n2 R no 19\n3 R no 19\n4 S ok 0 0 1 / 0\n5 S ok 0 0 2 / 0\n6 R ok\n7 R ok\n\
+             8 Q ok 0 0 1 / 0\nlive 1\n"
+        );
+        let stored = after(&TWO_LINKS, &calls);
+        assert_eq!(lookup(&stored, 65_541, 5), Ok(vec![1, 0, 0, 0, 0]));
+        assert_eq!(lookup(&stored, 5, 5), Err(19));
+        assert_eq!(lookup(&stored, 16_777_221, 5), Err(19));
     }
 
     #[test]
@@ -546,6 +612,7 @@ mod tests {
         assert_eq!(lookup(&stored, 6, 8), Ok(vec![2, 6, 1, 0, 7, 0, 0, 1]));
         assert_eq!(lookup(&stored, 7, 8), Err(19));
         assert_eq!(lookup(&stored, 5 + 256, 8), Err(19));
+        assert_eq!(lookup(&stored, 5 + 65_536, 8), Err(19));
         let released = after(&TWO_LINKS, &[&TWO_SESSIONS[..], &[3, 5, 0]].concat());
         assert_eq!(lookup(&released, 5, 8), Err(19));
         assert_eq!(lookup(&released, 6, 8), Ok(vec![2, 6, 1, 0, 7, 0, 0, 1]));
@@ -642,20 +709,22 @@ mod tests {
     #[test]
     fn calls_that_are_not_served() {
         // After a record that can't be read.
-        let stored = after(&TWO_LINKS, &[1, 5, 0, 1, 0, 4, 1, 6, 0, 1, 0]);
+        let stored = after(&TWO_LINKS, &[1, 5, 0, 1, 0, 6, 1, 6, 0, 1, 0]);
         assert_eq!(lookup(&stored, 5, 5), Ok(vec![1, 0, 0, 0, 0]));
         assert_eq!(lookup(&stored, 6, 5), Err(19));
-        // A set-up of five bytes that ends with the bytes that count, and one that ends after them.
-        let set_up = [1, 5, 0, 1, 0];
-        let last = [&[2, 0].repeat(32_764)[..], &[3, 9, 9], &set_up].concat();
-        assert_eq!(last.len(), 65_536);
-        assert_eq!(
-            lookup(&after(&TWO_LINKS, &last), 5, 5),
-            Ok(vec![1, 0, 0, 0, 0])
-        );
-        let across = [&[2, 0].repeat(32_766)[..], &set_up].concat();
-        assert_eq!(across.len(), 65_537);
-        assert_eq!(lookup(&after(&TWO_LINKS, &across), 5, 5), Err(19));
+        // Set-ups of five bytes and of seven that end with the bytes that count, and ones that end after them.
+        for set_up in [&[1, 5, 0, 1, 0][..], &[4, 5, 0, 0, 0, 1, 0]] {
+            let quotes = [2, 0].repeat((65_536 - set_up.len()) / 2 - 1);
+            let last = [&quotes[..], &[3, 9, 9], set_up].concat();
+            assert_eq!(last.len(), 65_536);
+            assert_eq!(
+                lookup(&after(&TWO_LINKS, &last), 5, 5),
+                Ok(vec![1, 0, 0, 0, 0])
+            );
+            let across = [&quotes[..], &[2, 0, 2, 0], set_up].concat();
+            assert_eq!(across.len(), 65_537);
+            assert_eq!(lookup(&after(&TWO_LINKS, &across), 5, 5), Err(19));
+        }
     }
 
     #[test]

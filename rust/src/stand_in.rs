@@ -7,7 +7,7 @@ use std::ops::Not;
 
 /// The exported functions. The writer is handed its values in one.
 pub type Report = dyn Fn(&[u8], &[u8], &mut [u8]) -> Result<usize, u64>;
-pub type Lookup = dyn Fn(&[u8], &[u8], u16, &mut [u16]) -> Result<usize, u64>;
+pub type Lookup = dyn Fn(&[u8], &[u8], u32, &mut [u16]) -> Result<usize, u64>;
 pub type FreeFrames = dyn Fn(&[u8], &[u8], u8) -> Result<u64, u64>;
 pub type Ways = dyn Fn(&[u8], &[u8], &[u8], &mut [u64]) -> Result<usize, u64>;
 pub type Image = dyn Fn(&[u8], &mut [u8]) -> Result<usize, u64>;
@@ -61,7 +61,7 @@ pub fn report_from(room: usize, file: &[u8], calls: &[u8], out: &mut [u8]) -> Re
     put(&text(file, calls), out)
 }
 
-pub fn lookup(file: &[u8], calls: &[u8], number: u16, out: &mut [u16]) -> Result<usize, u64> {
+pub fn lookup(file: &[u8], calls: &[u8], number: u32, out: &mut [u16]) -> Result<usize, u64> {
     look_up(stored(file, calls), number, out, |_, session| {
         session.shown()
     })
@@ -70,7 +70,7 @@ pub fn lookup(file: &[u8], calls: &[u8], number: u16, out: &mut [u16]) -> Result
 /// A lookup that hands out of the state and the session what is wished.
 pub fn look_up(
     stored: Stored,
-    number: u16,
+    number: u32,
     out: &mut [u16],
     shown: impl Fn(&State, &Session) -> Vec<u16>,
 ) -> Result<usize, u64> {

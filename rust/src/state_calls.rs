@@ -17,7 +17,7 @@ use crate::wrong_state;
 const MOST_NUMBERS: usize = 2 + 3 * MAX_HOPS;
 
 /// What is known of a number that is looked up. One in the call records that isn't live was released, or its set-up
-/// was refused or never served; one near a live number differs from it by one or in one bit.
+/// was refused or never served; one near a live number differs from it by one, in one bit, or above the low 16 bits alone.
 #[derive(Clone, Copy)]
 enum Origin {
     CallRecords,
@@ -103,7 +103,7 @@ impl StateCalls {
     fn compare_lookup(
         &mut self,
         case: Case<'_>,
-        number: u16,
+        number: u32,
         room: usize,
     ) -> Result<Shown, String> {
         let Input { file, calls } = case.input;
@@ -172,12 +172,12 @@ impl StateCalls {
 
     /// The session numbers to look up: the live ones; of the others in the call records the last and another one; one
     /// near a live number; and any number.
-    fn numbers(&mut self, case: Case<'_>) -> Vec<(Origin, u16)> {
+    fn numbers(&mut self, case: Case<'_>) -> Vec<(Origin, u32)> {
         let live = live_numbers(&case.run.state);
         let mut records = numbers_in(&case.input.calls);
         records.retain(|number| !live.contains(number));
         let random = &mut self.random;
-        let mut numbers = vec![(Origin::Any, random.word() as u16)];
+        let mut numbers = vec![(Origin::Any, random.word() as u32)];
         if let Some(&last) = records.last() {
             let another = random.pick(&records);
             numbers.extend([last, another].map(|number| (Origin::CallRecords, number)));
@@ -191,7 +191,7 @@ impl StateCalls {
     }
 
     /// The rooms for a lookup: enough, and now and then too little; any where it is refused whatever the room.
-    fn rooms(&mut self, stored: &Stored, number: u16) -> Vec<usize> {
+    fn rooms(&mut self, stored: &Stored, number: u32) -> Vec<usize> {
         let random = &mut self.random;
         let Ok(shown) = model::lookup(stored, number, MOST_NUMBERS) else {
             return vec![random.below(MOST_NUMBERS + 2)];
@@ -247,21 +247,23 @@ impl StateCalls {
 }
 
 /// The numbers of the live sessions.
-fn live_numbers(stored: &Stored) -> Vec<u16> {
+fn live_numbers(stored: &Stored) -> Vec<u32> {
     match stored {
         Ok(state) => state.ledger.sessions.iter().map(|s| s.number).collect(),
         Err(_) => Vec::new(),
     }
 }
 
-/// A number that differs from another one by one or in one bit.
-fn near(random: &mut Random, number: u16) -> u16 {
-    let bit = 1 << random.below(16);
-    random.pick(&[number ^ bit, number.wrapping_add(1), number.wrapping_sub(1)])
+/// A number that differs from another one by one, in one bit, or above the low 16 bits alone.
+fn near(random: &mut Random, number: u32) -> u32 {
+    let bit = 1 << random.below(32);
+    let above = (random.between(1, 65_535) as u32) << 16;
+    let (next, before) = (number.wrapping_add(1), number.wrapping_sub(1));
+    random.pick(&[number ^ bit, number ^ above, next, before])
 }
 
 /// The session numbers of call records, also of those after one that can't be read, and of one across the limit.
-fn numbers_in(calls: &[u8]) -> Vec<u16> {
+fn numbers_in(calls: &[u8]) -> Vec<u32> {
     let mut numbers = Vec::new();
     let mut rest = &calls[..calls.len().min(INPUT_LIMIT + 8)];
     while !rest.is_empty() {
@@ -316,7 +318,18 @@ mod tests {
 
     #[test]
     fn numbers_of_all_records() {
-        let calls = [1, 5, 1, 1, 0, 2, 1, 0, 4, 3, 7, 0, 3, 1];
-        assert_eq!(numbers_in(&calls), [261, 7]);
+        let calls: [&[u8]; 6] = [
+            &[1, 5, 1, 1, 0],
+            &[2, 1, 0],
+            &[6],
+            &[4, 7, 0, 1, 0, 1, 0],
+            &[5, 7, 0, 0, 1],
+            &[5, 3, 9, 0, 0],
+        ];
+        let calls = calls.concat();
+        assert_eq!(numbers_in(&calls), [261, 65_543, 16_777_223, 2_307]);
+        // Of the last record a byte is missing, and behind its first one stands a release of 9.
+        let cut = &calls[..calls.len() - 1];
+        assert_eq!(numbers_in(cut), [261, 65_543, 16_777_223, 9]);
     }
 }

@@ -467,7 +467,7 @@ mistake! { QuoteHolds,
 }
 
 mistake! { NumberUnchecked,
-    fn check_number(&self, _ledger: &Ledger, _number: u16) -> Result<(), Refusal> {
+    fn check_number(&self, _ledger: &Ledger, _number: u32) -> Result<(), Refusal> {
         Ok(())
     }
 }
@@ -477,7 +477,7 @@ mistake! { NumberBeforeRoute,
         &self,
         network: &Network,
         ledger: &Ledger,
-        number: u16,
+        number: u32,
         route: &[u8],
     ) -> Result<(), Refusal> {
         self.check_number(ledger, number)?;
@@ -491,7 +491,7 @@ mistake! { PlacesBeforeNumber,
         &self,
         network: &Network,
         ledger: &Ledger,
-        number: u16,
+        number: u32,
         route: &[u8],
     ) -> Result<(), Refusal> {
         self.check_route(network, route)?;
@@ -505,7 +505,7 @@ mistake! { ScheduleBeforePlaces,
         &self,
         network: &Network,
         ledger: &Ledger,
-        number: u16,
+        number: u32,
         route: &[u8],
     ) -> Result<(), Refusal> {
         self.check_route(network, route)?;

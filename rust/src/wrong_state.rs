@@ -23,7 +23,7 @@ pub fn lookups() -> Vec<Wrong<Box<Lookup>>> {
 
 fn wrong_lookup(
     name: &'static str,
-    does: impl Fn(&[u8], &[u8], u16, &mut [u16]) -> Result<usize, u64> + 'static,
+    does: impl Fn(&[u8], &[u8], u32, &mut [u16]) -> Result<usize, u64> + 'static,
 ) -> Wrong<Box<Lookup>> {
     let does = Box::new(does);
     Wrong { name, does }
@@ -204,7 +204,7 @@ fn wrongly_found() -> Vec<Wrong<Box<Lookup>>> {
 }
 
 /// The numbers that a lookup has to put.
-fn numbers(file: &[u8], calls: &[u8], number: u16) -> Result<Vec<u16>, u64> {
+fn numbers(file: &[u8], calls: &[u8], number: u32) -> Result<Vec<u16>, u64> {
     Ok(model::lookup(&stored(file, calls), number, usize::MAX)?)
 }
 
