@@ -1,5 +1,6 @@
 //! Random inputs of the program: a network file and a list of calls.
 
+use crate::call_records::{push_long_release, push_long_set_up};
 use crate::call_records::{push_quote, push_release, push_set_up};
 use crate::model::{Run, INPUT_LIMIT};
 use crate::network_file::{image, Network};
@@ -76,13 +77,14 @@ fn nearly_full(random: &mut Random) -> Input {
         link.closed = closed_frames(random, link.frames, Closing::NearlyAll);
     }
     let mut calls = Vec::new();
+    let pool = Pool::new(random, 8);
     for _ in 0..random.between(2, 10) {
-        let number = random.below(8) as u16;
+        let number = pool.number(random);
         let route = good_route(random, &network);
         match random.below(6) {
-            0 => push_release(&mut calls, number),
+            0 => release(random, number, &mut calls),
             1 => push_quote(&mut calls, &route),
-            _ => push_set_up(&mut calls, number, &route),
+            _ => set_up(random, number, &route, &mut calls),
         }
     }
     Input {
@@ -95,12 +97,13 @@ fn nearly_full(random: &mut Random) -> Input {
 fn listed_routes(random: &mut Random) -> Input {
     let network = listed_network(random);
     let mut calls = Vec::new();
+    let pool = Pool::new(random, 4);
     for _ in 0..random.between(3, 9) {
-        let number = random.below(4) as u16;
+        let number = pool.number(random);
         let route = part_of_all(random, &network);
         match random.below(8) {
-            0 | 1 => push_set_up(&mut calls, number, &route),
-            2 => push_release(&mut calls, number),
+            0 | 1 => set_up(random, number, &route, &mut calls),
+            2 => release(random, number, &mut calls),
             _ => push_quote(&mut calls, &route),
         }
     }
@@ -114,30 +117,34 @@ fn listed_routes(random: &mut Random) -> Input {
 fn random_bytes(random: &mut Random) -> Input {
     let network = network(random, 16);
     let length = random.below(40);
-    let bound = random.pick(&[4, 6, 256]);
+    let bound = random.pick(&[4, 6, 8, 256]);
     Input {
         file: image(&network),
         calls: (0..length).map(|_| random.below(bound) as u8).collect(),
     }
 }
 
-/// Set-ups that fill all 96 places, and then some calls on the full ledger.
+/// Set-ups that fill all 96 places, and then some calls on the full ledger. The numbers follow one another, or have the same
+/// low 16 bits.
 pub fn full_ledger(random: &mut Random) -> Input {
     let network = roomy_network(random);
-    let open_links = network.links.len() as u8 - 1;
-    let first = random.word() as u16;
+    let open_links = network.links.len() - 1;
+    let any = random.word() as u32;
+    let first = random.pick(&[0, 65_500, any]);
+    let distance = random.pick(&[1, 65_536]);
+    let number = |step: usize| first.wrapping_add(step as u32 * distance);
     let mut calls = Vec::new();
     for step in 0..random.pick(&[94, 95, 96, 96, 97, 98]) {
-        let link = (step % u16::from(open_links)) as u8;
-        push_set_up(&mut calls, first.wrapping_add(step), &[link]);
+        let link = (step % open_links) as u8;
+        set_up(random, number(step), &[link], &mut calls);
     }
     for _ in 0..random.between(4, 40) {
-        let number = first.wrapping_add(random.below(130) as u16);
+        let number = number(random.below(130));
         let route = some_route(random, &network);
         match random.below(4) {
-            0 => push_release(&mut calls, number),
+            0 => release(random, number, &mut calls),
             1 => push_quote(&mut calls, &route),
-            _ => push_set_up(&mut calls, number, &route),
+            _ => set_up(random, number, &route, &mut calls),
         }
     }
     Input {
@@ -149,19 +156,18 @@ pub fn full_ledger(random: &mut Random) -> Input {
 /// A list around or over the bytes that count, with a record that ends at the limit or lies across it.
 pub fn over_the_limit(random: &mut Random) -> Input {
     let network = network(random, 8);
-    let numbers = random.pick(&[2, 8, 100]);
-    let last_start = INPUT_LIMIT - random.below(7);
+    let pool = limit_pool(random);
+    let last = last_record(random, &pool);
+    let last_start = INPUT_LIMIT - random.below(last.len() + 2);
     let mut calls = filled(last_start, LONGEST_RECORD, |calls| {
-        good_call(random, &network, numbers, calls)
+        good_call(random, &network, &pool, calls)
     });
-    match random.below(5) {
-        0 => {}
-        1 | 2 => push_release(&mut calls, session_number(random, numbers)),
-        _ => push_set_up(&mut calls, 65_535, &[0]),
+    if random.chance(80) {
+        calls.extend(last);
     }
     if random.chance(60) {
         for _ in 0..random.below(100) {
-            good_call(random, &network, numbers, &mut calls);
+            good_call(random, &network, &pool, &mut calls);
         }
         let more = random.pick(&[0, 0, 1, 100_000]);
         calls.extend(random.bytes(more));
@@ -176,19 +182,17 @@ pub fn over_the_limit(random: &mut Random) -> Input {
 /// read. Long records, which are refused, make up most of it, so that it takes little time.
 fn at_the_limit(random: &mut Random) -> Input {
     let network = network(random, 8);
-    let numbers = random.pick(&[2, 8, 100]);
+    let pool = limit_pool(random);
     let length = INPUT_LIMIT - 1 + random.below(3);
-    let mut last = Vec::new();
-    match random.below(4) {
-        0 => {}
-        1 => push_release(&mut last, session_number(random, numbers)),
-        2 => push_set_up(&mut last, 65_535, &[0]),
-        _ => last.push(random.below(5) as u8),
-    }
+    let last = match random.below(4) {
+        0 => Vec::new(),
+        1 | 2 => last_record(random, &pool),
+        _ => vec![random.below(8) as u8],
+    };
     let mut calls = filled(length - last.len(), LONGEST_RECORD, |calls| {
         match random.below(2) {
             0 => push_quote(calls, &[0; 255]),
-            _ => good_call(random, &network, numbers, calls),
+            _ => good_call(random, &network, &pool, calls),
         }
     });
     calls.extend(last);
@@ -198,8 +202,26 @@ fn at_the_limit(random: &mut Random) -> Input {
     }
 }
 
-/// The longest record is that of a set-up over 255 links.
-const LONGEST_RECORD: usize = 4 + 255;
+/// The session numbers of a list around the limit.
+fn limit_pool(random: &mut Random) -> Pool {
+    let size = random.pick(&[2, 8, 100]);
+    Pool::new(random, size)
+}
+
+/// A short record for the end of a list around the limit: a release, or a set-up of the largest number of its kind.
+fn last_record(random: &mut Random, pool: &Pool) -> Vec<u8> {
+    let mut record = Vec::new();
+    let number = pool.number(random);
+    match random.below(4) {
+        0 | 1 => release(random, number, &mut record),
+        2 => push_set_up(&mut record, u16::MAX, &[0]),
+        _ => push_long_set_up(&mut record, u32::MAX, &[0]),
+    }
+    record
+}
+
+/// The longest record is that of a set-up over 255 links with a number of four bytes.
+const LONGEST_RECORD: usize = 6 + 255;
 
 /// Whole records of so many bytes together: calls of at most `longest` bytes each, and short ones where no such call fits.
 fn filled(length: usize, longest: usize, mut call: impl FnMut(&mut Vec<u8>)) -> Vec<u8> {
@@ -237,13 +259,14 @@ fn damaged_input(random: &mut Random) -> Input {
 /// Calls with session numbers from a pool of the given size; some of their routes are refused.
 fn mixed_calls(random: &mut Random, network: &Network, number: usize, numbers: usize) -> Vec<u8> {
     let mut calls = Vec::new();
+    let pool = Pool::new(random, numbers);
     for _ in 0..number {
-        good_call(random, network, numbers, &mut calls);
+        good_call(random, network, &pool, &mut calls);
     }
     calls
 }
 
-/// So many bytes of calls with 150 session numbers, over routes of any of so many links.
+/// So many bytes of calls with 150 session numbers of two bytes, over routes of any of so many links.
 pub fn calls_of_length(random: &mut Random, links: usize, length: usize) -> Vec<u8> {
     filled(length, 4 + MAX_HOPS, |calls| {
         let number = random.below(150) as u16;
@@ -258,19 +281,68 @@ pub fn calls_of_length(random: &mut Random, links: usize, length: usize) -> Vec<
 }
 
 /// One whole record.
-fn good_call(random: &mut Random, network: &Network, numbers: usize, calls: &mut Vec<u8>) {
-    let number = session_number(random, numbers);
+fn good_call(random: &mut Random, network: &Network, pool: &Pool, calls: &mut Vec<u8>) {
+    let number = pool.number(random);
     match random.below(10) {
-        0..=4 => push_set_up(calls, number, &some_route(random, network)),
+        0..=4 => {
+            let route = some_route(random, network);
+            set_up(random, number, &route, calls);
+        }
         5 | 6 => push_quote(calls, &some_route(random, network)),
-        _ => push_release(calls, number),
+        _ => release(random, number, calls),
     }
 }
 
-/// A number of the pool 0, 256, 1, 257, 2, ...: some share the low byte, some the high byte.
-fn session_number(random: &mut Random, numbers: usize) -> u16 {
-    let place = random.below(numbers) as u16;
-    (place & 1) << 8 | place >> 1
+/// Adds a set-up; where two bytes are enough for its number, of either kind.
+fn set_up(random: &mut Random, number: u32, route: &[u8], calls: &mut Vec<u8>) {
+    match in_two_bytes(random, number) {
+        Some(number) => push_set_up(calls, number, route),
+        None => push_long_set_up(calls, number, route),
+    }
+}
+
+/// Adds a release; where two bytes are enough for its number, of either kind.
+fn release(random: &mut Random, number: u32, calls: &mut Vec<u8>) {
+    match in_two_bytes(random, number) {
+        Some(number) => push_release(calls, number),
+        None => push_long_release(calls, number),
+    }
+}
+
+/// The number in two bytes, in half of the cases where these are enough.
+fn in_two_bytes(random: &mut Random, number: u32) -> Option<u16> {
+    number.try_into().ok().filter(|_| random.chance(50))
+}
+
+/// The session numbers of a list, so many of these: 0, the upper bit, 1, 1 with the upper bit, 256, ..., all with the same bits
+/// flipped. Some differ in the upper bit alone, some in the lowest byte alone, some in the second alone.
+struct Pool {
+    size: usize,
+    upper: u32,
+    flipped: u32,
+}
+
+impl Pool {
+    /// A pool that begins with 0, with 65,535 or with the largest number; the upper bit is any of the upper 16.
+    fn new(random: &mut Random, size: usize) -> Self {
+        Pool {
+            size,
+            upper: 1 << random.between(16, 31),
+            flipped: random.pick(&[0, 0, 0, 0x0000_ffff, 0xffff_ffff]),
+        }
+    }
+
+    /// One of the numbers.
+    fn number(&self, random: &mut Random) -> u32 {
+        self.at(random.below(self.size) as u32)
+    }
+
+    /// The number at a place of the pool.
+    fn at(&self, place: u32) -> u32 {
+        let bit = |bit: u32| place >> bit & 1;
+        let number = (bit(0) * self.upper) | bit(1) | bit(2) << 8 | place >> 3 << 1;
+        number ^ self.flipped
+    }
 }
 
 /// The route over all links in the order of their numbers, or a part of it, or the way back.
@@ -383,19 +455,33 @@ fn without_repeats(route: &[u8]) -> Vec<u8> {
 fn spoil(random: &mut Random, calls: &mut Vec<u8>) {
     match random.below(20) {
         0 | 1 => calls.truncate(random.below(calls.len() + 1)),
-        2 => calls.push(random.pick(&[0, 4, 5, 255])),
+        2 => calls.push(random.pick(&UNKNOWN_KINDS)),
         3 => {
-            let kind = random.pick(&[0, 4, 5, 255]);
+            let kind = random.pick(&UNKNOWN_KINDS);
             calls.insert(random.below(calls.len() + 1), kind);
         }
         4 => {
-            let part: &[u8] = random.pick(&[&[1], &[2], &[3], &[1, 0], &[3, 0], &[1, 0, 0]]);
-            calls.extend(part);
+            let record = random.pick(&RECORDS);
+            calls.extend(&record[..random.between(1, record.len() - 1)]);
         }
         5 => calls.extend([2, 200, 0, 1]),
         _ => {}
     }
 }
+
+/// Kinds that no record has.
+const UNKNOWN_KINDS: [u8; 4] = [0, 6, 7, 255];
+
+/// A record of each kind; those with a number of four bytes have more places to be cut at, and stand here twice.
+const RECORDS: [&[u8]; 7] = [
+    &[1, 0, 0, 2, 0, 1],
+    &[2, 2, 0, 1],
+    &[3, 0, 0],
+    &[4, 0, 0, 0, 0, 2, 0, 1],
+    &[4, 0, 0, 1, 0, 2, 0, 1],
+    &[5, 0, 0, 0, 0],
+    &[5, 0, 0, 1, 0],
+];
 
 /// The hops of a good route on a random network that holds no sessions.
 #[cfg(test)]
@@ -457,6 +543,26 @@ mod tests {
             assert!(route.iter().all(|&link| link < 32));
             assert_eq!(without_repeats(&route), route);
         }
+    }
+
+    #[test]
+    fn numbers_of_a_pool() {
+        let pool = |flipped| Pool {
+            size: 200,
+            upper: 1 << 16,
+            flipped,
+        };
+        let numbers = |flipped| [0, 1, 2, 3, 4, 8].map(|place| pool(flipped).at(place));
+        assert_eq!(numbers(0), [0, 65_536, 1, 65_537, 256, 2]);
+        assert_eq!(
+            numbers(0xffff),
+            [65_535, 131_071, 65_534, 131_070, 65_279, 65_533]
+        );
+        assert_eq!(numbers(u32::MAX)[..2], [4_294_967_295, 4_294_901_759]);
+        let mut all: Vec<u32> = (0..200).map(|place| pool(0).at(place)).collect();
+        all.sort();
+        all.dedup();
+        assert_eq!(all.len(), 200);
     }
 
     #[test]
