@@ -26,6 +26,7 @@ pub mod taken;
 pub mod tried;
 pub mod way_calls;
 pub mod ways;
+pub mod widths;
 pub mod windows;
 pub mod writing;
 pub mod wrong;

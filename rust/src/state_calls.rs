@@ -11,6 +11,7 @@ use crate::sorts::{add_cycle, add_each, sort, sorts_of_cycles, sorts_of_hops, So
 use crate::sorts::{print_lines, too_few_in, total, Line};
 use crate::stand_in::{FreeFrames, Lookup};
 use crate::tried::Tried;
+use crate::widths::{add_number, are_alike, sorts_of_numbers};
 use crate::wrong_state;
 
 /// The numbers that a lookup can put, at most.
@@ -37,10 +38,13 @@ pub struct StateCalls {
     lent: Lent<u16>,
     /// Shown; refused with 19, with 20, and by the file.
     lookups: [Sort; 4],
-    /// Shown, by the number of hops, and by the cycle of the last hop; refused with 19, by what is known of the number.
+    /// Shown, by the number of hops, by the cycle of the last hop, and by the number; refused with 19, by what is known of
+    /// the number, and by the number where a live one is alike.
     hops: [Sort; MAX_HOPS],
     last_cycles: [Sort; 3],
+    numbers_shown: [Sort; 2],
     not_live: [Sort; 3],
+    numbers_alike: [Sort; 2],
     /// Counted; refused with 13, and by the file.
     counts: [Sort; 3],
     /// Counted, with a closed frame, and with a held one.
@@ -66,11 +70,13 @@ impl StateCalls {
             ],
             hops: sorts_of_hops([30_000, 10_000, 10_000, 8_000, 4_000, 3_000, 2_000, 1_500]),
             last_cycles: sorts_of_cycles([60_000, 20_000, 12_000]),
+            numbers_shown: sorts_of_numbers([23_000, 44_000]),
             not_live: [
                 sort("in the call records", 100_000),
                 sort("near a live number", 20_000),
                 sort("any number", 50_000),
             ],
+            numbers_alike: sorts_of_numbers([6_000, 19_000]),
             counts: [
                 sort("counted", 600_000),
                 sort("refused with 13:", 150_000),
@@ -87,10 +93,12 @@ impl StateCalls {
 
     /// Compares lookups and counts after the calls of an input; what differs, in words.
     pub fn compare(&mut self, case: Case<'_>) -> Result<(), String> {
-        for (origin, number) in self.numbers(case) {
+        let live = live_numbers(&case.run.state);
+        for (origin, number) in self.numbers(&case.input.calls, &live) {
             for room in self.rooms(&case.run.state, number) {
                 let expected = self.compare_lookup(case, number, room)?;
                 self.tally_lookup(origin, &expected);
+                self.tally_number(number, &live, &expected);
             }
         }
         for link in self.links(&case.run.state) {
@@ -141,6 +149,16 @@ impl StateCalls {
         }
     }
 
+    fn tally_number(&mut self, number: u32, live: &[u32], shown: &Shown) {
+        match shown {
+            Ok(_) => add_number(&mut self.numbers_shown, number),
+            Err(19) if live.iter().any(|&live| are_alike(live, number)) => {
+                add_number(&mut self.numbers_alike, number);
+            }
+            Err(_) => {}
+        }
+    }
+
     fn compare_count(&mut self, case: Case<'_>, link: u8) -> Result<(), String> {
         let Input { file, calls } = case.input;
         let expected = model::free_frames(&case.run.state, link).map_err(u64::from);
@@ -172,9 +190,8 @@ impl StateCalls {
 
     /// The session numbers to look up: the live ones; of the others in the call records the last and another one; one
     /// near a live number; and any number.
-    fn numbers(&mut self, case: Case<'_>) -> Vec<(Origin, u32)> {
-        let live = live_numbers(&case.run.state);
-        let mut records = numbers_in(&case.input.calls);
+    fn numbers(&mut self, calls: &[u8], live: &[u32]) -> Vec<(Origin, u32)> {
+        let mut records = numbers_in(calls);
         records.retain(|number| !live.contains(number));
         let random = &mut self.random;
         let mut numbers = vec![(Origin::Any, random.word() as u32)];
@@ -183,10 +200,10 @@ impl StateCalls {
             numbers.extend([last, another].map(|number| (Origin::CallRecords, number)));
         }
         if !live.is_empty() {
-            let live = random.pick(&live);
+            let live = random.pick(live);
             numbers.push((Origin::NearLive, near(random, live)));
         }
-        numbers.extend(live.into_iter().map(|number| (Origin::Live, number)));
+        numbers.extend(live.iter().map(|&number| (Origin::Live, number)));
         numbers
     }
 
@@ -216,12 +233,17 @@ impl StateCalls {
 
     // ---- What was seen ----
 
-    fn lookup_lines(&self) -> [Line<'_>; 4] {
+    fn lookup_lines(&self) -> [Line<'_>; 6] {
         [
             ("", &self.lookups),
             ("shown: of ", &self.hops),
             ("shown: last hop in cycle ", &self.last_cycles),
+            ("shown: number ", &self.numbers_shown),
             ("refused with 19: ", &self.not_live),
+            (
+                "refused with 19: a live number has the same low 16 bits: number ",
+                &self.numbers_alike,
+            ),
         ]
     }
 

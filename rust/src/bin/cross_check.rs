@@ -12,6 +12,7 @@ use frames_check::runs::Runs;
 use frames_check::state_calls::StateCalls;
 use frames_check::tried::Tried;
 use frames_check::way_calls::WayCalls;
+use frames_check::widths::Widths;
 use frames_check::writing::Writing;
 use frames_check::{dijkstra, library, listing, model, wrong};
 use std::cell::{Cell, RefCell};
@@ -94,6 +95,7 @@ struct Check {
     released: usize,
     refusals: [usize; REFUSALS + 1],
     searches: Searches,
+    widths: Widths,
     listed: Compared,
     wrong_models: Tried<wrong::Text>,
     runs: Runs,
@@ -151,6 +153,7 @@ impl Check {
             released: 0,
             refusals: [0; REFUSALS + 1],
             searches: Searches::default(),
+            widths: Widths::default(),
             listed: Compared::default(),
             wrong_models: Tried::new("model", wrong::all()),
             runs: Runs::new(Box::new(library::report), SEED + 1),
@@ -162,39 +165,70 @@ impl Check {
         }
     }
 
-    /// The document's example, library and model, against the text written there.
+    /// The document's example, library and model, against the text written there; and other calls on its network, against what
+    /// is worked out by hand.
     fn worked_example(&mut self) {
-        let input = Input {
-            file: vec![0x30, 0, 2, 3, 8, 2, 3, 8, 2],
-            calls: vec![
-                1, 5, 0, 2, 0, 1, 1, 5, 0, 2, 0, 1, 3, 5, 0, 2, 1, 0, 3, 5, 0,
-            ],
-        };
+        let file = [0x30, 0, 2, 3, 8, 2, 3, 8, 2];
+        let calls = [
+            1, 5, 0, 2, 0, 1, 1, 5, 0, 2, 0, 1, 3, 5, 0, 2, 1, 0, 3, 5, 0,
+        ];
         let expected =
             "1 S ok 6 16 7 0 / 0 1\n2 S no 16\n3 R ok\n4 Q ok 0 0 0 / 0\n5 R no 19\nlive 0\n";
-        let run = self.model_run(&input);
-        if run.text != expected.as_bytes() {
-            fail("the model's text of the worked example isn't the document's");
-        }
-        self.compare_runs(&input, &run);
-        self.worked_calls();
+        self.worked_text(&file, &calls, expected);
+        self.worked_numbers(&file);
+        self.worked_calls(&file);
         println!("worked example: as in the document");
     }
 
+    /// The text of calls, library and model, against the one that is expected.
+    fn worked_text(&mut self, file: &[u8], calls: &[u8], expected: &str) {
+        let input = Input {
+            file: file.to_vec(),
+            calls: calls.to_vec(),
+        };
+        let run = self.model_run(&input);
+        if run.text != expected.as_bytes() {
+            fail("the model's text of a worked example isn't the one expected");
+        }
+        self.compare_runs(&input, &run);
+    }
+
+    /// Numbers of two bytes and of four: 5 by 01, and 65,541 by 04 in the frames that 5 leaves; 5 released by 05, but not
+    /// 65,541 by 03 with 5; and 65,541 released by 05.
+    fn worked_numbers(&mut self, file: &[u8]) {
+        let calls = [
+            1, 5, 0, 2, 0, 1, 4, 5, 0, 1, 0, 2, 0, 1, 5, 5, 0, 0, 0, 3, 5, 0, 5, 5, 0, 1, 0,
+        ];
+        let expected =
+            "1 S ok 6 16 7 0 / 0 1\n2 S ok 6 13 0 1 / 0 0\n3 R ok\n4 R no 19\n5 R ok\nlive 0\n";
+        self.worked_text(file, &calls, expected);
+        let shown = |length, number| {
+            let mut shown = [0; 8];
+            let lookup = library::lookup(file, &calls[..length], number, &mut shown);
+            lookup.map(|_| shown)
+        };
+        let (short, long) = ([2, 6, 0, 1, 7, 0, 0, 1], [2, 6, 0, 1, 0, 1, 0, 0]);
+        if [shown(14, 5), shown(14, 65_541)] != [Ok(short), Ok(long)] {
+            fail("lookups of 5 and of 65,541 aren't the answers to their set-ups");
+        }
+        if [shown(22, 5), shown(22, 65_541)] != [Err(19), Ok(long)] {
+            fail("5 isn't released, or 65,541 is with it");
+        }
+    }
+
     /// The library's lookup, free frames, ways and writer on the document's examples, worked out by hand.
-    fn worked_calls(&self) {
-        let file = [0x30, 0, 2, 3, 8, 2, 3, 8, 2];
+    fn worked_calls(&self, file: &[u8]) {
         let calls = [1, 5, 0, 2, 0, 1];
         let mut shown = [0; 8];
-        let lookup = library::lookup(&file, &calls, 5, &mut shown);
+        let lookup = library::lookup(file, &calls, 5, &mut shown);
         if (lookup, shown) != (Ok(8), [2, 6, 0, 1, 7, 0, 0, 1]) {
             fail("a lookup after the example's first call isn't its answer");
         }
-        let free = [0, 1, 2].map(|link| library::free_frames(&file, &calls, link));
+        let free = [0, 1, 2].map(|link| library::free_frames(file, &calls, link));
         if free != [Ok(7), Ok(7), Err(13)] {
             fail("the free frames after the example's first call aren't seven of each link");
         }
-        self.worked_ways(&file, &calls);
+        self.worked_ways(file, &calls);
         let mut image = [0; 7];
         let length = library::write(48, &[16, 8], &[4, 2], &[0, 0], &mut image);
         if (length, image) != (Ok(7), [0x30, 0, 2, 0, 3, 8, 2]) {
@@ -254,6 +288,7 @@ impl Check {
         };
         let text = std::str::from_utf8(&written).expect("the text is plain");
         self.tally(text);
+        self.widths.add(&input.calls, text);
         let searches = self.searches.unread.take();
         if let Err(fault) = self.listed.compare(text, &searches) {
             self.show_and_fail(input, run, &fault);
@@ -351,6 +386,7 @@ impl Check {
             self.searches.by_both.get(),
             self.searches.by_dijkstra.get()
         );
+        self.widths.print();
         self.listed.print();
         self.runs.print();
         self.state_calls.print();
@@ -399,6 +435,7 @@ impl Check {
         let listed = self.listed.too_few();
         let listed = listed.map(|few| format!("listed routes: {few}"));
         let too_few = [
+            self.widths.too_few(),
             listed,
             self.runs.too_few(),
             self.state_calls.too_few(),
