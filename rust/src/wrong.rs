@@ -6,6 +6,7 @@ use crate::network_file::{check_link, read_link, read_network, refuse};
 use crate::network_file::{Link, Network, Refusal, ABSENT};
 use crate::route::{self, Answer, Hop};
 use crate::tried::Wrong;
+use crate::wrong_numbers;
 
 /// The text of a wrong model.
 pub type Text = Box<dyn Fn(&[u8], &[u8]) -> Vec<u8>>;
@@ -14,12 +15,13 @@ pub type Text = Box<dyn Fn(&[u8], &[u8]) -> Vec<u8>>;
 pub fn all() -> Vec<Wrong<Text>> {
     let mut all = wrong_searches();
     all.extend(wrong_calls());
+    all.extend(wrong_numbers::all());
     all.extend(wrong_files());
     all.extend(wrong_texts());
     all
 }
 
-fn by_rules(name: &'static str, rules: impl Rules + 'static) -> Wrong<Text> {
+pub(crate) fn by_rules(name: &'static str, rules: impl Rules + 'static) -> Wrong<Text> {
     Wrong {
         name,
         does: Box::new(move |file, calls| model::run_by(&rules, file, calls).text),
@@ -405,6 +407,7 @@ macro_rules! mistake {
         }
     };
 }
+pub(crate) use mistake;
 
 mistake! { NoMistake, }
 

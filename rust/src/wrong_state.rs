@@ -8,6 +8,7 @@ use crate::stand_in::{change, free_frames, look_up, lookup, put, put_what_fits, 
 use crate::stand_in::{FreeFrames, Lookup};
 use crate::tried::Wrong;
 use crate::wrong::{FreeNothing, FreeOnEveryLink, GoesOn, NoLimit, NoMistake, QuoteHolds};
+use crate::wrong_numbers::{ReleasedByLowBits, StoredIn16Bits, HIGH_BYTE_FIRST, THREE_KINDS};
 use std::cell::RefCell;
 
 // ---- Lookups ----
@@ -160,10 +161,23 @@ impl Rules for Keeping {
     }
 }
 
+/// A lookup of the first session whose number has the same low bits.
+fn compares_by(name: &'static str, low_bits: u32) -> Wrong<Box<Lookup>> {
+    wrong_lookup(name, move |file, calls, number, out| {
+        let state = stored(file, calls)?;
+        let mut sessions = state.ledger.sessions.iter();
+        let found = sessions.find(|session| (session.number ^ number) & low_bits == 0);
+        put(&found.ok_or(19u64)?.shown(), out)
+    })
+}
+
 fn wrongly_found() -> Vec<Wrong<Box<Lookup>>> {
     vec![
         looks_up_by("bytes after the first 65,536 served", NoLimit),
         looks_up_by("calls after a broken record served", GoesOn),
+        looks_up_by("kinds 4 and 5 unreadable, as before W-205", THREE_KINDS),
+        looks_up_by("four bytes of a number high byte first", HIGH_BYTE_FIRST),
+        looks_up_by("numbers stored in 16 bits", StoredIn16Bits),
         wrong_lookup("last call byte not read", |file, calls, number, out| {
             let read = &calls[..calls.len().saturating_sub(1)];
             lookup(file, read, number, out)
@@ -184,15 +198,11 @@ fn wrongly_found() -> Vec<Wrong<Box<Lookup>>> {
             }
             lookup(file, calls, number, out)
         }),
-        wrong_lookup(
-            "numbers compared by their low byte",
-            |file, calls, number, out| {
-                let state = stored(file, calls)?;
-                let mut sessions = state.ledger.sessions.iter();
-                let found = sessions.find(|session| session.number as u8 == number as u8);
-                put(&found.ok_or(19u64)?.shown(), out)
-            },
-        ),
+        compares_by("numbers compared by their low byte", 0xff),
+        compares_by("numbers compared by their low 16 bits", 0xffff),
+        wrong_lookup("number looked up in 16 bits", |file, calls, number, out| {
+            lookup(file, calls, number & 0xffff, out)
+        }),
         wrong_lookup(
             "19 where the file is refused",
             |file, calls, number, out| {
@@ -331,6 +341,12 @@ fn wrong_words() -> Vec<Wrong<Box<FreeFrames>>> {
         counts_by("quoted frames not counted", QuoteHolds, free_word),
         counts_by("bytes after the first 65,536 served", NoLimit, free_word),
         counts_by("calls after a broken record served", GoesOn, free_word),
+        counts_by(
+            "kinds 4 and 5 unreadable, as before W-205",
+            THREE_KINDS,
+            free_word,
+        ),
+        counts_by("released by the low 16 bits", ReleasedByLowBits, free_word),
     ]
 }
 

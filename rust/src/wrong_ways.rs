@@ -9,6 +9,7 @@ use crate::tried::Wrong;
 use crate::way_calls::faults;
 use crate::ways::{is_open, number, product};
 use crate::wrong::{FreeNothing, GoesOn, NoLimit, QuoteHolds, RouteLinkByLink};
+use crate::wrong_numbers::THREE_KINDS;
 
 /// All wrong numbers of schedules.
 pub fn all() -> Vec<Wrong<Box<Ways>>> {
@@ -237,6 +238,7 @@ fn wrong_states() -> Vec<Wrong<Box<Ways>>> {
         counts_by("quoted frames not counted", QuoteHolds),
         counts_by("bytes after the first 65,536 served", NoLimit),
         counts_by("calls after a broken record served", GoesOn),
+        counts_by("kinds 4 and 5 unreadable, as before W-205", THREE_KINDS),
     ]
 }
 
