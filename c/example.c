@@ -29,6 +29,18 @@ enum { LIVE = 6, LIVE_CUT = 8, LIVE_STILL = 12, RELEASED = 15 };
    hold 1 alone, since frame 0 of link 1 is held: 13 transitions. */
 static const uint8_t two[] = {0x01, 0x05, 0x00, 0x02, 0x00, 0x01, 0x01, 0x06, 0x00, 0x02, 0x00, 0x01};
 
+/* Numbers of two bytes and of four; 65,541 has the low 16 bits of 5. */
+static const uint8_t mixed[] = {
+    0x01, 0x05, 0x00, 0x02, 0x00, 0x01,             /* set-up 5 over 0 1 */
+    0x04, 0x05, 0x00, 0x01, 0x00, 0x02, 0x00, 0x01, /* set-up 65,541 over 0 1: as 6 above */
+    0x05, 0x05, 0x00, 0x00, 0x00,                   /* release 5 */
+    0x03, 0x05, 0x00,                               /* release 5: refused with 19, since 65,541 is another number */
+    0x05, 0x05, 0x00, 0x01, 0x00,                   /* release 65,541 */
+};
+
+/* So many bytes of these leave both sessions live, and so many 65,541 alone. */
+enum { BOTH = 14, ONE = 22 };
+
 /* The buffers that are lent. The places behind are lent to no call, and between two calls every byte is UNTOUCHED. */
 enum { BEHIND = 8, UNTOUCHED = 0xa5 };
 static uint8_t text[FRAMES_TEXT_MOST + BEHIND];
@@ -165,6 +177,11 @@ static void try_report(void)
     text_is("a cut record", length, "1 S ok 6 16 7 0 / 0 1\n2 ? no 11\nlive 1\n");
     length = frames_report(net, sizeof net, two, sizeof two, text, FRAMES_TEXT_BOUND(sizeof two));
     text_is("two sessions", length, "1 S ok 6 16 7 0 / 0 1\n2 S ok 6 13 0 1 / 0 0\nlive 2\n");
+    length = frames_report(net, sizeof net, mixed, sizeof mixed, text, FRAMES_TEXT_BOUND(sizeof mixed));
+    text_is("numbers of both widths", length,
+            "1 S ok 6 16 7 0 / 0 1\n2 S ok 6 13 0 1 / 0 0\n3 R ok\n4 R no 19\n5 R ok\nlive 0\n");
+    length = frames_report(net, sizeof net, mixed, BOTH - 1, text, FRAMES_TEXT_BOUND(BOTH - 1));
+    text_is("a set-up of kind 4 cut in its route", length, "1 S ok 6 16 7 0 / 0 1\n2 ? no 11\nlive 1\n");
     text_is("kind 0", frames_report(net, sizeof net, zeros, sizeof zeros, text, FRAMES_TEXT_MOST), "1 ? no 11\nlive 0\n");
     is_refused("a byte below every bound", frames_report(net, sizeof net, zeros, sizeof zeros, text, FRAMES_TEXT_MOST - 1), 20);
     text_is("no calls", frames_report(net, sizeof net, NULL, 0, text, 22), "live 0\n");
@@ -184,6 +201,12 @@ static void try_lookup(void)
     session_5_is_shown("after a cut record", frames_lookup(net, sizeof net, calls, LIVE_CUT, 5, session, 26));
     session_5_is_shown("beside session 6", frames_lookup(net, sizeof net, two, sizeof two, 5, session, 26));
     session_6_is_shown("after session 5", frames_lookup(net, sizeof net, two, sizeof two, 6, session, 26));
+    session_5_is_shown("beside session 65,541", frames_lookup(net, sizeof net, mixed, BOTH, 5, session, 26));
+    session_6_is_shown("65,541 has the frames of 6", frames_lookup(net, sizeof net, mixed, BOTH, 65541, session, 26));
+    session_6_is_shown("65,541 alone", frames_lookup(net, sizeof net, mixed, ONE, 65541, session, 26));
+    is_refused("5 beside 65,541", frames_lookup(net, sizeof net, mixed, ONE, 5, session, 26), 19);
+    is_refused("131,077 beside 5", frames_lookup(net, sizeof net, mixed, BOTH, 131077, session, 26), 19);
+    is_refused("65,541 after its release", frames_lookup(net, sizeof net, mixed, sizeof mixed, 65541, session, 26), 19);
     session_5_is_shown("into a buffer of eight", frames_lookup(net, sizeof net, calls, LIVE, 5, session, 8));
     is_refused("into a buffer of seven", frames_lookup(net, sizeof net, calls, LIVE, 5, session, 7), 20);
     is_refused("no buffer", frames_lookup(net, sizeof net, calls, LIVE, 5, NULL, 0), 20);

@@ -88,7 +88,7 @@ uint64_t frames_report(const uint8_t *file, size_t file_len, const uint8_t *call
  *     19       the number isn't live after the calls
  *     20       out_len is below 2 + 3 * hops
  */
-uint64_t frames_lookup(const uint8_t *file, size_t file_len, const uint8_t *calls, size_t calls_len, uint16_t number,
+uint64_t frames_lookup(const uint8_t *file, size_t file_len, const uint8_t *calls, size_t calls_len, uint32_t number,
                        uint16_t *out, size_t out_len);
 
 /*

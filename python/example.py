@@ -16,6 +16,11 @@ RELEASED = HELD_STILL + bytes.fromhex("03 05 00")        # release 5
 CALLS = RELEASED + bytes.fromhex("02 01 00 03 05 00")    # quote over 0; release 5: refused with 19
 TWO = HELD + bytes.fromhex("01 06 00 02 00 01")          # set-up 6 over 0 1 as well: frames 0 1 in cycle 0
 
+# numbers of two bytes and of four; 65,541 has the low 16 bits of 5
+BOTH = HELD + bytes.fromhex("04 05 00 01 00 02 00 01")    # set-up 65,541 over 0 1 as well: as 6
+ONE = BOTH + bytes.fromhex("05 05 00 00 00 03 05 00")     # release 5; release 5: refused with 19, since 65,541 is another number
+MIXED = ONE + bytes.fromhex("05 05 00 01 00")             # release 65,541
+
 # links of K 8 and Z 2 on which frames 3 and 6 alone are free; links of K 4 and K 6; eight links of K 64 and Z 64 in a cycle of 64 ticks
 BLOCKED = bytes.fromhex("30 00 02 07 08 02 f7 00 00 00 00 00 00 00 07 08 02 bf 00 00 00 00 00 00 00")
 UNFIT = bytes.fromhex("30 00 02 03 04 02 03 06 02")
@@ -27,6 +32,15 @@ TEXT = """\
 3 R ok
 4 Q ok 0 0 0 / 0
 5 R no 19
+live 0
+"""
+
+MIXED_TEXT = """\
+1 S ok 6 16 7 0 / 0 1
+2 S ok 6 13 0 1 / 0 0
+3 R ok
+4 R no 19
+5 R ok
 live 0
 """
 
@@ -76,6 +90,8 @@ def main():
         (NET, CALLS, TEXT),
         (NET, HELD, "1 S ok 6 16 7 0 / 0 1\nlive 1\n"),
         (NET, HELD_STILL[:8], "1 S ok 6 16 7 0 / 0 1\n2 ? no 11\nlive 1\n"),    # the second record is cut off
+        (NET, MIXED, MIXED_TEXT),
+        (NET, BOTH[:13], "1 S ok 6 16 7 0 / 0 1\n2 ? no 11\nlive 1\n"),         # here in its route
         (NET, b"", "live 0\n"),
         (b"", CALLS, "net no 1\n"),
         (NET, bytes(65537), "1 ? no 11\nlive 0\n"),                             # no record is of kind 0
@@ -91,7 +107,13 @@ def main():
         (NET, RELEASED, 5, ("refused", 19)),
         (NET, HELD, 6, ("refused", 19)),
         (NET[:2], HELD, 5, ("refused", 1)),
-        (NET, HELD, 65536 + 5, ("too large",)),
+        (NET, BOTH, 5, session),
+        (NET, BOTH, 65536 + 5, beside),
+        (NET, BOTH, 2 * 65536 + 5, ("refused", 19)),
+        (NET, ONE, 5, ("refused", 19)),
+        (NET, ONE, 65536 + 5, beside),
+        (NET, MIXED, 65536 + 5, ("refused", 19)),
+        (NET, HELD, 2 ** 32 + 5, ("too large",)),
     ])
     compare(library.free_frames, [
         (NET, HELD, 0, 7),         # frame 7 of link 0 is held

@@ -24,7 +24,7 @@ NUMBERS_64 = [ctypes.POINTER(ctypes.c_uint64), ctypes.c_size_t]
 
 ARGUMENTS = {
     "frames_report": BYTES + BYTES + BYTES_OUT,
-    "frames_lookup": BYTES + BYTES + [ctypes.c_uint16] + NUMBERS_16,
+    "frames_lookup": BYTES + BYTES + [ctypes.c_uint32] + NUMBERS_16,
     "frames_free_frames": BYTES + BYTES + [ctypes.c_uint8],
     "frames_ways": BYTES + BYTES + BYTES + NUMBERS_64,
     "frames_image": BYTES + BYTES_OUT,
@@ -68,7 +68,7 @@ class Library:
     def lookup(self, file, calls, number):
         """The session that is live under a number after the calls."""
         out = (ctypes.c_uint16 * SESSION_MOST)()
-        number = fitting(number, 16)
+        number = fitting(number, 32)
         given(self.functions.frames_lookup(file, len(file), calls, len(calls), number, out, len(out)))
         hops = out[0]
         links, frames, cycles = (out[2 + group * hops:2 + (group + 1) * hops] for group in range(3))

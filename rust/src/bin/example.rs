@@ -27,6 +27,22 @@ const TWO: [u8; 12] = [
 const TEXT: &str =
     "1 S ok 6 16 7 0 / 0 1\n2 S no 16\n3 R ok\n4 Q ok 0 0 0 / 0\n5 R no 19\nlive 0\n";
 
+/// Numbers of two bytes and of four; 65,541 has the low 16 bits of 5.
+const MIXED: [u8; 27] = [
+    0x01, 0x05, 0x00, 0x02, 0x00, 0x01, // set-up 5 over 0 1
+    0x04, 0x05, 0x00, 0x01, 0x00, 0x02, 0x00, 0x01, // set-up 65,541 over 0 1: as 6 above
+    0x05, 0x05, 0x00, 0x00, 0x00, // release 5
+    0x03, 0x05, 0x00, // release 5: refused with 19, since 65,541 is another number
+    0x05, 0x05, 0x00, 0x01, 0x00, // release 65,541
+];
+
+/// So many bytes of these leave both sessions live, and so many 65,541 alone.
+const BOTH: usize = 14;
+const ONE: usize = 22;
+
+const MIXED_TEXT: &str =
+    "1 S ok 6 16 7 0 / 0 1\n2 S ok 6 13 0 1 / 0 0\n3 R ok\n4 R no 19\n5 R ok\nlive 0\n";
+
 /// The bytes that `report` demands for its text on the calls.
 const TEXT_BOUND: usize = text_bound(CALLS.len());
 
@@ -63,6 +79,11 @@ fn try_report() {
     assert_eq!(report(&CALLS, TEXT_BOUND - 1), Err(20));
     assert_eq!(report(&[], 22), Ok("live 0\n".into()));
     assert_eq!(report(&[], 21), Err(20));
+    let mixed = |length| report(&MIXED[..length], text_bound(length));
+    assert_eq!(mixed(MIXED.len()), Ok(MIXED_TEXT.into()));
+    // the second record is cut in its route
+    let cut = "1 S ok 6 16 7 0 / 0 1\n2 ? no 11\nlive 1\n";
+    assert_eq!(mixed(BOTH - 1), Ok(cut.into()));
     println!("library::report: as expected");
 }
 
@@ -84,6 +105,12 @@ fn try_lookup() {
     let beside = [2, 6, 0, 1, 0, 1, 0, 0];
     assert_eq!(lookup(&TWO, 5, SESSION_MOST), Ok(shown.into()));
     assert_eq!(lookup(&TWO, 6, SESSION_MOST), Ok(beside.into()));
+    assert_eq!(lookup(&MIXED[..BOTH], 5, 8), Ok(shown.into()));
+    assert_eq!(lookup(&MIXED[..BOTH], 65_541, 8), Ok(beside.into()));
+    assert_eq!(lookup(&MIXED[..BOTH], 131_077, 8), Err(19));
+    assert_eq!(lookup(&MIXED[..ONE], 5, 8), Err(19));
+    assert_eq!(lookup(&MIXED[..ONE], 65_541, 8), Ok(beside.into()));
+    assert_eq!(lookup(&MIXED, 65_541, 8), Err(19));
     println!("library::lookup: as expected");
 }
 
