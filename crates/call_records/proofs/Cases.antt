@@ -1,11 +1,14 @@
 -- The record that the reader finds, case by case. Assumes nothing.
 use mathlib.Core.Path.{_≡_, refl, sym, ap, _∙_}
+use mathlib.Core.Bool.{cond}
+use mathlib.Core.Logic.{_⊎_, inl, inr}
 use mathlib.Core.List.{List}
 use Prim.Native.Nat.{ℕ, _+_, _-_, _*_, _^_, _≤_, _<_}
 use native.Mathlib.Nat.{lt-of-lt-of-le}
 use native.Mathlib.Omega.{arith}
 use lib.ListN.{length, getD, take, drop, List·getD-eq-default}
 use lib.Pow.{pow-mono}
+use lib.Dec.{ltb}
 use borrow.Author.Tests.{lt-ltb, le-ltb, ne-eqb}
 use Rattle.refusals.specs.Refusals.{given, refused}
 use Rattle.numbers.specs.Numbers.{numberIn, IsBytes}
@@ -45,6 +48,13 @@ pub routed : (kind : Kind) (width links : ℕ) (s : List ℕ) → links ≡ getD
 unfolding routedRecord
 routed kind width links s e r q = q ∙ rw e
 
+-- the bytes of a number, by the record's kind
+pub in-two : (kind : ℕ) → kind < 4 → (_≡_ {A = ℕ} 2 (cond (ltb kind 4) 2 4)) × (2 ≤ 4)
+in-two kind h = (rw (lt-ltb kind 4 h), omega arith)
+
+pub in-four : (kind : ℕ) → 4 ≤ kind → (_≡_ {A = ℕ} 4 (cond (ltb kind 4) 2 4)) × (4 ≤ 4)
+in-four kind h = (rw (le-ltb kind 4 h), omega arith)
+
 -- ---- the record at the start of s, by its kind
 module _ (s : List ℕ) (r : Record) where
   pub none-left : length s ≡ 0 → r ≡ noRecord 0 → r ≡ readRecord s
@@ -57,12 +67,30 @@ module _ (s : List ℕ) (r : Record) where
   unfolding readRecord
   kind-read kind k e = e ∙ rw k
 
-  module _ (not-1 : getD s 0 0 ≡ 1 → ⊥) (not-2 : getD s 0 0 ≡ 2 → ⊥) (not-3 : getD s 0 0 ≡ 3 → ⊥) (not-4 : getD s 0 0 ≡ 4 → ⊥) (not-5 : getD s 0 0 ≡ 5 → ⊥) where
-    pub none-read : r ≡ noRecord (length s) → r ≡ readRecord s
-    unfolding readRecord recordBy
-    none-read e =
-        let k : ℕ = getD s 0 0 in
-        e ∙ rw (ne-eqb k 1 not-1, ne-eqb k 2 not-2, ne-eqb k 3 not-3, ne-eqb k 4 not-4, ne-eqb k 5 not-5)
+  -- a set-up and a release, with the number in two bytes or in four
+  module _ (width : ℕ) (w : width ≡ cond (ltb (getD s 0 0) 4) 2 4) where
+    pub set-up-read : (getD s 0 0 ≡ 1) ⊎ (getD s 0 0 ≡ 4) → r ≡ routedRecord SetUp width s → r ≡ readRecord s
+    unfolding recordBy
+    set-up-read (inl k) e = kind-read 1 k (e ∙ rw (w, k))
+    set-up-read (inr k) e = kind-read 4 k (e ∙ rw (w, k))
+
+    pub release-read : (getD s 0 0 ≡ 3) ⊎ (getD s 0 0 ≡ 5) → r ≡ recordWithin Release width (1 + width) (1 + width) s → r ≡ readRecord s
+    unfolding recordBy
+    release-read (inl k) e = kind-read 3 k (e ∙ rw (w, k))
+    release-read (inr k) e = kind-read 5 k (e ∙ rw (w, k))
+
+  pub none-read : ((getD s 0 0 ≡ 1) ⊎ (getD s 0 0 ≡ 4) → ⊥) → (getD s 0 0 ≡ 2 → ⊥) → ((getD s 0 0 ≡ 3) ⊎ (getD s 0 0 ≡ 5) → ⊥) → r ≡ noRecord (length s) → r ≡ readRecord s
+  unfolding readRecord recordBy
+  none-read a b c e =
+      let k : ℕ = getD s 0 0 in
+      e
+      ∙ rw (
+        ne-eqb k 1 (λ (q : k ≡ 1). a (inl q)),
+        ne-eqb k 2 b,
+        ne-eqb k 3 (λ (q : k ≡ 3). c (inl q)),
+        ne-eqb k 4 (λ (q : k ≡ 4). a (inr q)),
+        ne-eqb k 5 (λ (q : k ≡ 5). c (inr q)),
+      )
 
 -- the route is the part between
 pub route-part : (r : Record) (s : List ℕ) → take (r .end - r .start) (drop (r .start) s) ≡ routeIn r s

@@ -1,7 +1,9 @@
 // Call records (document 01, "The program frames", and W-205 of document 02): what the record at the start of some call bytes says, and its route as a part of those bytes.
 ghost use mathlib.Core.Path.{_≡_};
+ghost use mathlib.Core.Bool.{cond};
 ghost use Prim.Native.Nat.{_+_, _≤_, _<_, min};
 ghost use lib.ListN.{length, getD};
+ghost use lib.Dec.{ltb};
 ghost use Rattle.call_records.specs.Reading.{routeIn, noRecord, Reads};
 ghost use Rattle.call_records.specs.Inner.{recordWithin, routedRecord, readRecord, InBytes};
 
@@ -80,6 +82,16 @@ fn with_route(rest: &[u8], kind: Kind, width: usize) -> Record
     within(rest, kind, width, start, end)
 }
 
+// How many bytes the number of a set-up or a release has, by the record's kind: two of 01 and 03, four of 04 and 05.
+fn number_bytes(kind: u8) -> usize
+    ensures { λ r. ⌜ (r ≡ cond (ltb kind 4) 2 4) × (r ≤ 4) ⌝ }
+{
+    if kind < 4 {
+        return 2;
+    }
+    4
+}
+
 // The record at the start of `rest`.
 pub fn read_record(rest: &[u8]) -> Record
     ensures { λ r. ⌜ (r ≡ readRecord (now (rest .entry))) × Reads (now (rest .entry)) r ⌝ }
@@ -88,12 +100,11 @@ pub fn read_record(rest: &[u8]) -> Record
         return unreadable(0);
     }
     let kind = rest[0];
+    let width = number_bytes(kind);
     match kind {
-        1 => with_route(rest, Kind::SetUp, 2),
+        1 | 4 => with_route(rest, Kind::SetUp, width),
         2 => with_route(rest, Kind::Quote, 0),
-        3 => within(rest, Kind::Release, 2, 3, 3),
-        4 => with_route(rest, Kind::SetUp, 4),
-        5 => within(rest, Kind::Release, 4, 5, 5),
+        3 | 5 => within(rest, Kind::Release, width, 1 + width, 1 + width),
         _ => unreadable(rest.len()),
     }
 }
