@@ -1,5 +1,5 @@
 // The live sessions as they are stored: a table of 96 places, the first of them used, in the order of set-up.
-// What gives each `requires`: check 0, that at most 96 sessions are live (`place_of`, `without`, `number_twice`) and that the links and frames of each are
+// What gives each `requires`: check 0, that at most 96 sessions are live (`place_of`, `without`, `number_twice`, `among`) and that the links and frames of each are
 // within the arrays (`held_words`, `frame_twice` and what these call); check 17, that a place is left (`with_place`); check 12, that a route has at most 8
 // links, and check 0 that a stored one has (`in_eight`, `cleared`).
 use forwarding::Delay;
@@ -19,13 +19,13 @@ ghost use Rattle.ledger.specs.Calls.{otherThan};
 ghost use Rattle.table.specs.Table.{sessionOf, liveOf, placeOf};
 ghost use Rattle.table.specs.Inner.{Within, PlaceWithin, AllWithin, Marked, markedIn};
 
-// A session as it is stored ("Calls on sessions"; W-205: "A session stores 32 bits"): how many hops it has, their links, hop 0 first, what it holds, and its
-// number. The number stands after the delay, so that a place has 40 bytes and not 48.
+// A session as it is stored ("Calls on sessions"; W-205: "A session stores 32 bits"): how many hops it has, their links, hop 0 first, its number, and what it
+// holds. In this order a place has 40 bytes and no gap between its fields.
 pub struct Place {
     pub hops: usize,
     pub route: [u8; 8],
-    pub held: Held,
     pub number: u32,
+    pub held: Held,
 }
 
 // The live sessions: how many, and their places.
@@ -170,7 +170,7 @@ pub fn frame_twice(table: Table) -> bool
     false
 }
 
-// Whether a number is one of the first n. It looks at all of them, whatever it meets: a loop with one way out compares four at a time.
+// Whether a number is one of the first n. All of them are looked at, whatever is met: the compiler then compares four at a time.
 fn among(number: u32, numbers: &[u32; 96], n: usize) -> bool
     requires { ⌜ n ≤ 96 ⌝ }
     ensures { λ r. ⌜ r ≡ anyOf (eqb number) (firsts n (now (numbers .entry)) 0) ⌝ }
