@@ -1,6 +1,6 @@
 -- The record that the reader finds, case by case. Assumes nothing.
 use mathlib.Core.Path.{_≡_, refl, sym, ap, _∙_}
-use mathlib.Core.Bool.{cond}
+use mathlib.Core.Bool.{Bool, true, false, cond}
 use mathlib.Core.Logic.{_⊎_, inl, inr}
 use mathlib.Core.List.{List}
 use Prim.Native.Nat.{ℕ, _+_, _-_, _*_, _^_, _≤_, _<_}
@@ -20,7 +20,7 @@ use Rattle.call_records.specs.declared.Kind.{Kind}
 use Rattle.call_records.specs.declared.Kind.the-variants.{SetUp, Quote, Release, Unreadable}
 use Rattle.call_records.specs.declared.Record.{Record}
 use Rattle.call_records.specs.Reading.{routeIn, callAs, callIn, noRecord}
-use Rattle.call_records.specs.Inner.{recordWithin, routedRecord, recordBy, readRecord}
+use Rattle.call_records.specs.Inner.{recordWithin, routedRecord, numberBytes, recordBy, readRecord}
 
 -- a byte past the end counts as 0
 pub links-past : (s : List ℕ) (at : ℕ) → length s ≤ at → (0 ≡ getD s at 0) × (0 < 256)
@@ -49,11 +49,22 @@ unfolding routedRecord
 routed kind width links s e r q = q ∙ rw e
 
 -- the bytes of a number, by the record's kind
-pub in-two : (kind : ℕ) → kind < 4 → (_≡_ {A = ℕ} 2 (cond (ltb kind 4) 2 4)) × (2 ≤ 4)
-in-two kind h = (rw (lt-ltb kind 4 h), omega arith)
+module _ (kind : ℕ) where
+  pub in-two : kind < 4 → 2 ≡ numberBytes kind
+  unfolding numberBytes
+  in-two h = rw (lt-ltb kind 4 h)
 
-pub in-four : (kind : ℕ) → 4 ≤ kind → (_≡_ {A = ℕ} 4 (cond (ltb kind 4) 2 4)) × (4 ≤ 4)
-in-four kind h = (rw (le-ltb kind 4 h), omega arith)
+  pub in-four : 4 ≤ kind → 4 ≡ numberBytes kind
+  unfolding numberBytes
+  in-four h = rw (le-ltb kind 4 h)
+
+  pub bytes-few : (width : ℕ) → width ≡ numberBytes kind → width ≤ 4
+  unfolding numberBytes
+  bytes-few width e = rw e (go (ltb kind 4))
+    where
+      go : (b : Bool) → cond b 2 4 ≤ 4
+      go true = omega arith
+      go false = omega arith
 
 -- ---- the record at the start of s, by its kind
 module _ (s : List ℕ) (r : Record) where
@@ -68,14 +79,14 @@ module _ (s : List ℕ) (r : Record) where
   kind-read kind k e = e ∙ rw k
 
   -- a set-up and a release, with the number in two bytes or in four
-  module _ (width : ℕ) (w : width ≡ cond (ltb (getD s 0 0) 4) 2 4) where
+  module _ (width : ℕ) (w : width ≡ numberBytes (getD s 0 0)) where
     pub set-up-read : (getD s 0 0 ≡ 1) ⊎ (getD s 0 0 ≡ 4) → r ≡ routedRecord SetUp width s → r ≡ readRecord s
-    unfolding recordBy
+    unfolding recordBy numberBytes
     set-up-read (inl k) e = kind-read 1 k (e ∙ rw (w, k))
     set-up-read (inr k) e = kind-read 4 k (e ∙ rw (w, k))
 
     pub release-read : (getD s 0 0 ≡ 3) ⊎ (getD s 0 0 ≡ 5) → r ≡ recordWithin Release width (1 + width) (1 + width) s → r ≡ readRecord s
-    unfolding recordBy
+    unfolding recordBy numberBytes
     release-read (inl k) e = kind-read 3 k (e ∙ rw (w, k))
     release-read (inr k) e = kind-read 5 k (e ∙ rw (w, k))
 

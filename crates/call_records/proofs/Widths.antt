@@ -1,29 +1,36 @@
 -- Session numbers in two bytes and in four: records of either width say the same calls. Assumes nothing.
-use mathlib.Core.Path.{_≡_, refl, sym, ap, _∙_}
-use mathlib.Core.Bool.{Bool, true, false, cond}
-use mathlib.Core.List.{List, [], _∷_, _++_, append-assoc}
+use mathlib.Core.Path.{_≡_, refl, sym, ap, subst, _∙_}
+use mathlib.Core.Bool.{Bool, true, false, not, cond}
+use mathlib.Core.Logic.{_⊎_, inl, inr}
+use mathlib.Core.List.{List, [], _∷_, _++_, append-assoc, List·Memᴰ, List·Memᴰ·cases-cons, List·Memᴰ·not-nil}
 use Prim.Native.Nat.{ℕ, suc, _+_, _*_, _^_, _≤_, _<_}
 use native.Mathlib.Omega.{arith}
 use lib.ListN.{length, take, drop, length-append}
 use lib.Seq.{take-append-seam, drop-append-seam}
 use lib.Dec.{eqb, ltb}
-use borrow.Author.Tests.{le-ltb, eq-eqb}
-use Rattle.refusals.specs.Refusals.{given, refused}
+use borrow.Author.Tests.{le-ltb, eq-eqb, ne-eqb, eqb-true}
+use Rattle.refusals.specs.Refusals.{Outcome, given, refused}
 use Rattle.numbers.specs.Numbers.{numberIn, bytesOf, IsBytes}
 use Rattle.numbers.proofs.Laws.{length-bytes}
-use Rattle.numbers.proofs.Trip.{number-bytes}
+use Rattle.numbers.proofs.Trip.{number-bytes, bytes-drop}
+use Rattle.ledger.specs.Lists.{keep}
 use Rattle.ledger.specs.Sessions.{Session, View, isLive}
 use Rattle.ledger.specs.Sound.{intact}
-use Rattle.ledger.specs.Calls.{Call, SetUp, Quote, Release, Reply, schedule, freed, refusal, callCheck, granted, reply, effect, left, next, lookIn}
+use Rattle.ledger.specs.Calls.{Call, SetUp, Quote, Release, Reply, schedule, freed, refusal, callCheck, granted, reply, Effect, strikes, effect, otherThan, liveAfter, left, next, lookIn, lookup}
 use Rattle.ledger.specs.Ledger.{hasSchedule}
 use Rattle.ledger.proofs.Lists.{any-snoc, right-or}
 use Rattle.ledger.proofs.Answered.{reply-intact}
 use Rattle.ledger.proofs.Kept.{next-intact}
 use Rattle.ledger.proofs.Scheduled.{scheduled}
-use Rattle.ledger.proofs.Shown.{lookup-given, not-shown}
-use Rattle.call_records.specs.Records.{CallSaid, unreadable, withNumber, withRoute, setUpSaid, quoteSaid, releaseSaid, firstCall}
-use Rattle.call_records.specs.Widths.{Width, short, long, bytesFor, Fits, setUpRecord, releaseRecord, RecordsSay, SameCall, NumberFits, NumbersFit, answerTo, EitherReleases, LiveReleased}
+use Rattle.ledger.proofs.Shown.{lookup-intact, lookup-given, not-shown}
+use Rattle.ledger.proofs.Quoted as quoted
+use Rattle.call_records.specs.Records.{CallSaid, unreadable, withNumber, withRoute, setUpSaid, quoteSaid, releaseSaid, firstCall, callsIn}
+use Rattle.call_records.specs.Served.{answerTo, viewAfter}
+use Rattle.call_records.specs.Widths.{Width, short, long, bytesFor, Fits, releaseRecord, RecordsSay, SameCall, NumberFits, NumbersFit, setUpThenRelease, EitherReleases, LiveReleased, ShortSpares}
+use Rattle.call_records.specs.Inner.{readRecord}
 use Rattle.call_records.proofs.Cases.{number-fits}
+use Rattle.call_records.proofs.Said.{first-agrees}
+use Rattle.call_records.proofs.Calls.{by-records, no-calls, first-then-rest}
 
 -- ---- a number that was written is read, and the bytes after it are left
 number-said : (w n : ℕ) (said : ℕ → List ℕ → CallSaid) (s : List ℕ) → n < 2 ^ (8 * w) → withNumber w said (bytesOf w n ++ s) ≡ said n s
@@ -120,10 +127,28 @@ first-fits (kind ∷ s) bytes = go (eqb kind 1) (eqb kind 2) (eqb kind 3) (eqb k
     go false false false false true = release-fits long 4 (omega arith) s after
     go false false false false false = tt
 
--- EVERY NUMBER THAT BYTES SAY FITS
+-- the bytes after a record are bytes
+rest-bytes : (b : ℕ) (s : List ℕ) → IsBytes (b ∷ s) → IsBytes (firstCall (b ∷ s) .rest)
+rest-bytes b s bytes =
+    subst IsBytes (ap (λ (x : CallSaid). x .rest) (first-agrees b s .says)) (bytes-drop (readRecord (b ∷ s) .end) (b ∷ s) bytes)
+
+calls-fit : (s : List ℕ) → IsBytes s → (o : Outcome Call) → List·Memᴰ o (callsIn s) → NumberFits long o
+calls-fit =
+    by-records (λ (s : List ℕ). IsBytes s → (o : Outcome Call) → List·Memᴰ o (callsIn s) → NumberFits long o)
+    (λ (bytes : IsBytes []) (o : Outcome Call) (m : List·Memᴰ o (callsIn [])). absurd (List·Memᴰ·not-nil (rw no-calls at m)))
+    (λ (b : ℕ) (s : List ℕ) (ih : IsBytes (firstCall (b ∷ s) .rest) → (o : Outcome Call) → List·Memᴰ o (callsIn (firstCall (b ∷ s) .rest)) → NumberFits long o)
+    (bytes : IsBytes (b ∷ s)) (o : Outcome Call) (m : List·Memᴰ o (callsIn (b ∷ s))).
+    one b s (ih (rest-bytes b s bytes)) bytes o (List·Memᴰ·cases-cons (rw (first-then-rest b s) at m)))
+  where
+    one : (b : ℕ) (s : List ℕ) → ((o : Outcome Call) → List·Memᴰ o (callsIn (firstCall (b ∷ s) .rest)) → NumberFits long o) → IsBytes (b ∷ s)
+        → (o : Outcome Call) → (o ≡ firstCall (b ∷ s) .call) ⊎ List·Memᴰ o (callsIn (firstCall (b ∷ s) .rest)) → NumberFits long o
+    one b s later bytes o (inl e) = rw e (first-fits (b ∷ s) bytes)
+    one b s later bytes o (inr m) = later o m
+
+-- EVERY NUMBER THAT CALL BYTES SAY FITS
 pub numbers-fit : NumbersFit
 unfolding firstCall
-numbers-fit s bytes = (first-fits s bytes, set-up-fits short 2 (omega arith) s bytes, release-fits short 2 (omega arith) s bytes)
+numbers-fit s bytes = (calls-fit s bytes, set-up-fits short 2 (omega arith) s bytes, release-fits short 2 (omega arith) s bytes)
 
 -- ---- a live session can be released
 released-live : (v : View) (n : ℕ) → intact v ≡ true → isLive n (v .live) ≡ true → reply v (Release n) ≡ freed
@@ -154,20 +179,63 @@ module _ (v : View) (n : ℕ) (route : List ℕ) where
 
 -- A SESSION SET UP BY ONE KIND CAN BE RELEASED BY THE OTHER
 pub either-releases : EitherReleases
-either-releases v w u n route rest after hw hu h =
-    let c : firstCall (setUpRecord w n route ++ rest) .call ≡ given (SetUp n route) = ap (λ (x : CallSaid). x .call) (records-say w n route rest hw .0) in
+either-releases v w u n route rest hw hu h =
+    let c : firstCall (setUpThenRelease w u n route rest) ≡ record { call = given (SetUp n route); rest = releaseRecord u n ++ rest } = records-say w n route (releaseRecord u n ++ rest) hw .0 in
     let g : hasSchedule (reply v (SetUp n route)) ≡ true = rw c at h in
-    rw c (record-releases (next v (SetUp n route)) u n after hu (released-after v n route g))
+    rw c (record-releases (next v (SetUp n route)) u n rest hu (released-after v n route g))
 
--- AND AFTER WHATEVER OTHER CALLS, AS LONG AS LOOKUP GIVES IT
+-- EVERY SESSION THAT LOOKUP GIVES IS RELEASED BY EITHER WIDTH
 pub live-released : LiveReleased
-live-released v u n s after h e =
+live-released v u n s rest h e =
     let shown = lookup-given v n s e in
-    record-releases v u n after h (released-live v n (shown .0) (looked-live n (v .live) s (shown .1)))
+    record-releases v u n rest h (released-live v n (shown .0) (looked-live (isLive n (v .live)) refl (shown .1)))
   where
-    looked-live : (n : ℕ) (ss : List Session) (s : Session) → lookIn n ss ≡ given s → isLive n ss ≡ true
-    looked-live n ss s e = go (isLive n ss) refl
-      where
-        go : (b : Bool) → isLive n ss ≡ b → b ≡ true
-        go true q = refl
-        go false q = let y : refused 19 ≡ given s = sym (not-shown n ss q) ∙ e in let z : _≡_ {A = ℕ} 0 1 = cc in absurd (omega arith)
+    looked-live : (b : Bool) → isLive n (v .live) ≡ b → lookIn n (v .live) ≡ given s → b ≡ true
+    looked-live true q e = refl
+    looked-live false q e = let y : refused 19 ≡ given s = sym (not-shown n (v .live) q) ∙ e in let z : _≡_ {A = ℕ} 0 1 = cc in absurd (omega arith)
+
+-- ---- a release leaves the sessions of other numbers alone
+look-keep : (n m : ℕ) → (n ≡ m → ⊥) → (ss : List Session) → lookIn n (keep (otherThan m) ss) ≡ lookIn n ss
+look-keep n m apart [] = refl
+look-keep n m apart (s ∷ ss) = go (eqb (s .number) m) refl (look-keep n m apart ss)
+  where
+    go : (b : Bool) → eqb (s .number) m ≡ b → lookIn n (keep (otherThan m) ss) ≡ lookIn n ss
+        → lookIn n (cond (not b) (s ∷ keep (otherThan m) ss) (keep (otherThan m) ss)) ≡ lookIn n (s ∷ ss)
+    go true e ih =
+        let q : eqb (s .number) n ≡ false = ne-eqb (s .number) n (λ (k : s .number ≡ n). apart (sym k ∙ eqb-true (s .number) m e)) in
+        rw q ih
+    go false e ih = ap (λ (o : Outcome Session). cond (eqb (s .number) n) (given s) o) ih
+
+module _ (v : View) (n m : ℕ) (apart : n ≡ m → ⊥) where
+  -- where it was refused, and where it was accepted
+  refused-same : (k count : ℕ) → reply v (Release m) ≡ refusal k count → next v (Release m) ≡ v
+  unfolding next left
+  refused-same k count e = ap (λ (r : Reply). left v (effect (Release m) r)) e
+
+  struck-spares : (r : Reply) → reply v (Release m) ≡ r → (r ≡ refusal 0 0 → ⊥) → effect (Release m) r ≡ strikes m → lookup (next v (Release m)) n ≡ lookup v n
+  unfolding next left
+  struck-spares r e accepted does =
+      let before : intact v ≡ true = quoted.unbroken v (Release m) (λ (q : reply v (Release m) ≡ refusal 0 0). accepted (sym e ∙ q)) in
+      let after : intact (next v (Release m)) ≡ true = next-intact v (Release m) before in
+      let live : next v (Release m) .live ≡ keep (otherThan m) (v .live) = ap (λ (f : Effect). liveAfter (v .live) f) (ap (effect (Release m)) e ∙ does) in
+      lookup-intact (next v (Release m)) n after
+      ∙ ap (lookIn n) live
+      ∙ look-keep n m apart (v .live)
+      ∙ sym (lookup-intact v n before)
+
+  spared : lookup (next v (Release m)) n ≡ lookup v n
+  spared = go (reply v (Release m)) refl
+    where
+      go : (r : Reply) → reply v (Release m) ≡ r → lookup (next v (Release m)) n ≡ lookup v n
+      go (refusal k count) e = ap (λ (w : View). lookup w n) (refused-same k count e)
+      go freed e = struck-spares freed e (λ (q : freed ≡ refusal 0 0). let z : _≡_ {A = ℕ} 0 1 = cc in absurd (omega arith)) refl
+      go (schedule held count) e = struck-spares (schedule held count) e (λ (q : schedule held count ≡ refusal 0 0). let z : _≡_ {A = ℕ} 0 1 = cc in absurd (omega arith)) refl
+
+-- 03 LEAVES EVERY SESSION ALONE WHOSE NUMBER IS 65,536 OR ABOVE
+pub short-spares : ShortSpares
+unfolding firstCall releaseSaid withNumber
+short-spares v n s bytes h = go (ltb (length s) 2)
+  where
+    go : (b : Bool) → lookup (viewAfter v ((cond b unreadable (record { call = given (Release (numberIn 2 s)); rest = drop 2 s })) .call)) n ≡ lookup v n
+    go true = refl
+    go false = spared v n (numberIn 2 s) (λ (e : n ≡ numberIn 2 s). let l : numberIn 2 s < 65536 = fits short 2 (omega arith) s bytes in let z : _≡_ {A = ℕ} 0 1 = omega arith in absurd (omega arith))

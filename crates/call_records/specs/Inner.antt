@@ -19,6 +19,10 @@ recordWithin kind width start end s =
 unfoldable pub routedRecord : Kind → ℕ → List ℕ → Record
 routedRecord kind width s = recordWithin kind width (2 + width) (2 + width + getD s (1 + width) 0) s
 
+-- how many bytes the number of a set-up or of a release has, by its kind; it is asked of no other kind
+unfoldable pub numberBytes : ℕ → ℕ
+numberBytes kind = cond (ltb kind 4) 2 4
+
 -- the record of a kind at the start of s
 unfoldable pub recordBy : ℕ → List ℕ → Record
 recordBy kind s =

@@ -1,16 +1,16 @@
 -- Session numbers in two bytes and in four (document 02, W-205): what a record says goes by its number and not by the number's width. Assumes nothing.
 use mathlib.Core.Path.{_≡_}
 use mathlib.Core.Bool.{true}
-use mathlib.Core.List.{List, _∷_, _++_}
-use Prim.Native.Nat.{ℕ, _*_, _^_, _<_}
+use mathlib.Core.List.{List, _∷_, _++_, List·Memᴰ}
+use Prim.Native.Nat.{ℕ, _*_, _^_, _<_, _≤_}
 use lib.ListN.{length}
 use Rattle.refusals.specs.Refusals.{Outcome, given, refused}
 use Rattle.numbers.specs.Numbers.{bytesOf, IsBytes}
 use Rattle.ledger.specs.Sessions.{Session, View}
-use Rattle.ledger.specs.Calls.{Call, SetUp, Quote, Release, Reply, freed, refusal, reply, lookup}
+use Rattle.ledger.specs.Calls.{Call, SetUp, Quote, Release, freed, lookup}
 use Rattle.ledger.specs.Ledger.{hasSchedule}
-use Rattle.call_records.specs.Records.{firstCall}
-use Rattle.call_records.specs.Served.{viewAfter}
+use Rattle.call_records.specs.Records.{firstCall, callsIn}
+use Rattle.call_records.specs.Served.{answerTo, viewAfter}
 
 -- "number in two bytes"; W-205: "in four bytes"
 pub data Width : Type 0 where
@@ -35,7 +35,7 @@ abbrev pub releaseKind : Width → ℕ
 releaseKind short = 3
 releaseKind long = 5
 
--- the bytes of a set-up: its kind, "number ..., route length, route"
+-- the bytes of a set-up over a route of up to 255 links: its kind, "number ..., route length, route"
 abbrev pub setUpRecord : Width → ℕ → List ℕ → List ℕ
 setUpRecord w n route = setUpKind w ∷ (bytesOf (bytesFor w) n ++ (length route ∷ route))
 
@@ -63,23 +63,28 @@ NumberFits w (given (Quote route)) = Unit {0}
 NumberFits w (given (Release n)) = Fits w n
 NumberFits w (refused k) = Unit {0}
 
--- EVERY NUMBER THAT BYTES SAY IS BELOW 2^32, and by 01 and 03 below 65,536
+-- EVERY NUMBER THAT CALL BYTES SAY IS BELOW 2^32, and that of a record of kind 01 or 03 below 65,536
 abbrev pub NumbersFit : Type 0
 NumbersFit = (s : List ℕ) → IsBytes s
-    → NumberFits long (firstCall s .call) × NumberFits short (firstCall (1 ∷ s) .call) × NumberFits short (firstCall (3 ∷ s) .call)
+    → ((o : Outcome Call) → List·Memᴰ o (callsIn s) → NumberFits long o)
+    × NumberFits short (firstCall (1 ∷ s) .call)
+    × NumberFits short (firstCall (3 ∷ s) .call)
 
--- what the call of a record gets on a state that shows v
-abbrev pub answerTo : View → Outcome Call → Reply
-answerTo v (given call) = reply v call
-answerTo v (refused k) = refusal k 0
+-- the bytes of a set-up, of the release of its number, and others
+abbrev pub setUpThenRelease : Width → Width → ℕ → List ℕ → List ℕ → List ℕ
+setUpThenRelease w u n route rest = setUpRecord w n route ++ (releaseRecord u n ++ rest)
 
--- "A session set up by one kind can be released by the other, by 03 if its number is below 65,536": WHERE A SET-UP OF EITHER WIDTH IS ACCEPTED, THE RELEASE OF ITS NUMBER BY EITHER
--- WIDTH IS ACCEPTED ON THE STATE THAT IT LEFT
+-- "A session set up by one kind can be released by the other, by 03 if its number is below 65,536": WHERE THE SET-UP OF EITHER WIDTH IS ACCEPTED, THE RELEASE OF EITHER WIDTH AFTER IT IS
+-- ACCEPTED; what a release frees is `ReleaseFrees`
 abbrev pub EitherReleases : Type 0
-EitherReleases = (v : View) (w u : Width) (n : ℕ) (route rest after : List ℕ) → Fits w n → Fits u n
-    → hasSchedule (answerTo v (firstCall (setUpRecord w n route ++ rest) .call)) ≡ true
-    → answerTo (viewAfter v (firstCall (setUpRecord w n route ++ rest) .call)) (firstCall (releaseRecord u n ++ after) .call) ≡ freed
+EitherReleases = (v : View) (w u : Width) (n : ℕ) (route rest : List ℕ) → Fits w n → Fits u n
+    → hasSchedule (answerTo v (firstCall (setUpThenRelease w u n route rest) .call)) ≡ true
+    → answerTo (viewAfter v (firstCall (setUpThenRelease w u n route rest) .call)) (firstCall (firstCall (setUpThenRelease w u n route rest) .rest) .call) ≡ freed
 
--- AND AFTER WHATEVER OTHER CALLS, AS LONG AS LOOKUP GIVES IT
+-- EVERY SESSION THAT LOOKUP GIVES, whichever kind set it up and whatever calls were made since, IS RELEASED BY EITHER WIDTH
 abbrev pub LiveReleased : Type 0
-LiveReleased = (v : View) (u : Width) (n : ℕ) (s : Session) (after : List ℕ) → Fits u n → lookup v n ≡ given s → answerTo v (firstCall (releaseRecord u n ++ after) .call) ≡ freed
+LiveReleased = (v : View) (u : Width) (n : ℕ) (s : Session) (rest : List ℕ) → Fits u n → lookup v n ≡ given s → answerTo v (firstCall (releaseRecord u n ++ rest) .call) ≡ freed
+
+-- AND 03 LEAVES EVERY SESSION ALONE WHOSE NUMBER IS 65,536 OR ABOVE, whatever bytes follow it
+abbrev pub ShortSpares : Type 0
+ShortSpares = (v : View) (n : ℕ) (s : List ℕ) → IsBytes s → 65536 ≤ n → lookup (viewAfter v (firstCall (3 ∷ s) .call)) n ≡ lookup v n

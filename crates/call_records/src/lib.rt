@@ -1,11 +1,9 @@
 // Call records (document 01, "The program frames", and W-205 of document 02): what the record at the start of some call bytes says, and its route as a part of those bytes.
 ghost use mathlib.Core.Path.{_≡_};
-ghost use mathlib.Core.Bool.{cond};
 ghost use Prim.Native.Nat.{_+_, _≤_, _<_, min};
 ghost use lib.ListN.{length, getD};
-ghost use lib.Dec.{ltb};
 ghost use Rattle.call_records.specs.Reading.{routeIn, noRecord, Reads};
-ghost use Rattle.call_records.specs.Inner.{recordWithin, routedRecord, readRecord, InBytes};
+ghost use Rattle.call_records.specs.Inner.{recordWithin, routedRecord, numberBytes, readRecord, InBytes};
 
 // Which call a record is for.
 pub enum Kind {
@@ -82,9 +80,9 @@ fn with_route(rest: &[u8], kind: Kind, width: usize) -> Record
     within(rest, kind, width, start, end)
 }
 
-// How many bytes the number of a set-up or a release has, by the record's kind: two of 01 and 03, four of 04 and 05.
+// How many bytes the number of a set-up or a release has, by the record's kind: two of 01 and 03, four of 04 and 05. It is asked of no other kind.
 fn number_bytes(kind: u8) -> usize
-    ensures { λ r. ⌜ (r ≡ cond (ltb kind 4) 2 4) × (r ≤ 4) ⌝ }
+    ensures { λ r. ⌜ r ≡ numberBytes kind ⌝ }
 {
     if kind < 4 {
         return 2;

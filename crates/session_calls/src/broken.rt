@@ -47,7 +47,7 @@ fn changed_place(place: Place, field: u8, index: usize, value: usize) -> Place
 {
     let mut next = place;
     match field {
-        b'n' => next.number = lines::session(value),
+        b'n' => next.number = lines::session_number(value),
         b'h' => next.hops = value,
         b'r' => next.route[index] = lines::byte(value),
         _ => {}

@@ -85,7 +85,7 @@ fn route_call(st: State, line: &[u8], k: usize, letter: u8) -> State
     }
     served(
         st,
-        lines::session(lines::number(line, 1)),
+        lines::session_number(lines::number(line, 1)),
         route,
         letter == b'Q',
     )
@@ -95,14 +95,14 @@ fn route_call(st: State, line: &[u8], k: usize, letter: u8) -> State
 pub(super) fn number_call(st: State, letter: u8, x: usize) -> State {
     match letter {
         b'R' => {
-            let released = sessions::release(st, lines::session(x));
+            let released = sessions::release(st, lines::session_number(x));
             let verdict = released.verdict;
             show::verdict(verdict);
             show::after(same::after(verdict, st, released.state));
             released.state
         }
         b'L' | b'E' => {
-            let looked = sessions::lookup(st, lines::session(x));
+            let looked = sessions::lookup(st, lines::session_number(x));
             let shown = looked.shown;
             show::session(shown, letter);
             show::after(same::state(st, looked.state));
@@ -144,8 +144,8 @@ fn set_up_or_release(st: State, number: u32, route: &[u8], sets_up: bool) -> Rel
 fn many(st: State, line: &[u8], sets_up: bool) -> State {
     let one = [lines::byte(lines::number(line, 3)); 1];
     let route: &[u8] = &one;
-    let to = lines::session(lines::number(line, 2));
-    let mut number = lines::session(lines::number(line, 1));
+    let to = lines::session_number(lines::number(line, 2));
+    let mut number = lines::session_number(lines::number(line, 1));
     let mut next = st;
     let mut accepted: u64 = 0;
     let mut same = true;

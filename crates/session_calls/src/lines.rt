@@ -43,7 +43,6 @@ pub(super) fn word(x: usize) -> u16 {
     (x % 65536) as u16
 }
 
-// The number of a session.
-pub(super) fn session(x: usize) -> u32 {
+pub(super) fn session_number(x: usize) -> u32 {
     (x % 4294967296) as u32
 }

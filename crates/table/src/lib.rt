@@ -170,7 +170,7 @@ pub fn frame_twice(table: Table) -> bool
     false
 }
 
-// Whether a number is one of the first n. All of them are looked at, whatever is met: the compiler then compares four at a time.
+// Whether a number is one of the first n.
 fn among(number: u32, numbers: &[u32; 96], n: usize) -> bool
     requires { ⌜ n ≤ 96 ⌝ }
     ensures { λ r. ⌜ r ≡ anyOf (eqb number) (firsts n (now (numbers .entry)) 0) ⌝ }

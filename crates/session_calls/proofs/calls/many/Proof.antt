@@ -22,14 +22,14 @@ slice-aggregate-route c = search needs
 number-requires-2 : tie.Need-number-requires-2 Inv-loop μ-loop
 number-requires-2 c κs = search needs
 
-session-requires : tie.Need-session-requires Inv-loop μ-loop
-session-requires c κs = search needs
+session-number-requires : tie.Need-session-number-requires Inv-loop μ-loop
+session-number-requires c κs = search needs
 
 number-requires-3 : tie.Need-number-requires-3 Inv-loop μ-loop
 number-requires-3 c κs = search needs
 
-session-requires-2 : tie.Need-session-requires-2 Inv-loop μ-loop
-session-requires-2 c κs = search needs
+session-number-requires-2 : tie.Need-session-number-requires-2 Inv-loop μ-loop
+session-number-requires-2 c κs = search needs
 
 loop-holds : tie.Need-loop-holds Inv-loop μ-loop
 loop-holds c = search needs
@@ -74,9 +74,9 @@ many-spec =
     byte-requires
     slice-aggregate-route
     number-requires-2
-    session-requires
+    session-number-requires
     number-requires-3
-    session-requires-2
+    session-number-requires-2
     loop-holds
     set-up-or-release-requires
     with-verdict-requires

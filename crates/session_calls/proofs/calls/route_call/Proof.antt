@@ -59,8 +59,8 @@ returns c = search needs
 number-requires-2 : tie.Need-number-requires-2 Inv-loop μ-loop
 number-requires-2 c κs = search needs
 
-session-requires : tie.Need-session-requires Inv-loop μ-loop
-session-requires c κs = search needs
+session-number-requires : tie.Need-session-number-requires Inv-loop μ-loop
+session-number-requires c κs = search needs
 
 served-requires : tie.Need-served-requires Inv-loop μ-loop
 served-requires c κs = search needs
@@ -89,6 +89,6 @@ route-call-spec =
     surveyed-requires
     returns
     number-requires-2
-    session-requires
+    session-number-requires
     served-requires
     returns-2)
