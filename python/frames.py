@@ -1,4 +1,5 @@
-"""Reservation of time frames by the rules of document 01, for Python: the functions of the library by ctypes, with no package.
+"""Reservation of time frames by the rules of document 01 and of the change requests that have landed, for Python: the functions
+of the library by ctypes, with no package.
 
 The shared library is made of the static one, which `rt staticlib exports` builds; its code may stand at any address:
 
