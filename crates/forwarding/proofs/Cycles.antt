@@ -11,13 +11,13 @@ use lib.ListN.{length, getD}
 use borrow.Author.Tests.{lt-ltb, le-ltb}
 use Rattle.lists.proofs.Count.{and-both}
 use Rattle.forwarding.specs.declared.Hop.{Hop}
-use Rattle.forwarding.specs.Forwarding.{leastHold, referenceInto, holdInto, isFree, mayHold, isAllowed, frameTime}
+use Rattle.forwarding.specs.Forwarding.{leastHold, referenceInto, hold, holdInto, isFree, mayHold, isAllowed, frameTime}
 use Rattle.forwarding.specs.Hops.{noHop, HopReady, AllReady}
 use Rattle.forwarding.specs.Schedule.{GoesOn, IsSchedule}
-use Rattle.forwarding.specs.Cycles.{nextCycle, onwardCycles, scheduleCycles, CyclePerHop, LaterHop, Lies, CyclesLie, beginsAt, Follows, CyclesFollow, NotBelow, CyclesNeverFall, CyclesBounded}
-use Rattle.forwarding.proofs.Holds.{mod-once, hold-fits, least-in, reference-in}
-use Rattle.forwarding.proofs.Transitions.{may-hold, cycle-frames}
-use Rattle.forwarding.proofs.Rates.{next-mul, whole-frame}
+use Rattle.forwarding.specs.Cycles.{nextCycle, NoneStays, onwardCycles, scheduleCycles, CyclePerHop, LaterHop, Keeps, SchedulesKeep, Lies, CyclesLie, beginsAt, Follows, CyclesFollow, NotBelow, CyclesNeverFall, CyclesBounded}
+use Rattle.forwarding.proofs.Holds.{mod-once, hold-fits, reference-in}
+use Rattle.forwarding.proofs.Transitions.{may-hold, hold-only, cycle-frames}
+use Rattle.forwarding.proofs.Rates.{next-mul, turns-round}
 
 -- ---- one transition
 module _ (g h : Hop) (k i c : ℕ) where
@@ -44,9 +44,9 @@ module _ (g h : Hop) (k i c : ℕ) where
     from-in = reference-in g h k (omega arith) p
 
     -- the reference frame and the hold together are small numbers
-    pub reaches : referenceInto g h k + holdInto g h k i < 3 * h .frames
+    pub reaches : leastHold h ≤ h .frames → referenceInto g h k + holdInto g h k i < 3 * h .frames
     unfolding holdInto
-    reaches = omega (arith, from-in, hold-fits (leastHold h) (h .frames) (referenceInto g h k) i l .most, least-in h (omega arith))
+    reaches o = omega (arith, from-in, hold-fits (leastHold h) (h .frames) (referenceInto g h k) i l .most, o)
 
     meets : (referenceInto g h k + holdInto g h k i) % h .frames ≡ i
     unfolding holdInto
@@ -65,6 +65,10 @@ module _ (g h : Hop) (k i c : ℕ) where
               rw (← cycle-after x refl (omega arith)) (omega (arith, next-mul c K, e))
         ]
 
+-- a hold of 0 stays in the cycle
+pub none-stays : NoneStays
+none-stays g h k i c some l e = sym (same-cycle g h k i c (referenceInto g h k + holdInto g h k i) refl (omega (arith, e, reference-in g h k some l)))
+
 -- ---- the cycles of a schedule
 -- a frame of cycle c is c cycles and itself
 begins-split : (T : ℕ) (h : Hop) (c i : ℕ) → HopReady T h → beginsAt T h c i ≡ c * T + i * frameTime T (h .frames)
@@ -73,11 +77,13 @@ begins-split T h c i p =
     ∙ ap (λ (x : ℕ). x + i * frameTime T (h .frames))
     (mul-assoc c (h .frames) (frameTime T (h .frames)) ∙ ap (λ (x : ℕ). c * x) (mul-comm (h .frames) (frameTime T (h .frames)) ∙ cycle-frames T (h .frames) (p .divides)))
 
--- a frame that lies in its cycle begins no earlier than the one before ends
+-- a frame that lies in its cycle ends so much after the one before
 follows : (T : ℕ) (g h : Hop) (k i c d : ℕ) → HopReady T g → HopReady T h → Lies g h k i c d → Follows T g h k i c d
 follows T g h k i c d pg ph e =
-    let there : beginsAt T h d i ≡ beginsAt T h c (referenceInto g h k + holdInto g h k i) = ap (λ (x : ℕ). x * frameTime T (h .frames)) e in
-    omega (arith, there, begins-split T g c (k + 1) pg, begins-split T h c (referenceInto g h k + holdInto g h k i) ph, whole-frame T g h k pg ph i)
+    let x : ℕ = referenceInto g h k + holdInto g h k i in
+    let after : d * h .frames + (i + 1) ≡ c * h .frames + (x + 1) = omega (arith, e) in
+    let there : beginsAt T h d (i + 1) ≡ beginsAt T h c (x + 1) = ap (λ (y : ℕ). y * frameTime T (h .frames)) after in
+    omega (arith, there, begins-split T g c (k + 1) pg, begins-split T h c (x + 1) ph, turns-round T g h k pg ph i)
 
 -- something holds of every hop: of ready ones that they are, and of any nothing
 abbrev Every : (Hop → Type 0) → List Hop → Type 0
@@ -110,6 +116,15 @@ module _ (Q : Hop → Type 0) (P : Hop → Hop → ℕ → ℕ → ℕ → ℕ �
   later-each f (h ∷ hs) (k ∷ is) ps s j q = on-each f h k 0 hs is (ps .0) (ps .1) (s .0) (s .2) j (le-of-suc-le-suc q)
 
 -- an allowed transition
+allowed-keeps : (T : ℕ) → Each (HopReady T) Keeps
+unfolding holdInto
+allowed-keeps T g h k i c pg ph p l a =
+    hold-only T h (referenceInto g h k) i ph l (holdInto g h k i) .1 (refl, and-both (mayHold h (holdInto g h k i)) (isFree h i) a .0)
+
+-- EVERY SCHEDULE KEEPS Y, at every later hop
+pub schedules-keep : SchedulesKeep
+schedules-keep T hops fs ps = later-each (HopReady T) Keeps (allowed-keeps T) hops fs (every-ready T hops ps)
+
 allowed-lies : (T : ℕ) → Each (HopReady T) Lies
 allowed-lies T g h k i c pg ph p l a =
     let D : ℕ = holdInto g h k i in

@@ -11,7 +11,8 @@ use Rattle.lists.specs.Count.{oneIf, sumBelow, countBelow}
 use Rattle.lists.proofs.Count.{sum-cong, sum-split, sum-const}
 use Rattle.lists.proofs.Sums.{sum-narrow}
 use Rattle.forwarding.specs.declared.Hop.{Hop}
-use Rattle.forwarding.specs.Forwarding.{reference, referenceInto, leastHold, gap, hold, holdInto, HoldOnly, choices, ChoicesAreZ}
+use Rattle.forwarding.specs.Forwarding.{reference, referenceInto, leastHold, gap, hold, holdInto, choices, ChoicesAreZ}
+use Rattle.forwarding.specs.Hops.{HopReady}
 
 -- D leads from the reference frame r to the frame i of a link with K frames, and is one of the K numbers from Y on
 pub record FitsFrom (Y K r i D : ℕ) : Type 0 where
@@ -84,15 +85,6 @@ pub into-gap : (g h : Hop) (k i : ℕ) → holdInto g h k i ≡ leastHold h + ga
 unfolding holdInto hold
 into-gap g h k i = refl
 
--- THE HOLD IS THE ONLY NUMBER THAT FITS, in document 01's words
-pub hold-only : HoldOnly
-unfolding leastHold
-hold-only h r i l =
-    let f = hold-fits (leastHold h) (h .frames) r i l in (
-      record { least = f .least; most = omega (arith, f .most); meets = f .meets },
-      λ D d. hold-fitting (leastHold h) (h .frames) r i D (record { least = d .least; most = omega (arith, d .most); meets = d .meets }),
-    )
-
 -- a reference frame is a frame of the link
 pub reference-lt : (k K K′ : ℕ) → 0 < K → k < K′ → reference k K K′ < K
 unfolding reference
@@ -104,30 +96,26 @@ pub reference-in : (g h : Hop) (k : ℕ) → 0 < h .frames → k < g .frames →
 unfolding referenceInto
 reference-in g h k p l = reference-lt k (h .frames) (g .frames) p l
 
--- the least hold is within the cycle, and within Z where there is a choice
-pub least-in : (h : Hop) → 0 < h .frames → leastHold h ≤ h .frames
+-- of a hop that passed its checks: the least hold is at most Z, and so within the cycle
+pub least-range : (T : ℕ) (h : Hop) → HopReady T h → leastHold h ≤ h .range
 unfolding leastHold
-least-in h p = p
+least-range T h p = p .ordered
 
-pub least-range : (h : Hop) → leastHold h ≤ h .range + 1
-unfolding leastHold
-least-range h = omega arith
+pub least-in : (T : ℕ) (h : Hop) → HopReady T h → leastHold h ≤ h .frames
+least-in T h p = omega (arith, least-range T h p, p .in-cycle)
 
--- the holds from the least on, counted up to Z
-pub choices-range : (h : Hop) → leastHold h + choices h ≡ h .range + 1
+-- the holds from the least on, counted up to Z, are no more than the frames
+pub choices-range : (T : ℕ) (h : Hop) → HopReady T h → leastHold h + choices h ≡ h .range + 1
 unfolding choices
-choices-range h = omega (arith, least-range h)
+choices-range T h p = omega (arith, least-range T h p)
+
+pub choices-in : (T : ℕ) (h : Hop) → HopReady T h → choices h ≤ h .frames
+unfolding leastHold
+choices-in T h p = omega (arith, choices-range T h p, p .narrow)
 
 pub choices-are-z : ChoicesAreZ
-unfolding choices leastHold
-choices-are-z h = omega arith
-
-pub choices-in : (h : Hop) → h .range ≤ h .frames → choices h ≤ h .frames
-choices-in h l = omega (arith, choices-are-z h)
-
--- each choice is a hold within the cycle
-pub choice-in : (h : Hop) (Y W d : ℕ) → Y ≡ leastHold h → W ≡ choices h → d < W → h .range ≤ h .frames → (d < h .frames) × (Y + d ≤ h .frames)
-choice-in h Y W d y w l r = (omega (arith, choices-in h r, w), omega (arith, choices-range h, y, w))
+unfolding choices
+choices-are-z h e p = omega (arith, e, p)
 
 -- the hold by one remainder, from the frame f
 pub gap-counted : (Y K f i : ℕ) → f < K → Y ≤ K → i < K → (i + 2 * K - (f + Y)) % K + Y ≡ hold Y K f i
@@ -146,9 +134,9 @@ gap-counted Y K f i p y l =
     ]
 
 -- of a transition, from its reference frame f and the least hold Y
-module _ (g h : Hop) (k i f Y : ℕ) (e : f ≡ referenceInto g h k) (y : Y ≡ leastHold h) (p : k < g .frames) (l : i < h .frames) where
+module _ (g h : Hop) (k i f Y : ℕ) (e : f ≡ referenceInto g h k) (y : Y ≡ leastHold h) (p : k < g .frames) (l : i < h .frames) (o : leastHold h ≤ h .frames) where
   pub from-within : (f < h .frames) × (Y ≤ h .frames)
-  from-within = (rw e (reference-in g h k (omega arith) p), rw y (least-in h (omega arith)))
+  from-within = (rw e (reference-in g h k (omega arith) p), rw y o)
 
   pub hold-in : (i + 2 * h .frames - (f + Y)) % h .frames < h .frames
   hold-in = mod-lt (i + 2 * h .frames - (f + Y)) (omega arith)

@@ -1,13 +1,14 @@
 -- The reference frame at equal rates and where rates change, and that it waits for the whole frame (W-201). Assumes nothing.
 use mathlib.Core.Path.{_≡_, sym, _∙_, ap}
 use Prim.Native.Nat.{ℕ, _+_, _-_, _*_, _/_, _<_, _≤_}
-use native.Mathlib.Nat.{div-eq-of-lt-le, div-div-eq-div-mul, div-mul-le-self, lt-div-mul-add, le-div-iff-mul-le, mul-assoc, mul-comm, mul-right-comm, add-mul, zero-mul, one-mul, mul-le-mul-right, mul-lt-mul-of-pos-right, le-of-mul-le-mul-right, lt-of-mul-lt-mul-right}
+use native.Mathlib.Nat.{add-zero, mod-eq-of-lt, zero-div, div-eq-of-lt-le, div-div-eq-div-mul, div-mul-le-self, lt-div-mul-add, le-div-iff-mul-le, mul-assoc, mul-comm, mul-right-comm, add-mul, zero-mul, one-mul, mul-le-mul-right, mul-lt-mul-of-pos-right, le-of-mul-le-mul-right, lt-of-mul-lt-mul-right}
 use native.Mathlib.Omega.{arith}
 use Rattle.forwarding.specs.declared.Hop.{Hop}
-use Rattle.forwarding.specs.Forwarding.{reference, referenceInto, leastHold, hold, holdInto, frameTime}
+use Rattle.forwarding.specs.Forwarding.{reference, referenceInto, leastHold, hold, holdInto, mayHold, isFree, frameTime, delay}
 use Rattle.forwarding.specs.Hops.{HopReady}
-use Rattle.forwarding.specs.Rates.{SameRate, ToFaster, ToSlower, ToFasterLater, NeverEarlier, WholeFrame, NotYetWhole}
-use Rattle.forwarding.proofs.Transitions.{cycle-frames}
+use Rattle.forwarding.specs.Rates.{SameRate, ToFaster, ToSlower, ToFasterLater, NeverEarlier, WholeFrame, NotYetWhole, TurnsRound, SameFrame}
+use Rattle.forwarding.proofs.Holds.{hold-fitting, into-gap}
+use Rattle.forwarding.proofs.Transitions.{cycle-frames, hold-may}
 
 pub next-mul : (k K : ℕ) → (k + 1) * K ≡ k * K + K
 next-mul k K = add-mul k 1 K ∙ ap (λ (x : ℕ). k * K + x) (one-mul K)
@@ -58,15 +59,19 @@ module _ (T : ℕ) (g h : Hop) (k : ℕ) (pg : HopReady T g) (ph : HopReady T h)
       ∙ ap (λ (x : ℕ). y * x) (mul-comm (g .frames) time ∙ cycle-frames T (g .frames) (pg .divides) ∙ sym (cycle-frames T (h .frames) (ph .divides)))
       ∙ sym (mul-assoc y (frameTime T (h .frames)) (h .frames))
 
-  begins-after : (i : ℕ) → (k + 1) * time ≤ (r + holdInto g h k i) * frameTime T (h .frames)
-  unfolding reference referenceInto leastHold hold holdInto
-  begins-after i =
-      let y : ℕ = r + holdInto g h k i in
-      let later : (r + 1) * g .frames ≤ y * g .frames = mul-le-mul-right (g .frames) (omega arith) in
-      let whole : (k + 1) * h .frames ≤ y * g .frames = omega (arith, later, next-mul r (g .frames), lt-div-mul-add {a = (k + 1) * h .frames - 1} (pg .some-frame)) in
+  -- when the reference frame ends the last bit has arrived
+  arrived : (k + 1) * time ≤ (r + 1) * frameTime T (h .frames)
+  unfolding reference referenceInto
+  arrived =
+      let whole : (k + 1) * h .frames ≤ (r + 1) * g .frames = omega (arith, next-mul r (g .frames), lt-div-mul-add {a = (k + 1) * h .frames - 1} (pg .some-frame)) in
       le-of-mul-le-mul-right
-      (omega (arith, mul-le-mul-right time whole, y-cycles y, mul-right-comm (k + 1) (h .frames) time))
+      (omega (arith, mul-le-mul-right time whole, y-cycles (r + 1), mul-right-comm (k + 1) (h .frames) time))
       (ph .some-frame)
+
+  ends-after : (i : ℕ) → (k + 1) * time + leastHold h * frameTime T (h .frames) ≤ (r + holdInto g h k i + 1) * frameTime T (h .frames)
+  ends-after i =
+      let held : r + 1 + leastHold h ≤ r + holdInto g h k i + 1 = omega (arith, into-gap g h k i) in
+      omega (arith, arrived, mul-le-mul-right (frameTime T (h .frames)) held, add-mul (r + 1) (leastHold h) (frameTime T (h .frames)))
 
   begins-before : 0 < T → r * frameTime T (h .frames) < (k + 1) * time
   unfolding reference referenceInto
@@ -76,10 +81,28 @@ module _ (T : ℕ) (g h : Hop) (k : ℕ) (pg : HopReady T g) (ph : HopReady T h)
       lt-of-mul-lt-mul-right (h .frames)
       (omega (arith, mul-lt-mul-of-pos-right early lasts, y-cycles r, mul-right-comm (k + 1) (h .frames) time))
 
+-- "Some switches need two frames to turn round, those of source document 000 none"
+pub turns-round : TurnsRound
+turns-round T g h k pg ph i = ends-after T g h k pg ph i
+
 -- "The new switches send nothing of a frame before its last bit has arrived"
 pub whole-frame : WholeFrame
-whole-frame T g h k pg ph i = begins-after T g h k pg ph i
+whole-frame T g h k pg ph some i =
+    let time : ℕ = frameTime T (h .frames) in
+    let one : 1 * time ≤ leastHold h * time = mul-le-mul-right time some in
+    omega (arith, one, one-mul time, turns-round T g h k pg ph i, next-mul (referenceInto g h k + holdInto g h k i) time)
 
 -- and it waits no longer than it must
 pub not-yet-whole : NotYetWhole
 not-yet-whole T g h k pg ph t = begins-before T g h k pg ph t
+
+-- WITH Y 0 THE SAME FRAME NUMBER IS A HOLD OF 0 AND A DELAY OF 0
+pub same-frame : SameFrame
+unfolding holdInto
+same-frame T g h k p e l y = (none, rw none (unfold delay in rw zero-mul (zero-div (h .frames))), rw (none, hold-may h 0 (omega arith)))
+  where
+    there : referenceInto g h k ≡ k
+    there = unfold referenceInto in rw e (same-rate k (h .frames) (p .some-frame))
+
+    none : holdInto g h k k ≡ 0
+    none = rw (y, there) (sym (hold-fitting 0 (h .frames) k k 0 (record { least = omega arith; most = omega arith; meets = rw add-zero (mod-eq-of-lt l) })))

@@ -7,11 +7,11 @@ use native.Mathlib.Omega.{arith}
 use lib.Dec.{leb, ltb}
 use borrow.Author.Tests.{leb-true, leb-false, le-leb, lt-ltb, le-ltb}
 use Rattle.lists.specs.Count.{oneIf, countBelow}
-use Rattle.lists.proofs.Count.{sum-le, and-both, and-left-le}
+use Rattle.lists.proofs.Count.{sum-le, and-both, both-and, and-left-le}
 use Rattle.forwarding.specs.declared.Hop.{Hop}
-use Rattle.forwarding.specs.Forwarding.{referenceInto, leastHold, isFree, mayHold, holdInto, isAllowed, choices, delay, frameTime, IsDelay}
+use Rattle.forwarding.specs.Forwarding.{referenceInto, leastHold, isFree, mayHold, hold, holdInto, isAllowed, HoldOnly, AllowedWhere, choices, delay, frameTime, IsDelay}
 use Rattle.forwarding.specs.Hops.{HopReady}
-use Rattle.forwarding.proofs.Holds.{choices-range, choices-in, count-holds}
+use Rattle.forwarding.proofs.Holds.{hold-fits, hold-fitting, choices-range, choices-in, count-holds}
 
 -- where K divides T, K frames are a cycle
 pub cycle-frames : (T K : ℕ) → T % K ≡ 0 → frameTime T K * K ≡ T
@@ -52,9 +52,28 @@ unfolding mayHold
 hold-may h D l = le-leb D (h .range) l
 
 -- a hold within the range is below the least hold and the number of choices together
-pub may-choice : (h : Hop) (D : ℕ) → mayHold h D ≡ ltb D (leastHold h + choices h)
+pub may-choice : (T : ℕ) (h : Hop) (D : ℕ) → HopReady T h → mayHold h D ≡ ltb D (leastHold h + choices h)
 unfolding mayHold
-may-choice h D = rw (choices-range h) (leb-ltb D (h .range))
+may-choice T h D p = rw (choices-range T h p) (leb-ltb D (h .range))
+
+-- THE HOLD IS THE ONE NUMBER FROM Y UP TO Z THAT FITS, if there is one
+pub hold-only : HoldOnly
+unfolding leastHold
+hold-only T h r i p l D = (
+  λ d. (
+    hold-fitting (leastHold h) (h .frames) r i D (record { least = d .least; most = omega (arith, d .most, p .narrow); meets = d .fits }),
+    hold-may h D (d .most),
+  ),
+  λ (e, m). let f = hold-fits (leastHold h) (h .frames) r i l in rw e (record { least = f .least; most = rw e at (may-hold h D m); fits = f .meets }),
+)
+
+-- A TRANSITION IS ALLOWED EXACTLY WHERE THERE IS SUCH A NUMBER and the frame is free
+pub allowed-where : AllowedWhere
+unfolding holdInto
+allowed-where T g h k i p l = (
+  λ a. let b = and-both (mayHold h (holdInto g h k i)) (isFree h i) a in ((holdInto g h k i, hold-only T h (referenceInto g h k) i p l (holdInto g h k i) .1 (refl, b .0)), b .1),
+  λ ((D, d), f). let e = hold-only T h (referenceInto g h k) i p l D .0 d in both-and (mayHold h (holdInto g h k i)) (isFree h i) (rw (e .0) at (e .1)) f,
+)
 
 -- an allowed transition takes a cycle at most
 pub allowed-cap : (T : ℕ) (g h : Hop) (k i : ℕ) → HopReady T h → isAllowed g h k i ≡ true → delay T (h .frames) (holdInto g h k i) ≤ T
@@ -67,5 +86,5 @@ pub allowed-narrow : (T : ℕ) (g h : Hop) (k : ℕ) → HopReady T h → countB
 allowed-narrow T g h k p =
     le-trans
     (sum-le (h .frames) (λ i. oneIf (isAllowed g h k i)) (λ i. oneIf (ltb (holdInto g h k i) (leastHold h + choices h)))
-    (λ i l. le-trans (and-left-le (mayHold h (holdInto g h k i)) (isFree h i)) (le-of-eq (ap oneIf (may-choice h (holdInto g h k i))))))
-    (le-of-eq (unfold holdInto in count-holds (leastHold h) (choices h) (h .frames) (referenceInto g h k) (p .some-frame) (choices-in h (p .in-cycle))))
+    (λ i l. le-trans (and-left-le (mayHold h (holdInto g h k i)) (isFree h i)) (le-of-eq (ap oneIf (may-choice T h (holdInto g h k i) p)))))
+    (le-of-eq (unfold holdInto in count-holds (leastHold h) (choices h) (h .frames) (referenceInto g h k) (p .some-frame) (choices-in T h p)))

@@ -20,7 +20,6 @@ use Rattle.forwarding.specs.Schedule.{GoesOn, IsSchedule}
 use Rattle.forwarding.specs.Route.{transitions}
 use Rattle.forwarding.specs.QuestionFour.{starred}
 use Rattle.forwarding.specs.Ways.{waysOn, schedules, SchedulesListed, SchedulesOnce, routeWays, WaysOnly, WaysBlocked, EveryFrameFree, laterChoices, WaysOpen, WaysMost, StarredWays}
-use Rattle.forwarding.proofs.Holds.{choices-in}
 use Rattle.forwarding.proofs.Windows.{firstFrame, window-sum}
 use Rattle.forwarding.proofs.Counted.{transitions-counted}
 use Rattle.forwarding.proofs.Answers.{blocked-none, none-blocked}
@@ -95,7 +94,7 @@ all-ways h hs = headed-length (h .frames) (isFree h) (λ k. waysOn h k hs)
 open-stage : (T : ℕ) (g h : Hop) (k w : ℕ) → HopReady T h → ((i : ℕ) → i < h .frames → isFree h i ≡ true)
     → sumBelow (h .frames) (λ i. oneIf (isAllowed g h k i) * w) ≡ choices h * w
 open-stage T g h k w p o =
-    window-sum g h k (p .some-frame) (choices-in h (p .in-cycle)) (λ i. w)
+    window-sum T g h k p (λ i. w)
     ∙ sum-cong (choices h) (λ d. oneIf (isFree h ((firstFrame g h k + d) % h .frames)) * w) (λ d. w)
     (λ d l. rw (o ((firstFrame g h k + d) % h .frames) (mod-lt _ (p .some-frame))) (one-mul w))
     ∙ sum-const (choices h) w

@@ -9,7 +9,8 @@ use Rattle.lists.proofs.Count.{sum-cong}
 use Rattle.lists.proofs.Sums.{sum-narrow}
 use Rattle.forwarding.specs.declared.Hop.{Hop}
 use Rattle.forwarding.specs.Forwarding.{referenceInto, leastHold, gap, isFree, mayHold, holdInto, isAllowed, choices}
-use Rattle.forwarding.proofs.Holds.{gap-meets, gap-sum, into-gap, test-shift}
+use Rattle.forwarding.specs.Hops.{HopReady}
+use Rattle.forwarding.proofs.Holds.{gap-meets, gap-sum, into-gap, test-shift, choices-in}
 use Rattle.forwarding.proofs.Transitions.{may-choice}
 
 both-times : (a b : Bool) (x : ℕ) → oneIf (a && b) * x ≡ oneIf a * (oneIf b * x)
@@ -20,16 +21,17 @@ both-times false b x = zero-mul x ∙ sym (zero-mul (oneIf b * x))
 abbrev pub firstFrame : Hop → Hop → ℕ → ℕ
 firstFrame g h k = (referenceInto g h k + leastHold h) % h .frames
 
-module _ (g h : Hop) (k : ℕ) (p : 0 < h .frames) (l : choices h ≤ h .frames) where
+module _ (T : ℕ) (g h : Hop) (k : ℕ) (p : HopReady T h) where
   abbrev first : ℕ
   first = firstFrame g h k
 
   first-in : first < h .frames
-  first-in = mod-lt (referenceInto g h k + leastHold h) p
+  first-in = mod-lt (referenceInto g h k + leastHold h) (p .some-frame)
 
-  near : (i : ℕ) → mayHold h (holdInto g h k i) ≡ ltb (gap (h .frames) first i) (choices h)
+  -- within the range exactly where so near after it
+  pub near : (i : ℕ) → mayHold h (holdInto g h k i) ≡ ltb (gap (h .frames) first i) (choices h)
   near i =
-      may-choice h (holdInto g h k i) ∙ ap (λ (D : ℕ). ltb D (leastHold h + choices h)) (into-gap g h k i)
+      may-choice T h (holdInto g h k i) p ∙ ap (λ (D : ℕ). ltb D (leastHold h + choices h)) (into-gap g h k i)
       ∙ test-shift (leastHold h) (gap (h .frames) first i) (choices h)
 
   -- A SUM OVER THE FRAMES THAT ARE LED TO IS ONE OVER A WINDOW of as many as there are holds
@@ -40,7 +42,7 @@ module _ (g h : Hop) (k : ℕ) (p : 0 < h .frames) (l : choices h ≤ h .frames)
       (λ i m. both-times (mayHold h (holdInto g h k i)) (isFree h i) (f i) ∙ ap (λ (b : Bool). oneIf b * F i) (near i)
       ∙ ap (λ (x : ℕ). oneIf (ltb (gap K first i) (choices h)) * F x) (sym (gap-meets K first i first-in m)))
       ∙ gap-sum K first G first-in
-      ∙ sum-narrow K (choices h) (λ d. F ((first + d) % K)) l
+      ∙ sum-narrow K (choices h) (λ d. F ((first + d) % K)) (choices-in T h p)
     where
       K : ℕ
       K = h .frames

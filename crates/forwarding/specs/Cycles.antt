@@ -1,4 +1,4 @@
--- W-202, "Cycle numbers written out": the cycle of each hop of a schedule, and that its frame lies there. Assumes nothing.
+-- W-202, "Cycle numbers written out": the cycle of each hop of a schedule, and that its frame lies there; and what W-206 says of every later hop. Assumes nothing.
 use mathlib.Core.Path.{_≡_}
 use mathlib.Core.Bool.{cond}
 use mathlib.Core.List.{List, [], _∷_}
@@ -6,13 +6,17 @@ use Prim.Native.Nat.{ℕ, suc, _+_, _*_, _<_, _≤_}
 use lib.Dec.{ltb}
 use lib.ListN.{length, getD}
 use Rattle.forwarding.specs.declared.Hop.{Hop}
-use Rattle.forwarding.specs.Forwarding.{referenceInto, holdInto, frameTime}
+use Rattle.forwarding.specs.Forwarding.{referenceInto, leastHold, IsHold, holdInto, frameTime}
 use Rattle.forwarding.specs.Hops.{noHop, AllReady}
 use Rattle.forwarding.specs.Schedule.{IsSchedule}
 
 -- "If the hop before lies at frame k of cycle c, the next has cycle c when r + D is below K, else c + 1": from the hop g to frame i of the hop h
 unfoldable pub nextCycle : Hop → Hop → ℕ → ℕ → ℕ → ℕ
 nextCycle g h k i c = cond (ltb (referenceInto g h k + holdInto g h k i) (h .frames)) c (c + 1)
+
+-- a hold of 0 (W-206) stays in the cycle: r + 0 is below K
+abbrev pub NoneStays : Type 0
+NoneStays = (g h : Hop) (k i c : ℕ) → 0 < h .frames → k < g .frames → holdInto g h k i ≡ 0 → nextCycle g h k i c ≡ c
 
 -- the cycles of the later hops, from frame k of the hop g in cycle c on
 abbrev pub onwardCycles : Hop → ℕ → ℕ → List Hop → List ℕ → List ℕ
@@ -35,6 +39,14 @@ abbrev pub LaterHop : (Hop → Hop → ℕ → ℕ → ℕ → ℕ → Type 0) �
 LaterHop P hops fs cs = (j : ℕ) → suc j < length hops
     → P (getD hops j noHop) (getD hops (suc j) noHop) (getD fs j 0) (getD fs (suc j) 0) (getD cs j 0) (getD cs (suc j) 0)
 
+-- the frame is led to by a number from Y up to Z that fits
+abbrev pub Keeps : Hop → Hop → ℕ → ℕ → ℕ → ℕ → Type 0
+Keeps g h k i c d = IsHold h (referenceInto g h k) i (holdInto g h k i)
+
+-- EVERY SCHEDULE KEEPS Y, at every later hop: "A rival schedule keeps Y too" (W-206)
+abbrev pub SchedulesKeep : Type 0
+SchedulesKeep = (T : ℕ) (hops : List Hop) (fs : List ℕ) → AllReady T hops → IsSchedule hops fs → LaterHop Keeps hops fs (scheduleCycles hops fs)
+
 -- counted in frames of its link, frame i of cycle d comes r + D frames after cycle c begins
 abbrev pub Lies : Hop → Hop → ℕ → ℕ → ℕ → ℕ → Type 0
 Lies g h k i c d = d * h .frames + i ≡ c * h .frames + (referenceInto g h k + holdInto g h k i)
@@ -47,11 +59,11 @@ CyclesLie = (T : ℕ) (hops : List Hop) (fs : List ℕ) → AllReady T hops → 
 abbrev pub beginsAt : ℕ → Hop → ℕ → ℕ → ℕ
 beginsAt T h c i = (c * h .frames + i) * frameTime T (h .frames)
 
--- a frame in its cycle begins no earlier than the one on the hop before ends
+-- a frame in its cycle ends Y of its frames, or more, after the one on the hop before has ended; so where Y is 1 it begins no earlier than that
 abbrev pub Follows : ℕ → Hop → Hop → ℕ → ℕ → ℕ → ℕ → Type 0
-Follows T g h k i c d = beginsAt T g c (k + 1) ≤ beginsAt T h d i
+Follows T g h k i c d = beginsAt T g c (k + 1) + leastHold h * frameTime T (h .frames) ≤ beginsAt T h d (i + 1)
 
--- THE FRAMES IN THEIR CYCLES COME ONE AFTER THE OTHER: "send nothing of a frame before its last bit has arrived" (W-201), over all cycles
+-- THE FRAMES IN THEIR CYCLES COME ONE AFTER THE OTHER: "send nothing of a frame before its last bit has arrived" (W-201), and need Y frames "to turn round" (W-206), over all cycles
 abbrev pub CyclesFollow : Type 0
 CyclesFollow = (T : ℕ) (hops : List Hop) (fs : List ℕ) → AllReady T hops → IsSchedule hops fs → LaterHop (Follows T) hops fs (scheduleCycles hops fs)
 

@@ -1,10 +1,12 @@
--- Document 01, "Forwarding", and W-201: the reference frame, the hold, the delay, and which transitions are allowed. Assumes nothing.
+-- Document 01, "Forwarding", W-201 and W-206: the reference frame, the hold, the delay, and which transitions are allowed. Assumes nothing.
 use mathlib.Core.Path.{_≡_}
-use mathlib.Core.Bool.{Bool, _&&_}
+use mathlib.Core.Bool.{Bool, true, _&&_}
+use mathlib.Core.Logic.{_↔_}
 use Prim.Native.Nat.{ℕ, _+_, _-_, _*_, _/_, _%_, _<_, _≤_}
 use lib.Dec.{leb}
 use Rattle.words.specs.Word.{bitOf}
 use Rattle.forwarding.specs.declared.Hop.{Hop}
+use Rattle.forwarding.specs.Hops.{HopReady}
 
 -- the reference frame, from frame k of a link with K′ frames to a link with K: "becomes floor(((k + 1) × K − 1) / K')" (W-201, for 01's floor(k × K / K'))
 unfoldable pub reference : ℕ → ℕ → ℕ → ℕ
@@ -14,15 +16,15 @@ reference k K K′ = ((k + 1) * K - 1) / K′
 unfoldable pub referenceInto : Hop → Hop → ℕ → ℕ
 referenceInto g h k = reference k (h .frames) (g .frames)
 
--- a hold D from the reference frame r to the frame i: a "number from 1 to K with (r + D) mod K = i"
-pub record IsHold (K r i D : ℕ) : Type 0 where
-  pub least : 1 ≤ D
-  pub most : D ≤ K
-  pub meets : (r + D) % K ≡ i
-
--- the least hold into a hop: "000 lets holds start at 0; here they start at 1"
+-- the least hold into a hop: "Each link gets a least hold Y" (W-206, for 01's "here they start at 1")
 unfoldable pub leastHold : Hop → ℕ
-leastHold h = 1
+leastHold h = h .least
+
+-- a hold D into the hop h, from the reference frame r to the frame i: a "number from Y up to Z that fits" (W-206, for 01's "number from 1 to K"), which is one "with (r + D) mod K = i"
+pub record IsHold (h : Hop) (r i D : ℕ) : Type 0 where
+  pub least : leastHold h ≤ D
+  pub most : D ≤ h .range
+  pub fits : (r + D) % h .frames ≡ i
 
 -- how far the frame i lies after the frame a, going round a cycle of K frames
 unfoldable pub gap : ℕ → ℕ → ℕ → ℕ
@@ -32,11 +34,6 @@ gap K a i = (i + K - a) % K
 unfoldable pub hold : ℕ → ℕ → ℕ → ℕ → ℕ
 hold Y K r i = Y + gap K ((r + Y) % K) i
 
--- "The hold D is the only number from 1 to K with (r + D) mod K = i": THE HOLD IS ONE, AND THERE IS NO OTHER
-abbrev pub HoldOnly : Type 0
-HoldOnly = (h : Hop) (r i : ℕ) → i < h .frames
-    → IsHold (h .frames) r i (hold (leastHold h) (h .frames) r i) × ((D : ℕ) → IsHold (h .frames) r i D → D ≡ hold (leastHold h) (h .frames) r i)
-
 -- the hold from frame k of the hop g to frame i of the hop h after it
 unfoldable pub holdInto : Hop → Hop → ℕ → ℕ → ℕ
 holdInto g h k i = hold (leastHold h) (h .frames) (referenceInto g h k) i
@@ -44,6 +41,11 @@ holdInto g h k i = hold (leastHold h) (h .frames) (referenceInto g h k) i
 -- the hold's range: "D is at most that link's Z"
 unfoldable pub mayHold : Hop → ℕ → Bool
 mayHold h D = leb D (h .range)
+
+-- "The hold is the one number from Y up to Z that fits, if there is one" (W-206), on every hop that passed its checks: A NUMBER IS SUCH A ONE EXACTLY WHEN IT IS THE HOLD, AND THE HOLD IS WITHIN ITS RANGE
+abbrev pub HoldOnly : Type 0
+HoldOnly = (T : ℕ) (h : Hop) (r i : ℕ) → HopReady T h → i < h .frames
+    → (D : ℕ) → IsHold h r i D ↔ ((D ≡ hold (leastHold h) (h .frames) r i) × (mayHold h D ≡ true))
 
 -- a frame of a hop is free: "Written as a word, bit i stands for a free frame i"
 unfoldable pub isFree : Hop → ℕ → Bool
@@ -53,13 +55,18 @@ isFree h i = bitOf (h .free) i
 abbrev pub isAllowed : Hop → Hop → ℕ → ℕ → Bool
 isAllowed g h k i = mayHold h (holdInto g h k i) && isFree h i
 
--- the number of holds into a hop, from the least to Z
-unfoldable pub choices : Hop → ℕ
-choices h = h .range + 1 - leastHold h
+-- ALLOWED EXACTLY WHERE THERE IS SUCH A NUMBER and i is free
+abbrev pub AllowedWhere : Type 0
+AllowedWhere = (T : ℕ) (g h : Hop) (k i : ℕ) → HopReady T h → i < h .frames
+    → (isAllowed g h k i ≡ true) ↔ (((D : ℕ) × IsHold h (referenceInto g h k) i D) × (isFree h i ≡ true))
 
--- as the least hold is 1, these are Z
+-- the number of holds into a hop: "Z − Y + 1" (W-206)
+unfoldable pub choices : Hop → ℕ
+choices h = h .range - leastHold h + 1
+
+-- with the absent value of Y, 1, these are Z, as document 01 has it
 abbrev pub ChoicesAreZ : Type 0
-ChoicesAreZ = (h : Hop) → choices h ≡ h .range
+ChoicesAreZ = (h : Hop) → leastHold h ≡ 1 → 0 < h .range → choices h ≡ h .range
 
 -- a frame's time: "A frame lasts T/K ticks"
 unfoldable pub frameTime : ℕ → ℕ → ℕ

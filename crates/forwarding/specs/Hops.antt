@@ -1,13 +1,13 @@
 -- What the search asks of a route's hops, part of what the checks of document 01 show. Assumes nothing.
 use mathlib.Core.Path.{_≡_}
 use mathlib.Core.List.{List, [], _∷_}
-use Prim.Native.Nat.{ℕ, _%_, _<_, _≤_}
+use Prim.Native.Nat.{ℕ, _+_, _%_, _<_, _≤_}
 use lib.ListN.{getD}
 use Rattle.forwarding.specs.declared.Hop.{Hop}
 
 -- what stands in a place of an array that no hop stands in
 abbrev pub noHop : Hop
-noHop = record { frames = 0; range = 0; free = 0 }
+noHop = record { frames = 0; range = 0; least = 0; free = 0 }
 
 -- a hop that the search can enter, for a cycle of T ticks
 pub record HopReady (T : ℕ) (h : Hop) : Type 0 where
@@ -17,6 +17,9 @@ pub record HopReady (T : ℕ) (h : Hop) : Type 0 where
   pub divides : T % h .frames ≡ 0
   -- from check 8: Z is not above K
   pub in-cycle : h .range ≤ h .frames
+  -- check 21: Y is not above Z, and is not 0 where Z is K, so that of the numbers from Y up to Z no two lead to the same frame
+  pub ordered : h .least ≤ h .range
+  pub narrow : h .range < h .least + h .frames
 
 -- each hop of a list is ready
 abbrev pub AllReady : ℕ → List Hop → Type 0

@@ -39,7 +39,7 @@ BlockedNone = (T : ℕ) (hops : List Hop) (n : ℕ) → routeAnswer T hops ≡ b
 abbrev pub NoneBlocked : Type 0
 NoneBlocked = (T : ℕ) (hops : List Hop) (n : ℕ) → ((fs : List ℕ) → IsSchedule hops fs → ⊥) → CountOf hops n → routeAnswer T hops ≡ blocked n
 
--- "It is at most the sum of K of hop j−1 times Z of hop j"
+-- "It is at most the sum of K of hop j−1 times" Z − Y + 1 "of hop j" (W-206)
 abbrev pub CountBound : Type 0
 CountBound = (T : ℕ) (hops : List Hop) (n : ℕ) → AllReady T hops → CountOf hops n → n ≤ transitionBound hops
 

@@ -1,4 +1,4 @@
--- Document 01, "Question four": the starred cases, for a cycle of 48 ticks, with the answers of W-201 and the cycles of W-202. Assumes nothing.
+-- Document 01, "Question four": the starred cases, for a cycle of 48 ticks, with the answers of W-201, the cycles of W-202 and the case of W-206. Assumes nothing.
 use mathlib.Core.Path.{_≡_}
 use mathlib.Core.Bool.{Bool, true, false, _||_}
 use mathlib.Core.List.{List, [], _∷_, List·Memᴰ}
@@ -32,12 +32,12 @@ allFree i = true
 abbrev noneFree : ℕ → Bool
 noneFree i = false
 
-abbrev link : ℕ → ℕ → (ℕ → Bool) → Hop
-link K Z free = record { frames = K; range = Z; free = wordOf K free }
+abbrev link : ℕ → ℕ → ℕ → (ℕ → Bool) → Hop
+link K Z Y free = record { frames = K; range = Z; least = Y; free = wordOf K free }
 
--- "links A, B, E have K 8, Z 2; C 16, 4; D 4, 2"
+-- "links A, B, E have K 8, Z 2; C 16, 4; D 4, 2"; Y has its absent value, 1
 abbrev A : (ℕ → Bool) → Hop
-A = link 8 2
+A = link 8 2 1
 
 abbrev B : (ℕ → Bool) → Hop
 B = A
@@ -46,26 +46,31 @@ abbrev E : (ℕ → Bool) → Hop
 E = A
 
 abbrev C : (ℕ → Bool) → Hop
-C = link 16 4
+C = link 16 4 1
 
 abbrev D : (ℕ → Bool) → Hop
-D = link 4 2
+D = link 4 2 1
 
 -- "with Z 8 on B"
 abbrev B8 : (ℕ → Bool) → Hop
-B8 = link 8 8
+B8 = link 8 8 1
+
+-- "With Y = 0 and Z = 2 on link B" (W-206)
+abbrev B0 : (ℕ → Bool) → Hop
+B0 = link 8 2 0
 
 -- what the document does not give: computed by its rules
 abbrev computed {ℓ} : {X : Type ℓ} → X → X
 computed x = x
 
--- row by row as in the document; W-201: "A{3} C{7} is now refused as blocked, A{3} C{10} has delay 9 and A{3} C{11} has delay 12"; W-202: A B, which is the
+-- row by row as in the document, and the case of W-206 after A B: "the route A B all free gives 0 0, delay 0, count 24"; W-201: "A{3} C{7} is now refused as blocked, A{3} C{10} has delay 9 and A{3} C{11} has delay 12"; W-202: A B, which is the
 -- first line of the example, "ends 7 0 / 0 1"
 unfoldable pub starred : List Case
 starred =
     case (A allFree ∷ []) (found 0 0 (0 ∷ [])) (computed (0 ∷ []))
     ∷ case (A noneFree ∷ []) (blocked 0) []
     ∷ case (A allFree ∷ B allFree ∷ []) (found 6 16 (7 ∷ 0 ∷ [])) (0 ∷ 1 ∷ [])
+    ∷ case (A allFree ∷ B0 allFree ∷ []) (found 0 24 (0 ∷ 0 ∷ [])) (computed (0 ∷ 0 ∷ []))
     ∷ case (A (only 3) ∷ B (only 5) ∷ []) (found 12 1 (3 ∷ 5 ∷ [])) (computed (0 ∷ 0 ∷ []))
     ∷ case (A (only 3) ∷ B (only 6) ∷ []) (blocked (computed 0)) []
     ∷ case (A (only 3) ∷ B (only 3) ∷ []) (blocked (computed 0)) []

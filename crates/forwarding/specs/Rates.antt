@@ -1,8 +1,8 @@
--- What the reference frame is where rates are equal and where they change, and that it waits for the whole frame (W-201). Assumes nothing.
+-- What the reference frame is where rates are equal and where they change, that it waits for the whole frame (W-201), and how long the least hold waits (W-206). Assumes nothing.
 use mathlib.Core.Path.{_≡_}
 use Prim.Native.Nat.{ℕ, _+_, _-_, _*_, _/_, _<_, _≤_}
 use Rattle.forwarding.specs.declared.Hop.{Hop}
-use Rattle.forwarding.specs.Forwarding.{reference, referenceInto, holdInto, frameTime}
+use Rattle.forwarding.specs.Forwarding.{reference, referenceInto, leastHold, holdInto, isFree, isAllowed, frameTime, delay}
 use Rattle.forwarding.specs.Hops.{HopReady}
 
 -- F-i of source document 002, equal rates: the frame of the same number
@@ -26,12 +26,23 @@ abbrev pub NeverEarlier : Type 0
 NeverEarlier = (k K K′ : ℕ) → 0 < K → 0 < K′ → k * K / K′ ≤ reference k K K′
 
 -- "The new switches send nothing of a frame before its last bit has arrived": frame k of the hop g ends at tick (k + 1) × T / K', and
--- whatever frame i of the hop h after it the hold leads to begins no earlier
+-- whatever frame i of the hop h after it the hold leads to begins no earlier; where Y is 0 (W-206), a hold of 0 sends the frame on while it arrives
 abbrev pub WholeFrame : Type 0
-WholeFrame = (T : ℕ) (g h : Hop) (k : ℕ) → HopReady T g → HopReady T h → (i : ℕ)
+WholeFrame = (T : ℕ) (g h : Hop) (k : ℕ) → HopReady T g → HopReady T h → 0 < leastHold h → (i : ℕ)
     → (k + 1) * frameTime T (g .frames) ≤ (referenceInto g h k + holdInto g h k i) * frameTime T (h .frames)
 
 -- and it waits no longer than it must: when the reference frame begins the last bit has not arrived, so that the frame after it is the first that will do
 abbrev pub NotYetWhole : Type 0
 NotYetWhole = (T : ℕ) (g h : Hop) (k : ℕ) → HopReady T g → HopReady T h → 0 < T
     → referenceInto g h k * frameTime T (h .frames) < (k + 1) * frameTime T (g .frames)
+
+-- "Some switches need two frames to turn round, those of source document 000 none" (W-206): whatever Y is, the frame that the hold leads to ends Y of its frames, or more, after frame k of
+-- the hop before has ended
+abbrev pub TurnsRound : Type 0
+TurnsRound = (T : ℕ) (g h : Hop) (k : ℕ) → HopReady T g → HopReady T h → (i : ℕ)
+    → (k + 1) * frameTime T (g .frames) + leastHold h * frameTime T (h .frames) ≤ (referenceInto g h k + holdInto g h k i + 1) * frameTime T (h .frames)
+
+-- WITH Y 0 THE SAME FRAME NUMBER, between links of one rate, IS A HOLD OF 0 AND A DELAY OF 0, allowed where the frame is free
+abbrev pub SameFrame : Type 0
+SameFrame = (T : ℕ) (g h : Hop) (k : ℕ) → HopReady T h → g .frames ≡ h .frames → k < h .frames → leastHold h ≡ 0
+    → (holdInto g h k k ≡ 0) × (delay T (h .frames) (holdInto g h k k) ≡ 0) × (isAllowed g h k k ≡ isFree h k)

@@ -95,7 +95,7 @@ pub record CountOf (hops : List Hop) (n : ℕ) : Type 0 where
 abbrev pub CountOnly : Type 0
 CountOnly = (hops : List Hop) (n m : ℕ) → CountOf hops n → CountOf hops m → n ≡ m
 
--- "It is at most the sum of K of hop j−1 times Z of hop j": from the hop g on; as many holds as Z (`ChoicesAreZ`)
+-- "It is at most the sum of K of hop j−1 times Z of hop j", where W-206 uses "Z − Y + 1 for Z": from the hop g on
 abbrev pub boundFrom : Hop → List Hop → ℕ
 boundFrom g [] = 0
 boundFrom g (h ∷ hs) = g .frames * choices h + boundFrom h hs

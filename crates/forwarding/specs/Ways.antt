@@ -52,17 +52,17 @@ abbrev pub EveryFrameFree : List Hop → Type 0
 EveryFrameFree [] = Unit {0}
 EveryFrameFree (h ∷ hs) = ((i : ℕ) → i < h .frames → isFree h i ≡ true) × EveryFrameFree hs
 
--- "the product of the later Z": as many holds as Z (`ChoicesAreZ`)
+-- "the product of the later Z", where W-206 uses "Z − Y + 1 for Z"
 abbrev pub laterChoices : List Hop → ℕ
 laterChoices [] = 1
 laterChoices (h ∷ hs) = choices h * laterChoices hs
 
--- "K of hop 0 times the product of the later Z"
+-- "K of hop 0 times the product of the later" Z − Y + 1
 abbrev pub openWays : List Hop → ℕ
 openWays [] = 0
 openWays (h ∷ hs) = h .frames * laterChoices hs
 
--- "Where no frame on it is closed or held this equals K of hop 0 times the product of the later Z"
+-- "Where no frame on it is closed or held this equals K of hop 0 times the product of the later" Z − Y + 1
 abbrev pub WaysOpen : Type 0
 WaysOpen = (T : ℕ) (hops : List Hop) → AllReady T hops → EveryFrameFree hops → routeWays hops ≡ openWays hops
 
@@ -72,4 +72,4 @@ WaysMost = (T : ℕ) (hops : List Hop) → length hops ≤ 8 → AllReady T hops
 
 -- the ways of the starred routes of question four, row by row, counted by hand
 abbrev pub StarredWays : Type 0
-StarredWays = map (λ (c : Case). routeWays (c .route)) starred ≡ 8 ∷ 0 ∷ 16 ∷ 1 ∷ 0 ∷ 0 ∷ 1 ∷ 2 ∷ 1 ∷ 2 ∷ 0 ∷ 1 ∷ 1 ∷ 0 ∷ 2 ∷ []
+StarredWays = map (λ (c : Case). routeWays (c .route)) starred ≡ 8 ∷ 0 ∷ 16 ∷ 24 ∷ 1 ∷ 0 ∷ 0 ∷ 1 ∷ 2 ∷ 1 ∷ 2 ∷ 0 ∷ 1 ∷ 1 ∷ 0 ∷ 2 ∷ []

@@ -1,4 +1,4 @@
-// Forwarding (document 01, with the reference frame of W-201 and the cycles of W-202): holds, delays, reference frames and cycles of the hops of a route.
+// Forwarding (document 01, with the reference frame of W-201, the cycles of W-202 and the least holds of W-206): holds, delays, reference frames and cycles of the hops of a route.
 ghost use mathlib.Core.Path.{_≡_};
 ghost use Prim.Native.Nat.{_+_, _*_, _<_, _≤_};
 ghost use Rattle.forwarding.specs.Forwarding.{referenceInto, leastHold, holdInto, choices, frameTime, IsDelay};
@@ -19,10 +19,11 @@ pub struct Held {
     pub delay: Delay,
 }
 
-// A hop of a route: its link's frames per cycle (K), its forwarding range (Z), and its free frames as a word, bit i for frame i.
+// A hop of a route: its link's frames per cycle (K), its forwarding range (Z), its least hold (Y), and its free frames as a word, bit i for frame i.
 pub struct Hop {
     pub frames: u16,
     pub range: u16,
+    pub least: u16,
     pub free: u64,
 }
 
@@ -33,6 +34,7 @@ pub fn no_hop() -> Hop
     Hop {
         frames: 0,
         range: 0,
+        least: 0,
         free: 0,
     }
 }
@@ -51,21 +53,21 @@ pub fn reference_frame(k: u16, before: Hop, hop: Hop) -> u16
 pub fn least_hold(hop: Hop) -> u16
     ensures { λ r. ⌜ r ≡ leastHold hop ⌝ }
 {
-    1
+    hop.least
 }
 
-// The number of holds into a hop, from the least to Z. Checks 7 and 8 bound Z.
+// The number of holds into a hop, from the least to Z. Checks 7 and 8 bound Z, check 21 the least hold.
 pub fn choices(hop: Hop) -> u16
-    requires { ⌜ hop .range ≤ 64 ⌝ }
+    requires { ⌜ (leastHold hop ≤ hop .range) × (hop .range ≤ 64) ⌝ }
     ensures { λ r. ⌜ r ≡ choices hop ⌝ }
 {
-    hop.range + 1 - least_hold(hop)
+    hop.range - least_hold(hop) + 1
 }
 
 // The hold from frame k of the hop before to frame i of a hop.
-// Check 7 bounds both links' frames; k and i are frames of theirs.
+// Check 7 bounds both links' frames, checks 8 and 21 the least hold; k and i are frames of theirs.
 pub fn hold_into(k: u16, before: Hop, hop: Hop, i: u16) -> Hold
-    requires { ⌜ (k < before .frames) × (before .frames ≤ 64) × (i < hop .frames) × (hop .frames ≤ 64) ⌝ }
+    requires { ⌜ (k < before .frames) × (before .frames ≤ 64) × (i < hop .frames) × (hop .frames ≤ 64) × (leastHold hop ≤ hop .frames) ⌝ }
     ensures { λ r. ⌜ r .0 ≡ holdInto before hop k i ⌝ }
 {
     let from = reference_frame(k, before, hop);
@@ -75,9 +77,9 @@ pub fn hold_into(k: u16, before: Hop, hop: Hop, i: u16) -> Hold
 }
 
 // The cycle of frame i of a hop, where frame k of the hop before lies in this one.
-// Check 7 bounds both links' frames; k and i are frames of theirs. Check 12: there are at most 8 hops, and no hop's cycle passes its number.
+// Check 7 bounds both links' frames, checks 8 and 21 the least hold; k and i are frames of theirs. Check 12: there are at most 8 hops, and no hop's cycle passes its number.
 pub fn next_cycle(k: u16, before: Hop, hop: Hop, i: u16, cycle: u8) -> u8
-    requires { ⌜ (k < before .frames) × (before .frames ≤ 64) × (i < hop .frames) × (hop .frames ≤ 64) × (cycle < 8) ⌝ }
+    requires { ⌜ (k < before .frames) × (before .frames ≤ 64) × (i < hop .frames) × (hop .frames ≤ 64) × (leastHold hop ≤ hop .frames) × (cycle < 8) ⌝ }
     ensures { λ r. ⌜ r ≡ nextCycle before hop k i cycle ⌝ }
 {
     let from = reference_frame(k, before, hop);

@@ -14,9 +14,9 @@ use Rattle.refusals.specs.declared.Refusal.{Refusal}
 use Rattle.refusals.proofs.Refusals.{past, not-refused, both-passed}
 use Rattle.network.specs.Network.{Topology, noLink, topologyOf}
 use Rattle.network.specs.declared.Network.{Network}
-use Rattle.network.specs.Checks.{badCount, badCycle, badFrames, badRange, badClosed, linkCheck, linksCheck, networkCheck}
+use Rattle.network.specs.Checks.{badCount, badCycle, badFrames, badRange, badLeast, badClosed, linkCheck, linksCheck, networkCheck}
 use Rattle.network.specs.declared.Link.{Link}
-use Rattle.network.proofs.Tests.{frames-passed, range-passed, count-passed}
+use Rattle.network.proofs.Tests.{frames-passed, range-passed, least-passed, count-passed}
 
 module _ (T : ℕ) (l : Link) (b : Bool) (eb : b ≡ badFrames T (l .frames)) where
   pub frames-refused : b ≡ true → _≡_ {A = Ruling} (refused 7) (linkCheck T l)
@@ -31,14 +31,19 @@ module _ (T : ℕ) (l : Link) (b : Bool) (eb : b ≡ badFrames T (l .frames)) wh
     unfolding linkCheck
     range-refused g = rw (← eb, h, ← ed, g)
 
-    module _ (g : d ≡ false) (f : Bool) (ef : f ≡ badClosed (l .frames) (l .closed)) where
-      pub closed-refused : f ≡ true → _≡_ {A = Ruling} (refused 9) (linkCheck T l)
+    module _ (g : d ≡ false) (y : Bool) (ey : y ≡ badLeast (l .frames) (l .range) (l .least)) where
+      pub least-refused : y ≡ true → _≡_ {A = Ruling} (refused 21) (linkCheck T l)
       unfolding linkCheck
-      closed-refused i = rw (← eb, h, ← ed, g, ← ef, i)
+      least-refused z = rw (← eb, h, ← ed, g, ← ey, z)
 
-      pub link-passes : f ≡ false → _≡_ {A = Ruling} (given pass) (linkCheck T l)
-      unfolding linkCheck
-      link-passes i = rw (← eb, h, ← ed, g, ← ef, i)
+      module _ (z : y ≡ false) (f : Bool) (ef : f ≡ badClosed (l .frames) (l .closed)) where
+        pub closed-refused : f ≡ true → _≡_ {A = Ruling} (refused 9) (linkCheck T l)
+        unfolding linkCheck
+        closed-refused i = rw (← eb, h, ← ed, g, ← ey, z, ← ef, i)
+
+        pub link-passes : f ≡ false → _≡_ {A = Ruling} (given pass) (linkCheck T l)
+        unfolding linkCheck
+        link-passes i = rw (← eb, h, ← ed, g, ← ey, z, ← ef, i)
 
 -- ---- the links one after the other: the first i passed
 pub record Reached (T n : ℕ) (links : List Link) (i : ℕ) : Type 0 where
@@ -88,23 +93,27 @@ module _ (n : Network) (b : Bool) (eb : b ≡ badCount (n .count)) where
 pub record GoodLink (T : ℕ) (l : Link) : Type 0 where
   pub frames : badFrames T (l .frames) ≡ false
   pub range : badRange (l .frames) (l .range) ≡ false
+  pub least : badLeast (l .frames) (l .range) (l .least) ≡ false
   pub closed : badClosed (l .frames) (l .closed) ≡ false
 
 pub link-good : (T : ℕ) (l : Link) → linkCheck T l ≡ given pass → GoodLink T l
 unfolding linkCheck
 link-good T l e =
     let c : Ruling = refuseIf (badClosed (l .frames) (l .closed)) 9 in
-    let r : Ruling = refusedOr (refuseIf (badRange (l .frames) (l .range)) 8) c in
+    let y : Ruling = refusedOr (refuseIf (badLeast (l .frames) (l .range) (l .least)) 21) c in
+    let r : Ruling = refusedOr (refuseIf (badRange (l .frames) (l .range)) 8) y in
     let a : (badFrames T (l .frames) ≡ false) × (r ≡ given pass) = past (badFrames T (l .frames)) 7 r pass e in
-    let b : (badRange (l .frames) (l .range) ≡ false) × (c ≡ given pass) = past (badRange (l .frames) (l .range)) 8 c pass (a .1) in
-    record { frames = a .0; range = b .0; closed = not-refused (badClosed (l .frames) (l .closed)) 9 (b .1) }
+    let b : (badRange (l .frames) (l .range) ≡ false) × (y ≡ given pass) = past (badRange (l .frames) (l .range)) 8 y pass (a .1) in
+    let d : (badLeast (l .frames) (l .range) (l .least) ≡ false) × (c ≡ given pass) = past (badLeast (l .frames) (l .range) (l .least)) 21 c pass (b .1) in
+    record { frames = a .0; range = b .0; least = d .0; closed = not-refused (badClosed (l .frames) (l .closed)) 9 (d .1) }
 
--- K and Z of a link that passed fit in a byte
-pub link-few : (T : ℕ) (l : Link) → GoodLink T l → (l .frames ≤ 64) × (l .range ≤ 64)
+-- K, Z and Y of a link that passed fit in a byte
+pub link-few : (T : ℕ) (l : Link) → GoodLink T l → (l .frames ≤ 64) × (l .range ≤ 64) × (l .least ≤ 64)
 link-few T l g =
     let f = frames-passed T (l .frames) (g .frames) in
     let r = range-passed (l .frames) (l .range) (g .range) in
-    (f .1, omega (arith, f .1, r .1))
+    let y = least-passed (l .frames) (l .range) (l .least) (g .least) in
+    (f .1, omega (arith, f .1, r .1), omega (arith, f .1, r .1, y .0))
 
 -- a network that passed
 pub record GoodNetwork (t : Topology) : Type 0 where

@@ -1,12 +1,12 @@
 -- The tests of the checks, part by part, and what a test that passed shows. Assumes nothing.
 use mathlib.Core.Path.{_≡_, refl}
-use mathlib.Core.Bool.{true, false, not, _||_}
+use mathlib.Core.Bool.{Bool, true, false, not, _&&_, _||_}
 use Prim.Native.Nat.{ℕ, _/_, _%_, _^_, _<_, _≤_}
 use native.Mathlib.Omega.{arith}
 use borrow.Author.Tests.{lt-ltb, le-ltb, eq-eqb, ne-eqb, ltb-false, eqb-true, eqb-false, not-false}
 use lib.Dec.{eqb, ltb}
-use Rattle.lists.proofs.Count.{or-neither}
-use Rattle.network.specs.Checks.{badCount, badCycle, badFrames, badRange, badClosed, CountPassed, CyclePassed, FramesPassed, RangePassed}
+use Rattle.lists.proofs.Count.{or-neither, both-and}
+use Rattle.network.specs.Checks.{badCount, badCycle, badFrames, badRange, badLeast, badClosed, CountPassed, CyclePassed, FramesPassed, RangePassed, LeastPassed}
 
 pub no-links : (n : ℕ) → n ≡ 0 → eqb n 0 ≡ badCount n
 unfolding badCount
@@ -43,6 +43,18 @@ no-range K Z h = rw (eq-eqb Z 0)
 pub some-range : (K Z : ℕ) → (Z ≡ 0 → ⊥) → ltb K Z ≡ badRange K Z
 unfolding badRange
 some-range K Z h = rw (ne-eqb Z 0)
+
+pub least-above : (K Z Y : ℕ) → Z < Y → ltb Z Y ≡ badLeast K Z Y
+unfolding badLeast
+least-above K Z Y h = rw (lt-ltb Z Y)
+
+pub least-none : (K Z Y : ℕ) → Y ≤ Z → Y ≡ 0 → eqb Z K ≡ badLeast K Z Y
+unfolding badLeast
+least-none K Z Y h g = rw (le-ltb Z Y, eq-eqb Y 0)
+
+pub least-some : (K Z Y : ℕ) → Y ≤ Z → (Y ≡ 0 → ⊥) → eqb Y 0 ≡ badLeast K Z Y
+unfolding badLeast
+least-some K Z Y h g = rw (le-ltb Z Y, ne-eqb Y 0)
 
 pub bits-above : (K closed : ℕ) → not (eqb (closed / 2 ^ K) 0) ≡ badClosed K closed
 unfolding badClosed
@@ -83,3 +95,12 @@ range-passed K Z e =
     let o : (eqb Z 0 ≡ false) × (ltb K Z ≡ false) = or-neither (eqb Z 0) (ltb K Z) e in
     let z : Z ≡ 0 → ⊥ = eqb-false Z 0 (o .0) in
     (omega arith, ltb-false K Z (o .1))
+
+pub least-passed : LeastPassed
+unfolding badLeast
+least-passed K Z Y e =
+    let o : (ltb Z Y ≡ false) × ((eqb Y 0 && eqb Z K) ≡ false) = or-neither (ltb Z Y) (eqb Y 0 && eqb Z K) e in
+    (ltb-false Z Y (o .0), λ y z. not-both (both-and (eqb Y 0) (eqb Z K) (eq-eqb Y 0 y) (eq-eqb Z K z)) (o .1))
+  where
+    not-both : {b : Bool} → b ≡ true → b ≡ false → ⊥
+    not-both p q = let z : _≡_ {A = ℕ} 0 1 = cc in omega arith

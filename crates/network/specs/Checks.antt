@@ -1,6 +1,6 @@
--- The checks that a network given as values meets: 2, 3, 7, 8 and 9 of the refusal list. Assumes nothing.
+-- The checks that a network given as values meets: 2, 3, 7, 8 and 9 of the refusal list, and 21 of W-206, after 8. Assumes nothing.
 use mathlib.Core.Path.{_≡_}
-use mathlib.Core.Bool.{Bool, false, not, _||_}
+use mathlib.Core.Bool.{Bool, false, not, _&&_, _||_}
 use mathlib.Core.List.{List, [], _∷_}
 use Prim.Native.Nat.{ℕ, _/_, _%_, _^_, _<_, _≤_}
 use lib.ListN.{length}
@@ -26,23 +26,28 @@ badFrames T K = eqb K 0 || ltb 64 K || not (eqb (T % K) 0)
 unfoldable pub badRange : ℕ → ℕ → Bool
 badRange K Z = eqb Z 0 || ltb K Z
 
+-- 21: "Y is above Z, or Y is 0 and Z equals K" (W-206)
+unfoldable pub badLeast : ℕ → ℕ → ℕ → Bool
+badLeast K Z Y = ltb Z Y || (eqb Y 0 && eqb Z K)
+
 -- 9: "A closed bit stands at K or above": what the word has from bit K on isn't 0
 unfoldable pub badClosed : ℕ → ℕ → Bool
 badClosed K closed = not (eqb (closed / 2 ^ K) 0)
 
--- the checks of a link; one that is added later stands here
+-- the checks of a link, 21 "checked after 8"; one that is added later stands here
 unfoldable pub linkCheck : ℕ → Link → Ruling
 linkCheck T l =
     refusedOr (refuseIf (badFrames T (l .frames)) 7)
     (refusedOr (refuseIf (badRange (l .frames) (l .range)) 8)
-    (refuseIf (badClosed (l .frames) (l .closed)) 9))
+    (refusedOr (refuseIf (badLeast (l .frames) (l .range) (l .least)) 21)
+    (refuseIf (badClosed (l .frames) (l .closed)) 9)))
 
 -- "records and links in turn": all checks of one before the next
 unfoldable pub linksCheck : ℕ → List Link → Ruling
 linksCheck T [] = given pass
 linksCheck T (l ∷ ls) = refusedOr (linkCheck T l) (linksCheck T ls)
 
--- "A network given as values, also to the writer, meets 2, 3, 7, 8 and 9"
+-- "A network given as values, also to the writer, meets 2, 3, 7, 8 and 9. A link check added later is made there too"
 unfoldable pub networkCheck : Topology → Ruling
 networkCheck t =
     refusedOr (refuseIf (badCount (length (t .links))) 2)
@@ -65,6 +70,10 @@ FramesPassed = (T K : ℕ) → badFrames T K ≡ false → (0 < K) × (K ≤ 64)
 -- "a forwarding range Z from 1 to K"
 abbrev pub RangePassed : Type 0
 RangePassed = (K Z : ℕ) → badRange K Z ≡ false → (0 < Z) × (Z ≤ K)
+
+-- of a least hold Y: it is not "above Z", nor is it "0 and Z equals K"
+abbrev pub LeastPassed : Type 0
+LeastPassed = (K Z Y : ℕ) → badLeast K Z Y ≡ false → (Y ≤ Z) × (Y ≡ 0 → Z ≡ K → ⊥)
 
 -- "a set of closed frames ... none at K or above": no bit stands there where 9 passes, and 9 passes where none stands there
 abbrev pub PassedNoneClosed : Type 0

@@ -12,7 +12,7 @@ pub record Topology : Type 0 where
 
 -- what stands in a place of an array that no link stands in
 abbrev pub noLink : Link
-noLink = record { frames = 0; range = 0; closed = 0 }
+noLink = record { frames = 0; range = 0; least = 0; closed = 0 }
 
 -- the network that stored values stand for: unused places are no part of it, and a number of links above the places shows in it
 unfoldable pub topologyOf : Network → Topology

@@ -1,4 +1,4 @@
-// The network of document 01 as values, and the checks that it meets: 2, 3, then for each link 7, 8 and 9 before the next.
+// The network of document 01 as values, with the least holds of W-206, and the checks that it meets: 2, 3, then for each link 7, 8, 21 and 9 before the next.
 use refusals::Refusal;
 use refusals::Verdict;
 ghost use mathlib.Core.Path.{_≡_};
@@ -6,12 +6,13 @@ ghost use Prim.Native.Nat.{_≤_};
 ghost use Rattle.places.specs.Places.{firsts};
 ghost use Rattle.refusals.specs.Refusals.{ruling};
 ghost use Rattle.network.specs.Network.{noLink, topologyOf};
-ghost use Rattle.network.specs.Checks.{badCount, badCycle, badFrames, badRange, badClosed, linkCheck, linksCheck, networkCheck};
+ghost use Rattle.network.specs.Checks.{badCount, badCycle, badFrames, badRange, badLeast, badClosed, linkCheck, linksCheck, networkCheck};
 
-// A link ("Network"): K, Z and the word of its closed frames.
+// A link ("Network"): K, Z, its least hold Y (W-206) and the word of its closed frames.
 pub struct Link {
     pub frames: u16,
     pub range: u16,
+    pub least: u16,
     pub closed: u64,
 }
 
@@ -29,6 +30,7 @@ pub fn no_link() -> Link
     Link {
         frames: 0,
         range: 0,
+        least: 0,
         closed: 0,
     }
 }
@@ -64,6 +66,13 @@ fn bad_range(frames: u16, range: u16) -> bool
     range == 0 || frames < range
 }
 
+// Whether check 21 refuses a least hold.
+fn bad_least(frames: u16, range: u16, least: u16) -> bool
+    ensures { λ r. ⌜ r ≡ badLeast frames range least ⌝ }
+{
+    range < least || (least == 0 && range == frames)
+}
+
 // Whether check 9 refuses the word of closed frames. Check 7 guarantees what it requires.
 fn bad_closed(frames: u16, closed: u64) -> bool
     requires { ⌜ frames ≤ 64 ⌝ }
@@ -72,7 +81,7 @@ fn bad_closed(frames: u16, closed: u64) -> bool
     frames < 64 && closed >> frames != 0
 }
 
-// The checks of a link, 7, 8 and 9, on reading, on writing and on a network given as values.
+// The checks of a link, 7, 8, 21 and 9, on reading, on writing and on a network given as values.
 pub fn check_link(ticks: u16, link: Link) -> Verdict
     ensures { λ r. ⌜ ruling r ≡ linkCheck ticks link ⌝ }
 {
@@ -81,6 +90,9 @@ pub fn check_link(ticks: u16, link: Link) -> Verdict
     }
     if bad_range(link.frames, link.range) {
         return Verdict::Refused(Refusal::RangeOutside);
+    }
+    if bad_least(link.frames, link.range, link.least) {
+        return Verdict::Refused(Refusal::LeastOutside);
     }
     if bad_closed(link.frames, link.closed) {
         return Verdict::Refused(Refusal::ClosedOutside);

@@ -1,4 +1,4 @@
--- A network file is told by its first 356 bytes: what follows them does not change what it says. Assumes nothing.
+-- A network file is told by its first 388 bytes: what follows them does not change what it says. Assumes nothing.
 use mathlib.Core.Path.{_≡_, refl, sym, ap, _∙_}
 use mathlib.Core.Bool.{Bool, true, false}
 use mathlib.Core.List.{List, _∷_, _++_}
@@ -19,26 +19,26 @@ use Rattle.network_file.specs.Reading.{Linked, readLink, readLinks, with
 use Rattle.network_file.proofs.Files.{Was, was}
 
 -- ---- one link
-link-front : (T : ℕ) (a t : List ℕ) → 11 ≤ length a → readLink T (a ++ t) ≡ readLink T a
+link-front : (T : ℕ) (a t : List ℕ) → 12 ≤ length a → readLink T (a ++ t) ≡ readLink T a
 unfolding readLink linkLayout
 link-front T a t h = rw (record-front linkLayout a t (omega arith))
 
-link-used : (T : ℕ) (s : List ℕ) (y : Linked) → readLink T s ≡ given y → y .used ≤ 11
+link-used : (T : ℕ) (s : List ℕ) (y : Linked) → readLink T s ≡ given y → y .used ≤ 12
 unfolding linkLayout
 link-used T s y e =
     let w : Was T s y = was T s y e in
     omega (arith, w .used, used-bound linkLayout s (w .said) (w .is))
 
 -- ---- the links, and at least one byte after them
-others-front : (T n : ℕ) (a t : List ℕ) (o : Outcome Linked) → readLink T a ≡ o → ((b : List ℕ) → 11 * n < length b → readLinks T n (b ++ t) ≡ readLinks T n b) → 11 * suc n < length a → onGiven o (λ x. onGiven (readLinks T n (drop (x .used) (a ++ t))) (λ ls. given (x .link ∷ ls))) ≡ onGiven o (λ x. onGiven (readLinks T n (drop (x .used) a)) (λ ls. given (x .link ∷ ls)))
+others-front : (T n : ℕ) (a t : List ℕ) (o : Outcome Linked) → readLink T a ≡ o → ((b : List ℕ) → 12 * n < length b → readLinks T n (b ++ t) ≡ readLinks T n b) → 12 * suc n < length a → onGiven o (λ x. onGiven (readLinks T n (drop (x .used) (a ++ t))) (λ ls. given (x .link ∷ ls))) ≡ onGiven o (λ x. onGiven (readLinks T n (drop (x .used) a)) (λ ls. given (x .link ∷ ls)))
 others-front T n a t (refused m) e others h = refl
 others-front T n a t (given x) e others h =
     let k : ℕ = x .used in
-    let few : k ≤ 11 = link-used T a x e in
+    let few : k ≤ 12 = link-used T a x e in
     let rest : readLinks T n (drop k (a ++ t)) ≡ readLinks T n (drop k a) = ap (readLinks T n) (drop-append-le k a t (omega arith)) ∙ others (drop k a) (omega (arith, length-drop k a)) in
     rw rest
 
-links-front : (T n : ℕ) (a t : List ℕ) → 11 * n < length a → readLinks T n (a ++ t) ≡ readLinks T n a
+links-front : (T n : ℕ) (a t : List ℕ) → 12 * n < length a → readLinks T n (a ++ t) ≡ readLinks T n a
 unfolding readLinks
 links-front T zero a t h =
     let long : length a ≡ 0 → ⊥ = λ e. omega arith in
@@ -47,15 +47,15 @@ links-front T zero a t h =
 links-front T (suc n) a t h = rw (link-front T a t (omega arith)) (others-front T n a t (readLink T a) refl (λ b g. links-front T n b t g) h)
 
 -- ---- the file
--- a count that passed its check is 32 at most: the links end before byte 355
-counted-front : (T n : ℕ) (a t : List ℕ) (b : Bool) → badCount n ≡ b → 356 ≤ length a → refusedOr (refuseIf b 2) (refusedOr (refuseIf (badCycle T) 3) (within T (readLinks T n (drop 3 (a ++ t))))) ≡ refusedOr (refuseIf b 2) (refusedOr (refuseIf (badCycle T) 3) (within T (readLinks T n (drop 3 a))))
+-- a count that passed its check is 32 at most: the links end before byte 387
+counted-front : (T n : ℕ) (a t : List ℕ) (b : Bool) → badCount n ≡ b → 388 ≤ length a → refusedOr (refuseIf b 2) (refusedOr (refuseIf (badCycle T) 3) (within T (readLinks T n (drop 3 (a ++ t))))) ≡ refusedOr (refuseIf b 2) (refusedOr (refuseIf (badCycle T) 3) (within T (readLinks T n (drop 3 a))))
 counted-front T n a t true e h = refl
 counted-front T n a t false e h =
     let few : n ≤ 32 = count-passed n e .1 in
     let links : readLinks T n (drop 3 (a ++ t)) ≡ readLinks T n (drop 3 a) = ap (readLinks T n) (drop-append-le 3 a t (omega arith)) ∙ links-front T n (drop 3 a) t (omega (arith, length-drop 3 a)) in
     rw links
 
-network-front : (a t : List ℕ) → 356 ≤ length a → readNetwork (a ++ t) ≡ readNetwork a
+network-front : (a t : List ℕ) → 388 ≤ length a → readNetwork (a ++ t) ≡ readNetwork a
 unfolding readNetwork
 network-front a t h =
     let long : 3 ≤ length a = omega arith in
@@ -64,7 +64,7 @@ network-front a t h =
     let count : getD (a ++ t) 2 0 ≡ getD a 2 0 = byte-front a t 2 (omega arith) in
     rw (le-ltb (length (a ++ t)) 3 longer, le-ltb (length a) 3 long, ticks, count) (counted-front (numberIn 2 a) (getD a 2 0) a t (badCount (getD a 2 0)) refl h)
 
--- THE FIRST 356 BYTES OF A FILE TELL WHAT THE WHOLE SAYS
+-- THE FIRST 388 BYTES OF A FILE TELL WHAT THE WHOLE SAYS
 pub first-bytes : FirstBytes
 first-bytes s m h = go (ltb m (length s)) refl
   where

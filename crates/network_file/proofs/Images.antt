@@ -33,7 +33,7 @@ use Rattle.network_file.proofs.Records.{layout-back, values-back}
 use Rattle.network_file.proofs.Lent.{short-written, long-written}
 
 -- ---- a link's record
-pub link-bytes : (l : Link) (fields : List Field) (values : List ℕ) → fields ≡ firsts 8 linkLayout noField → values ≡ firsts 8 (valuesOf l) 0 → recordOf (firsts 3 fields noField) (firsts 3 values 0) ≡ linkBytes l
+pub link-bytes : (l : Link) (fields : List Field) (values : List ℕ) → fields ≡ firsts 8 linkLayout noField → values ≡ firsts 8 (valuesOf l) 0 → recordOf (firsts 4 fields noField) (firsts 4 values 0) ≡ linkBytes l
 unfolding linkBytes
 link-bytes l fields values ef ev = rw (ef, ev, layout-back, values-back l)
 

@@ -2,7 +2,7 @@
 use mathlib.Core.Path.{_≡_, refl, sym, ap, ap₂, _∙_}
 use mathlib.Core.Bool.{false, not}
 use mathlib.Core.List.{List, [], _∷_, _++_}
-use Prim.Native.Nat.{ℕ, zero, suc, _^_, _<_, _≤_}
+use Prim.Native.Nat.{ℕ, zero, suc, _+_, _^_, _<_, _≤_}
 use native.Mathlib.Omega.{arith}
 use native.Mathlib.Nat.{lt-of-lt-of-le}
 use borrow.Author.Tests.{le-ltb, ltb-false, eqb-true, not-false}
@@ -10,6 +10,7 @@ use lib.Seq.{drop-append-seam, split-at}
 use lib.Dec.{eqb, ltb}
 use lib.Pow.{pow-mono}
 use lib.ListN.{length, getD, drop, take, take-append-drop}
+use Rattle.places.specs.Places.{firsts}
 use Rattle.places.proofs.Firsts.{next-first, no-first, firsts-all}
 use Rattle.refusals.specs.Refusals.{Outcome, given, refused, pass, refuseIf, refusedOr, onGiven, givenOr}
 use Rattle.refusals.proofs.Refusals.{past, not-given}
@@ -46,7 +47,8 @@ link-fits T l e =
     let w : l .closed < 2 ^ 64 = lt-of-lt-of-le (closed-below (l .frames) (l .closed) (g .closed)) (pow-mono (f .0)) in
     let k : l .frames < 256 = omega (arith, f .0) in
     let z : l .range < 256 = omega (arith, f .1) in
-    fits-more k (fits-more z (fits-more w fits-none))
+    let y : l .least < 256 = omega (arith, f .2) in
+    fits-more k (fits-more z (fits-more w (fits-more y fits-none)))
 
 pub link-reads : (T : ℕ) (l : Link) (q : List ℕ) → linkCheck T l ≡ given pass → readLink T (linkBytes l ++ q) ≡ given (record { link = l; used = length (linkBytes l) })
 unfolding linkBytes
@@ -71,8 +73,12 @@ image-reads t e =
 
 -- ---- read, then written
 -- a value for each field, and no other
-values-all : (vs : List ℕ) → length vs ≡ 3 → getD vs 0 0 ∷ getD vs 1 0 ∷ getD vs 2 0 ∷ [] ≡ vs
-values-all vs e = sym (next-first 3 0 vs 0 (omega arith) ∙ ap (λ (t : List ℕ). getD vs 0 0 ∷ t) (next-first 3 1 vs 0 (omega arith) ∙ ap (λ (t : List ℕ). getD vs 1 0 ∷ t) (next-first 3 2 vs 0 (omega arith) ∙ ap (λ (t : List ℕ). getD vs 2 0 ∷ t) (no-first 3 3 vs 0 (omega arith))))) ∙ rw (← e) (firsts-all vs 0)
+values-all : (vs : List ℕ) → length vs ≡ 4 → getD vs 0 0 ∷ getD vs 1 0 ∷ getD vs 2 0 ∷ getD vs 3 0 ∷ [] ≡ vs
+values-all vs e =
+    sym (next 0 (omega arith) (next 1 (omega arith) (next 2 (omega arith) (next 3 (omega arith) (no-first 4 4 vs 0 (omega arith)))))) ∙ rw (← e) (firsts-all vs 0)
+  where
+    next : (i : ℕ) → i < 4 → {t : List ℕ} → drop (i + 1) (firsts 4 vs 0) ≡ t → drop i (firsts 4 vs 0) ≡ getD vs i 0 ∷ t
+    next i h w = next-first 4 i vs 0 h ∙ ap (λ (t : List ℕ). getD vs i 0 ∷ t) w
 
 values-only : (vs : List ℕ) → Fits linkLayout vs → valuesOf (linkOf vs) ≡ vs
 unfolding linkLayout valuesOf linkOf

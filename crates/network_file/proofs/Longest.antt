@@ -14,16 +14,16 @@ use Rattle.network_file.specs.Fields.{linkLayout, valuesOf}
 use Rattle.network_file.specs.Writing.{linkBytes, linksBytes, imageOf, ImageBound}
 
 -- a map byte, and the bytes of all fields
-link-bound : (l : Link) → length (linkBytes l) ≤ 11
+link-bound : (l : Link) → length (linkBytes l) ≤ 12
 unfolding linkBytes recordOf linkLayout
 link-bound l = omega (arith, body-bound linkLayout (valuesOf l))
 
-links-bound : (ls : List Link) → length (linksBytes ls) ≤ 11 * length ls
+links-bound : (ls : List Link) → length (linksBytes ls) ≤ 12 * length ls
 unfolding linksBytes
 links-bound [] = omega arith
 links-bound (l ∷ ls) = omega (arith, length-append (linkBytes l) (linksBytes ls), link-bound l, links-bound ls)
 
--- A BUFFER OF 355 BYTES SERVES FOR EVERY NETWORK
+-- A BUFFER OF 387 BYTES SERVES FOR EVERY NETWORK
 pub image-bound : ImageBound
 unfolding imageOf
 image-bound t e =

@@ -31,51 +31,52 @@ pub link-layout : isLayout linkLayout ≡ true
 unfolding isLayout isBit linkLayout
 link-layout = refl
 
-pub layout-back : firsts 3 (firsts 8 linkLayout noField) noField ≡ linkLayout
+pub layout-back : firsts 4 (firsts 8 linkLayout noField) noField ≡ linkLayout
 unfolding firsts linkLayout
 layout-back = refl
 
-pub values-back : (l : Link) → firsts 3 (firsts 8 (valuesOf l) 0) 0 ≡ valuesOf l
+pub values-back : (l : Link) → firsts 4 (firsts 8 (valuesOf l) 0) 0 ≡ valuesOf l
 unfolding firsts valuesOf
 values-back l = refl
 
-pub link-laid : (fields : List Field) → fields ≡ firsts 8 linkLayout noField → Laid fields 3
+pub link-laid : (fields : List Field) → fields ≡ firsts 8 linkLayout noField → Laid fields 4
 link-laid fields e = record { few = omega arith; layout = rw (e, layout-back) link-layout }
 
--- 5 of document 01, "A map byte has a bit above bit 2", in its own words: no bit is stray exactly where the map byte is below 8
-no-bit : (i : ℕ) → 3 ≤ i → isBit linkLayout i ≡ false
+-- 5, "A map byte has a bit above bit" 3, in its own words: no bit is stray exactly where the map byte is below 16
+no-bit : (i : ℕ) → 4 ≤ i → isBit linkLayout i ≡ false
 unfolding isBit linkLayout
-no-bit i h = rw (ne-eqb i 0 (λ e. omega arith), ne-eqb i 1 (λ e. omega arith), ne-eqb i 2 (λ e. omega arith))
+no-bit i h = rw (ne-eqb i 0 (λ e. omega arith), ne-eqb i 1 (λ e. omega arith), ne-eqb i 2 (λ e. omega arith), ne-eqb i 3 (λ e. omega arith))
 
-some-bit : (i : ℕ) → isBit linkLayout i ≡ false → 3 ≤ i
+some-bit : (i : ℕ) → isBit linkLayout i ≡ false → 4 ≤ i
 unfolding isBit linkLayout
 some-bit zero e = absurd (true≢false e)
 some-bit (suc zero) e = absurd (true≢false e)
 some-bit (suc (suc zero)) e = absurd (true≢false e)
-some-bit (suc (suc (suc i))) e = omega arith
+some-bit (suc (suc (suc zero))) e = absurd (true≢false e)
+some-bit (suc (suc (suc (suc i)))) e = omega arith
 
 pub stray-above : StrayAbove
-stray-above map h e = word-below 64 3 map (omega arith) (omega arith) (λ i g. stray-none linkLayout map h e i (no-bit i g))
+stray-above map h e = word-below 64 4 map (omega arith) (omega arith) (λ i g. stray-none linkLayout map h e i (no-bit i g))
 
 pub above-stray : AboveStray
-above-stray map h = none-stray linkLayout map (λ i e. bit-high 3 map i h (some-bit i e))
+above-stray map h = none-stray linkLayout map (λ i e. bit-high 4 map i h (some-bit i e))
 
--- K and Z that fit in their fields fit in a byte
-pub fields-small : (vs : List ℕ) → Fits linkLayout vs → (getD vs 0 0 < 256) × (getD vs 1 0 < 256)
+-- K, Z and Y that fit in their fields fit in a byte
+pub fields-small : (vs : List ℕ) → Fits linkLayout vs → (getD vs 0 0 < 256) × (getD vs 1 0 < 256) × (getD vs 3 0 < 256)
 unfolding linkLayout
-fields-small vs h = (fits-at linkLayout vs h 0 (omega arith), fits-at linkLayout vs h 1 (omega arith))
+fields-small vs h = (fits-at linkLayout vs h 0 (omega arith), fits-at linkLayout vs h 1 (omega arith), fits-at linkLayout vs h 3 (omega arith))
 
 -- the values of a record in their places
 pub link-places : (vs : List ℕ) → linkOf (firsts 8 vs 0) ≡ linkOf vs
 unfolding linkOf
-link-places vs = rw (getD-firsts 8 0 vs 0 (omega arith), getD-firsts 8 1 vs 0 (omega arith), getD-firsts 8 2 vs 0 (omega arith))
+link-places vs = rw (getD-firsts 8 0 vs 0 (omega arith), getD-firsts 8 1 vs 0 (omega arith), getD-firsts 8 2 vs 0 (omega arith), getD-firsts 8 3 vs 0 (omega arith))
 
 -- ---- reading
 pub link-said : (T : ℕ) (s : List ℕ) (x : Said) → readRecord linkLayout s ≡ given x → readLink T s ≡ refusedOr (linkCheck T (linkOf (x .values))) (given (record { link = linkOf (x .values); used = x .used }))
 unfolding readLink
 link-said T s x e = rw e
 
-module _ (T : ℕ) (s : List ℕ) (fields : List Field) (ef : fields ≡ firsts 8 linkLayout noField) (r : Record) (t : Told (readRecord (firsts 3 fields noField) s) r) where
+module _ (T : ℕ) (s : List ℕ) (fields : List Field) (ef : fields ≡ firsts 8 linkLayout noField) (r : Record) (t : Told (readRecord (firsts 4 fields noField) s) r) where
   abbrev o : Outcome Said
   o = readRecord linkLayout s
 
@@ -90,11 +91,11 @@ module _ (T : ℕ) (s : List ℕ) (fields : List Field) (ef : fields ≡ firsts 
     said : o ≡ given (saidIn o)
     said = given-is o (record { values = []; used = 0 }) (sym (ap ruling e) ∙ told .verdict)
 
-    pub record-small : ((i : ℕ) → getD s i 0 < 256) → (getD (r .values) 0 0 < 256) × (getD (r .values) 1 0 < 256)
+    pub record-small : ((i : ℕ) → getD s i 0 < 256) → (getD (r .values) 0 0 < 256) × (getD (r .values) 1 0 < 256) × (getD (r .values) 3 0 < 256)
     record-small b =
         let w : Whole linkLayout s (saidIn o) = record-only linkLayout s (saidIn o) link-layout b said in
         let f = fields-small (saidIn o .values) (w .fit) in
-        rw (told .values, getD-firsts 8 0 (saidIn o .values) 0 (omega arith), getD-firsts 8 1 (saidIn o .values) 0 (omega arith)) f
+        rw (told .values, getD-firsts 8 0 (saidIn o .values) 0 (omega arith), getD-firsts 8 1 (saidIn o .values) 0 (omega arith), getD-firsts 8 3 (saidIn o .values) 0 (omega arith)) f
 
     module _ (l : Link) (el : l ≡ linkOf (r .values)) (v : Verdict) (ev : ruling v ≡ linkCheck T l) where
       same : l ≡ linkOf (saidIn o .values)

@@ -7,9 +7,9 @@ use Rattle.network.specs.Network.{Topology}
 use Rattle.network_file.specs.Reading.{readNetwork}
 use Rattle.network_file.specs.Writing.{imageOf}
 
--- "T = 48 with link 0 (16, 4) and link 1 (8, 2), none closed"
+-- "T = 48 with link 0 (16, 4) and link 1 (8, 2), none closed", each with the least hold that a record without one has, 1
 unfoldable pub example : Topology
-example = record { ticks = 48; links = record { frames = 16; range = 4; closed = 0 } ∷ record { frames = 8; range = 2; closed = 0 } ∷ [] }
+example = record { ticks = 48; links = record { frames = 16; range = 4; least = 1; closed = 0 } ∷ record { frames = 8; range = 2; least = 1; closed = 0 } ∷ [] }
 
 -- "30 00 02 00 03 08 02"
 unfoldable pub exampleBytes : List ℕ

@@ -17,13 +17,17 @@ rangeField = record { bit = 1; size = 1; absent = 4 }
 abbrev pub closedField : Field
 closedField = record { bit = 2; size = 8; absent = 0 }
 
+-- "a least hold Y, absent value 1, in one byte under map bit 3, after the closed frames" (W-206)
+abbrev pub leastField : Field
+leastField = record { bit = 3; size = 1; absent = 1 }
+
 unfoldable pub linkLayout : List Field
-linkLayout = framesField ∷ rangeField ∷ closedField ∷ []
+linkLayout = framesField ∷ rangeField ∷ closedField ∷ leastField ∷ []
 
 -- the values of a link, in the order of its fields
 unfoldable pub valuesOf : Link → List ℕ
-valuesOf l = l .frames ∷ l .range ∷ l .closed ∷ []
+valuesOf l = l .frames ∷ l .range ∷ l .closed ∷ l .least ∷ []
 
 -- and back
 unfoldable pub linkOf : List ℕ → Link
-linkOf vs = record { frames = getD vs 0 0; range = getD vs 1 0; closed = getD vs 2 0 }
+linkOf vs = record { frames = getD vs 0 0; range = getD vs 1 0; closed = getD vs 2 0; least = getD vs 3 0 }

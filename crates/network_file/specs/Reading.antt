@@ -1,4 +1,4 @@
--- What a network file says: a network, or the refusal, 1, 2, 3, 4 to 9 for each record, then 10. Assumes nothing.
+-- What a network file says: a network, or the refusal, 1, 2, 3, then for each record 4 to 8, 21 and 9, then 10. Assumes nothing.
 use mathlib.Core.Path.{_≡_}
 use mathlib.Core.Bool.{not}
 use mathlib.Core.List.{List, [], _∷_}
@@ -25,16 +25,16 @@ pub record Linked : Type 0 where
   pub link : Link
   pub used : ℕ
 
--- "Each link record is read from the part of the file that starts at it": 4, 5, 6, then 7, 8, 9
+-- "Each link record is read from the part of the file that starts at it": 4, 5, 6, then 7, 8, 21, 9
 unfoldable pub readLink : ℕ → List ℕ → Outcome Linked
 readLink T s = onGiven (readRecord linkLayout s) (λ x. refusedOr (linkCheck T (linkOf (x .values))) (given (record { link = linkOf (x .values); used = x .used })))
 
--- 5: "A map byte has a bit above bit 2": no bit is stray exactly where the map byte is below 8
+-- 5: "A map byte has a bit above bit" 3 ("the stray-bit rule those above 3", W-206): no bit is stray exactly where the map byte is below 16
 abbrev pub StrayAbove : Type 0
-StrayAbove = (map : ℕ) → map < 256 → strayBits linkLayout map ≡ 0 → map < 8
+StrayAbove = (map : ℕ) → map < 256 → strayBits linkLayout map ≡ 0 → map < 16
 
 abbrev pub AboveStray : Type 0
-AboveStray = (map : ℕ) → map < 8 → strayBits linkLayout map ≡ 0
+AboveStray = (map : ℕ) → map < 16 → strayBits linkLayout map ≡ 0
 
 -- "then a record per link", all checks of one before the next; then 10: "Bytes follow the last record"
 unfoldable pub readLinks : ℕ → ℕ → List ℕ → Outcome (List Link)
@@ -55,9 +55,9 @@ readNetwork s =
     (refusedOr (refuseIf (badCycle T) 3)
     (within T (readLinks T count (drop 3 s)))))
 
--- THE FIRST 356 BYTES OF A FILE TELL WHAT THE WHOLE SAYS
+-- THE FIRST 388 BYTES OF A FILE TELL WHAT THE WHOLE SAYS
 abbrev pub FirstBytes : Type 0
-FirstBytes = (s : List ℕ) (m : ℕ) → 356 ≤ m → readNetwork (take m s) ≡ readNetwork s
+FirstBytes = (s : List ℕ) (m : ℕ) → 388 ≤ m → readNetwork (take m s) ≡ readNetwork s
 
 -- ---- what the program's answers say in these words
 -- the answer of a link record's reader

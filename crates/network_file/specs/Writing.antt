@@ -25,10 +25,10 @@ linksBytes (l ∷ ls) = linkBytes l ++ linksBytes ls
 unfoldable pub imageOf : Topology → List ℕ
 imageOf t = bytesOf 2 (t .ticks) ++ (length (t .links) ∷ linksBytes (t .links))
 
--- A BUFFER OF 355 BYTES SERVES FOR EVERY NETWORK
+-- A BUFFER OF 387 BYTES SERVES FOR EVERY NETWORK
 abbrev pub ImageBound : Type 0
-ImageBound = (t : Topology) → networkCheck t ≡ given pass → length (imageOf t) ≤ 355
+ImageBound = (t : Topology) → networkCheck t ≡ given pass → length (imageOf t) ≤ 387
 
--- WHAT THE WRITER WRITES into a buffer of so many bytes: 2, 3, then 7, 8 and 9 for each link, then 20; "The writer answers the image's length"
+-- WHAT THE WRITER WRITES into a buffer of so many bytes: 2, 3, then 7, 8, 21 and 9 for each link, then 20; "The writer answers the image's length"
 unfoldable pub writeNetwork : Topology → ℕ → Outcome (List ℕ)
 writeNetwork t room = refusedOr (networkCheck t) (inRoom (length (imageOf t)) room (imageOf t))

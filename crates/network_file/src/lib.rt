@@ -1,4 +1,4 @@
-// The network file of document 01: read and written.
+// The network file of document 01, with the least hold of W-206 in each link record: read and written.
 use network::Link;
 use network::Network;
 use records::Field;
@@ -39,9 +39,9 @@ pub enum Written {
 }
 
 // The number of fields of a link record.
-const FIELDS: usize = 3;
+const FIELDS: usize = 4;
 
-// The layout of a link record: K, Z, closed frames.
+// The layout of a link record: K, Z, closed frames, Y.
 fn link_fields() -> [Field; 8]
     ensures { λ r. ⌜ r ≡ firsts 8 linkLayout noField ⌝ }
 {
@@ -65,6 +65,11 @@ fn link_fields() -> [Field; 8]
         size: 8,
         absent: 0,
     };
+    fields[3] = Field {
+        bit: 3,
+        size: 1,
+        absent: 1,
+    };
     fields
 }
 
@@ -76,7 +81,7 @@ fn values_of(link: Link) -> [u64; 8]
         link.frames as u64,
         link.range as u64,
         link.closed,
-        0,
+        link.least as u64,
         0,
         0,
         0,
@@ -84,14 +89,15 @@ fn values_of(link: Link) -> [u64; 8]
     ]
 }
 
-// The link of a record's values. K and Z are read from a byte each.
+// The link of a record's values. K, Z and Y are read from a byte each.
 fn link_of(values: [u64; 8]) -> Link
-    requires { ⌜ (getD values 0 0 < 256) × (getD values 1 0 < 256) ⌝ }
+    requires { ⌜ (getD values 0 0 < 256) × (getD values 1 0 < 256) × (getD values 3 0 < 256) ⌝ }
     ensures { λ r. ⌜ r ≡ linkOf values ⌝ }
 {
     Link {
         frames: values[0] as u16,
         range: values[1] as u16,
+        least: values[3] as u16,
         closed: values[2],
     }
 }
@@ -262,7 +268,7 @@ fn write_passed(network: Network, buffer: &mut [u8]) -> Written
     Written::Length(length)
 }
 
-// A network's file at the start of a buffer, and its length. A refused call leaves the buffer as it is. A buffer of 355 bytes serves for every
+// A network's file at the start of a buffer, and its length. A refused call leaves the buffer as it is. A buffer of 387 bytes serves for every
 // network (`image-bound`).
 pub fn write_network(network: Network, buffer: &mut [u8]) -> Written
     ensures { λ r. ⌜ Writes (writeNetwork (topologyOf network) (length (now (buffer .entry)))) (now (buffer .entry)) (now (buffer .exit)) r ⌝ }

@@ -5,12 +5,12 @@ use mathlib.Core.List.{List, [], _∷_}
 use Prim.Native.Nat.{ℕ}
 use native.Mathlib.Omega.{arith}
 use lib.ListN.{getD}
-use Rattle.refusals.specs.declared.Refusal.the-variants.{BrokenState, ShortFile, LinkCount, CycleLength, ShortRecord, StrayBit, AbsentWritten, FrameCount, RangeOutside, ClosedOutside, BytesFollow, UnreadableCall, RouteLength, UnknownLink, LinkTwice, RatesApart, NumberLive, PlacesFull, NoSchedule, NumberNotLive, ShortBuffer}
+use Rattle.refusals.specs.declared.Refusal.the-variants.{BrokenState, ShortFile, LinkCount, CycleLength, ShortRecord, StrayBit, AbsentWritten, FrameCount, RangeOutside, ClosedOutside, BytesFollow, UnreadableCall, RouteLength, UnknownLink, LinkTwice, RatesApart, NumberLive, PlacesFull, NoSchedule, NumberNotLive, ShortBuffer, LeastOutside}
 use Rattle.refusals.specs.declared.Refusal.{Refusal}
 use Rattle.refusals.specs.Refusals.{refusalNumber, refusalCount, RefusalOnly, Outcome, given, refused, pass, Ruling, refuseIf, refusedOr, rulingOf, givenOr}
 
 listed : ℕ → List Refusal
-listed count = BrokenState ∷ ShortFile ∷ LinkCount ∷ CycleLength ∷ ShortRecord ∷ StrayBit ∷ AbsentWritten ∷ FrameCount ∷ RangeOutside ∷ ClosedOutside ∷ BytesFollow ∷ UnreadableCall ∷ RouteLength ∷ UnknownLink ∷ LinkTwice ∷ RatesApart ∷ NumberLive ∷ PlacesFull ∷ NoSchedule count ∷ NumberNotLive ∷ ShortBuffer ∷ []
+listed count = BrokenState ∷ ShortFile ∷ LinkCount ∷ CycleLength ∷ ShortRecord ∷ StrayBit ∷ AbsentWritten ∷ FrameCount ∷ RangeOutside ∷ ClosedOutside ∷ BytesFollow ∷ UnreadableCall ∷ RouteLength ∷ UnknownLink ∷ LinkTwice ∷ RatesApart ∷ NumberLive ∷ PlacesFull ∷ NoSchedule count ∷ NumberNotLive ∷ ShortBuffer ∷ LeastOutside ∷ []
 
 numbered : ℕ → ℕ → Refusal
 numbered n count = getD (listed count) n ShortBuffer
@@ -38,6 +38,7 @@ back PlacesFull = refl
 back (NoSchedule count) = refl
 back NumberNotLive = refl
 back ShortBuffer = refl
+back LeastOutside = refl
 
 -- A NUMBER AND A COUNT TELL THE REFUSAL
 pub refusal-only : RefusalOnly
@@ -96,6 +97,7 @@ uncounted PlacesFull h = refl
 uncounted (NoSchedule count) h = absurd (h refl)
 uncounted NumberNotLive h = refl
 uncounted ShortBuffer h = refl
+uncounted LeastOutside h = refl
 
 -- a variant of another tag than that of 18
 pub other-count : (tag : Refusal → ℕ) → ((count : ℕ) → tag (NoSchedule count) ≡ 18) → (r : Refusal) → (tag r ≡ 18 → ⊥) → 0 ≡ refusalCount r

@@ -1,13 +1,13 @@
--- The refusal list of document 01, and what a call comes to. Assumes nothing.
+-- The refusal list of document 01 with the refusals of document 02, and what a call comes to. Assumes nothing.
 use mathlib.Core.Path.{_≡_}
 use mathlib.Core.Bool.{Bool, true, false}
 use Prim.Native.Nat.{ℕ}
 use Rattle.refusals.specs.declared.Verdict.the-variants.{Passed, Refused}
 use Rattle.refusals.specs.declared.Verdict.{Verdict}
-use Rattle.refusals.specs.declared.Refusal.the-variants.{BrokenState, ShortFile, LinkCount, CycleLength, ShortRecord, StrayBit, AbsentWritten, FrameCount, RangeOutside, ClosedOutside, BytesFollow, UnreadableCall, RouteLength, UnknownLink, LinkTwice, RatesApart, NumberLive, PlacesFull, NoSchedule, NumberNotLive, ShortBuffer}
+use Rattle.refusals.specs.declared.Refusal.the-variants.{BrokenState, ShortFile, LinkCount, CycleLength, ShortRecord, StrayBit, AbsentWritten, FrameCount, RangeOutside, ClosedOutside, BytesFollow, UnreadableCall, RouteLength, UnknownLink, LinkTwice, RatesApart, NumberLive, PlacesFull, NoSchedule, NumberNotLive, ShortBuffer, LeastOutside}
 use Rattle.refusals.specs.declared.Refusal.{Refusal}
 
--- a refusal's number in document 01 ("Refusal list")
+-- a refusal's number ("Refusal list"; 21: W-206)
 abbrev pub refusalNumber : Refusal → ℕ
 refusalNumber BrokenState = 0
 refusalNumber ShortFile = 1
@@ -30,6 +30,7 @@ refusalNumber PlacesFull = 17
 refusalNumber (NoSchedule count) = 18
 refusalNumber NumberNotLive = 19
 refusalNumber ShortBuffer = 20
+refusalNumber LeastOutside = 21
 
 -- a refusal's count: "A refusal returns its number, 18 also the count"
 abbrev pub refusalCount : Refusal → ℕ
@@ -54,6 +55,7 @@ refusalCount PlacesFull = 0
 refusalCount (NoSchedule count) = count
 refusalCount NumberNotLive = 0
 refusalCount ShortBuffer = 0
+refusalCount LeastOutside = 0
 
 -- A NUMBER AND A COUNT TELL THE REFUSAL
 abbrev pub RefusalOnly : Type 0

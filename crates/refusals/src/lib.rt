@@ -1,8 +1,8 @@
-// The refusal list of document 01, and what a check says.
+// The refusal list of document 01 with the refusals of document 02, and what a check says.
 ghost use mathlib.Core.Path.{_≡_};
 ghost use Rattle.refusals.specs.Refusals.{refusalNumber, refusalCount};
 
-// A refusal ("Refusal list"): a variant for each number of document 01, in its order from 0 on.
+// A refusal ("Refusal list"): a variant for each number, from 0 on.
 pub enum Refusal {
     // 0. The stored state handed to a call is broken.
     BrokenState,
@@ -12,9 +12,9 @@ pub enum Refusal {
     LinkCount,
     // 3. T is 0 or above 960.
     CycleLength,
-    // 4. No map byte is left, or fewer bytes than its bits 0 to 2 need.
+    // 4. No map byte is left, or fewer bytes than its bits 0 to 3 need (W-206).
     ShortRecord,
-    // 5. A map byte has a bit above bit 2.
+    // 5. A map byte has a bit above bit 3 (W-206).
     StrayBit,
     // 6. A written field equals its absent value.
     AbsentWritten,
@@ -46,6 +46,8 @@ pub enum Refusal {
     NumberNotLive,
     // 20. Write: the buffer is shorter than what is to be written.
     ShortBuffer,
+    // 21. Y is above Z, or Y is 0 and Z equals K (W-206); checked after 8.
+    LeastOutside,
 }
 
 // What a check says.
@@ -54,7 +56,7 @@ pub enum Verdict {
     Refused(Refusal),
 }
 
-// A refusal's number in document 01.
+// A refusal's number.
 pub fn number(refusal: Refusal) -> u8
     ensures { λ r. ⌜ r ≡ refusalNumber refusal ⌝ }
 {
@@ -80,6 +82,7 @@ pub fn number(refusal: Refusal) -> u8
         Refusal::NoSchedule(_) => 18,
         Refusal::NumberNotLive => 19,
         Refusal::ShortBuffer => 20,
+        Refusal::LeastOutside => 21,
     }
 }
 

@@ -1,13 +1,12 @@
 -- The transitions of a hop, counted by windows of its free frames. Assumes nothing.
-use mathlib.Core.Path.{_≡_, refl, sym, _∙_, ap}
-use mathlib.Core.Bool.{Bool, true, false, _&&_, cond}
+use mathlib.Core.Path.{_≡_, sym, _∙_, ap}
+use mathlib.Core.Bool.{Bool, true, false, _&&_}
 use mathlib.Core.List.{List}
-use Prim.Native.Nat.{ℕ, zero, suc, _+_, _*_, _%_, _<_, _≤_}
+use Prim.Native.Nat.{ℕ, _+_, _*_, _%_, _<_, _≤_}
 use native.Mathlib.Nat.{mod-lt, one-mul, zero-mul, mul-zero}
 use native.Mathlib.Omega.{arith}
-use lib.Dec.{ltb, eqb}
+use lib.Dec.{ltb}
 use lib.ListN.{getD}
-use borrow.Author.Tests.{le-ltb, ne-eqb}
 use Rattle.lists.specs.Count.{oneIf, countBelow}
 use Rattle.lists.proofs.Count.{sum-cong, sum-const}
 use Rattle.lists.proofs.Sums.{sum-narrow}
@@ -15,57 +14,28 @@ use Rattle.trellis.specs.Trellis.{Stage}
 use Rattle.trellis.specs.Paths.{reached}
 use Rattle.words.specs.Word.{bitOf}
 use Rattle.words.specs.Inner.{windowOnes, WindowOnes}
-use Rattle.words.proofs.Bits.{bit-zero}
 use Rattle.words.proofs.Sliding.{window-few}
 use Rattle.forwarding.specs.declared.Hop.{Hop}
-use Rattle.forwarding.specs.Forwarding.{referenceInto, leastHold, gap, isFree, holdInto, isAllowed, choices}
+use Rattle.forwarding.specs.Forwarding.{referenceInto, leastHold, gap, isFree, isAllowed, choices}
 use Rattle.forwarding.specs.Hops.{HopReady}
 use Rattle.forwarding.specs.Route.{stageOf}
-use Rattle.forwarding.proofs.Holds.{gap-meets, gap-sum, into-gap, test-shift, least-in, choices-in}
-use Rattle.forwarding.proofs.Transitions.{may-choice}
-use Rattle.forwarding.proofs.Windows.{firstFrame}
-use Rattle.search.specs.Inner.{cellReach, openWidth, openFree, Opens, leadings, counts}
+use Rattle.forwarding.proofs.Holds.{gap-meets, gap-sum, least-range, choices-range, choices-in}
+use Rattle.forwarding.proofs.Windows.{firstFrame, near}
+use Rattle.search.specs.Inner.{cellReach, Opens, leadings, counts}
 
 -- the stage of a hop by the time of its frame: the delay is the hold times that time
 abbrev pub stageBy : ℕ → Hop → Hop → Stage
 stageBy time g h = stageOf (λ D. D * time) g h
 
 -- ---- how many frames a frame leads to
--- what the checks say of the least hold and of the number of holds
-pub ready-least : (T : ℕ) (h : Hop) → HopReady T h → leastHold h ≤ h .frames
-ready-least T h r = least-in h (r .some-frame)
-
-ready-choices : (T : ℕ) (h : Hop) → HopReady T h → choices h ≤ h .frames
-ready-choices T h r = choices-in h (r .in-cycle)
-
--- a transition is allowed into the free ones of as many frames as there are holds, from the first that is led to
-by-window : (g h : Hop) (k i : ℕ) → isAllowed g h k i ≡ (ltb (gap (h .frames) (firstFrame g h k) i) (choices h) && bitOf (h .free) i)
+-- THE WINDOW THAT A FRAME LEADS TO has as many frames as there are holds
+pub opens : (T : ℕ) (h : Hop) → HopReady T h → (w : ℕ) → w ≡ choices h → Opens h w (h .free)
 unfolding isFree
-by-window g h k i =
-    ap (λ (b : Bool). b && bitOf (h .free) i)
-    (may-choice h (holdInto g h k i) ∙ ap (λ (D : ℕ). ltb D (leastHold h + choices h)) (into-gap g h k i) ∙ test-shift (leastHold h) (gap (h .frames) (firstFrame g h k) i) (choices h))
-
--- THE WINDOW THAT A FRAME LEADS TO has as many frames as there are holds; where there is no hold, one, and none free
-pub opens : (T : ℕ) (h : Hop) → HopReady T h → (w free : ℕ) → w ≡ openWidth h → free ≡ openFree h → Opens h w free
-opens T h r w free ew ef = rw (ew, ef) (go (choices h) refl)
-  where
-    shut : (i : ℕ) (b : Bool) → (b && bitOf 0 i) ≡ false
-    shut i true = bit-zero i
-    shut i false = refl
-
-    go : (c : ℕ) → choices h ≡ c → Opens h (cond (eqb c 0) 1 c) (cond (eqb c 0) 0 (h .free))
-    go zero e = record {
-      some = omega arith;
-      within = r .some-frame;
-      same = λ g k i.
-          by-window g h k i ∙ ap (λ (b : Bool). b && bitOf (h .free) i) (le-ltb (gap (h .frames) (firstFrame g h k) i) (choices h) (omega arith))
-          ∙ sym (shut i (ltb (gap (h .frames) (firstFrame g h k) i) 1));
-    }
-    go (suc c) e = rw (ne-eqb (suc c) 0 (λ x. omega arith)) (record {
-      some = omega arith;
-      within = omega (arith, ready-choices T h r);
-      same = λ g k i. by-window g h k i ∙ ap (λ (x : ℕ). ltb (gap (h .frames) (firstFrame g h k) i) x && bitOf (h .free) i) e;
-    })
+opens T h r w e = rw e (record {
+  some = omega (arith, choices-range T h r, least-range T h r);
+  within = choices-in T h r;
+  same = λ g k i. ap (λ (b : Bool). b && bitOf (h .free) i) (near T g h k r i);
+})
 
 -- ---- the transitions
 both-one : (a b : Bool) → oneIf (a && b) ≡ oneIf a * oneIf b

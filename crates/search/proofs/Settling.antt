@@ -15,12 +15,13 @@ use Rattle.words.specs.Inner.{WindowOnes}
 use Rattle.forwarding.specs.Forwarding.{leastHold, frameTime}
 use Rattle.forwarding.specs.Hops.{HopReady}
 use Rattle.forwarding.specs.Route.{stageOf, stage}
+use Rattle.forwarding.proofs.Holds.{least-in}
 use Rattle.forwarding.proofs.Transitions.{delay-frames}
 use Rattle.forwarding.proofs.Windows.{firstFrame}
 use Rattle.search.specs.Inner.{cellIf, lower, Latest, keyAt, Picked, Keys, Windows, Opens, Gathers, leadings, Gathering, Settled, Settling, counts, Entering, Advanced}
 use Rattle.search.proofs.Positions.{cycle-most, frame-in, times-split, seen-key, picked-in}
 use Rattle.search.proofs.Gathering.{within-time, none-gathered, gathered-keys, gathered-waits}
-use Rattle.search.proofs.Counting.{stageBy, ready-least, all-counted, ones-few}
+use Rattle.search.proofs.Counting.{stageBy, all-counted, ones-few}
 use Rattle.search.proofs.Landing.{landed, landed-most}
 
 module _ (time lead K free w base : ℕ) (keys froms : List ℕ) where
@@ -124,7 +125,7 @@ module _ (T : ℕ) (g h : Hop) (cells old : List ℕ) (base time : ℕ) (E : Ent
   in-time = time-fits T (h .frames) time (E .cycle) timed
 
   pub least-time : (least : ℕ) → least ≡ leastHold h → least * time ≤ 960
-  least-time least e = within-time time (h .frames) least (omega (arith, ready-least T h (E .ready))) in-time
+  least-time least e = within-time time (h .frames) least (omega (arith, least-in T h (E .ready))) in-time
 
   -- its frames may be gathered
   pub begins-gathering : (w free : ℕ) (blank ones froms : List ℕ) → Opens h w free → WindowOnes free (h .frames) w (h .frames) blank ones → length froms ≡ 64 → Gathering g h time cells ones (replicate 64 33728) froms
@@ -132,7 +133,7 @@ module _ (T : ℕ) (g h : Hop) (cells old : List ℕ) (base time : ℕ) (E : Ent
     few-before = E .few-before;
     some-frame = E .ready .some-frame;
     few-frames = E .ready .few-frames;
-    led = ready-least T h (E .ready);
+    led = least-in T h (E .ready);
     in-time = in-time;
     small = E .small;
     few-ones = ones-few free (h .frames) w blank ones (omega (arith, o .within, E .ready .few-frames)) s;
@@ -172,9 +173,9 @@ module _ (T : ℕ) (g h : Hop) (cells old : List ℕ) (base time : ℕ) (E : Ent
           advanced : Advanced (stageBy time g h) cells (g .frames) base old next new count
           advanced = record {
             inside = λ i l. let o = settled .settled i l in
-                landed time g h w free cells keys froms (E .ready .some-frame) (ready-least T h (E .ready)) in-time opens (E .small) G i l (o .0) (o .1) lead (getD next i 0) (getD new (base + i) 0) led (o .2) (o .3);
+                landed time g h w free cells keys froms (E .ready .some-frame) (least-in T h (E .ready)) in-time opens (E .small) G i l (o .0) (o .1) lead (getD next i 0) (getD new (base + i) 0) led (o .2) (o .3);
             most = λ i l. let o = settled .settled i l in
-                landed-most time g h w free cells keys froms (E .ready .some-frame) (ready-least T h (E .ready)) in-time opens (E .small) G i l (o .0) (o .1) lead (getD next i 0) (getD new (base + i) 0) led (o .2) (o .3);
+                landed-most time g h w free cells keys froms (E .ready .some-frame) (least-in T h (E .ready)) in-time opens (E .small) G i l (o .0) (o .1) lead (getD next i 0) (getD new (base + i) 0) led (o .2) (o .3);
             counted = counted;
             earlier = λ m l. settled .earlier m l ∙ W .earlier m l;
             next-long = settled .next-long;

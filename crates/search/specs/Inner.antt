@@ -4,7 +4,7 @@ use mathlib.Core.Path.{_≡_}
 use mathlib.Core.Bool.{Bool, true, false, _&&_, cond}
 use mathlib.Core.List.{List, [], _∷_}
 use Prim.Native.Nat.{ℕ, zero, suc, _+_, _-_, _*_, _%_, _<_, _≤_}
-use lib.Dec.{ltb, eqb}
+use lib.Dec.{ltb}
 use lib.ListN.{getD, set, length}
 use Rattle.lists.specs.Count.{oneIf, sumBelow, countBelow}
 use Rattle.trellis.specs.Trellis.{Reach, never, after, Stage, Trellis, entry, width}
@@ -13,7 +13,7 @@ use Rattle.trellis.proofs.Survivor.{Offer, offerOf, Best, nobody, best, bestOf,
 use Rattle.trellis.proofs.Ladder.{ladder}
 use Rattle.words.specs.Word.{bitOf}
 use Rattle.forwarding.specs.declared.Hop.{Hop}
-use Rattle.forwarding.specs.Forwarding.{leastHold, gap, isAllowed, choices}
+use Rattle.forwarding.specs.Forwarding.{leastHold, gap, isAllowed}
 use Rattle.forwarding.specs.Hops.{HopReady, Ready}
 use Rattle.forwarding.specs.Inner.{hopAt, stageAfter}
 use Rattle.forwarding.proofs.Windows.{firstFrame}
@@ -91,14 +91,7 @@ pub record Windows (cycle K : ℕ) (keys : List ℕ) (w base n : ℕ) (old preds
 
 -- ---- a hop entered
 
--- how many frames a frame leads to, and the free frames: where there is no hold at all, one, and none of them
-abbrev pub openWidth : Hop → ℕ
-openWidth h = cond (eqb (choices h) 0) 1 (choices h)
-
-abbrev pub openFree : Hop → ℕ
-openFree h = cond (eqb (choices h) 0) 0 (h .free)
-
--- what these are for
+-- a frame leads to the free ones of `width` frames
 pub record Opens (h : Hop) (width free : ℕ) : Type 0 where
   pub some : 0 < width
   pub within : width ≤ h .frames
@@ -157,7 +150,7 @@ pub record Settling (time lead K free w base : ℕ) (keys froms next preds : Lis
   -- checks 3 and 7
   pub ring : Keys (K * time) K keys
   pub waits : (a : ℕ) → a < K → (K - a) * time ≤ getD keys a 0
-  -- checks 3, 7 and 8: neither the least hold nor the number of holds passes a cycle
+  -- checks 3, 7, 8 and 21: neither the least hold nor the number of holds passes a cycle
   pub led : lead ≤ 960
   pub narrow : w ≤ K
   -- check 12: hop 7 is the last, and its predecessors stand from 384 on
@@ -176,7 +169,7 @@ counts st cells n = sumBelow n (λ k. countBelow (st .size) (λ i. reached (cell
 pub record Entering (t : ℕ) (g h : Hop) (cells preds : List ℕ) (base : ℕ) : Type 0 where
   -- check 3: T is at most 960
   pub cycle : t ≤ 960
-  -- check 7 of the link before, and checks 7 and 8 of the link entered
+  -- check 7 of the link before, and checks 7, 8 and 21 of the link entered
   pub some-before : 0 < g .frames
   pub few-before : g .frames ≤ 64
   pub ready : HopReady t h

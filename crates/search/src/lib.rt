@@ -15,11 +15,11 @@ ghost use Rattle.lists.specs.Count.{oneIf};
 ghost use Rattle.trellis.specs.Paths.{reached};
 ghost use Rattle.trellis.proofs.Survivor.{bestOf};
 ghost use Rattle.forwarding.specs.Forwarding.{referenceInto};
-ghost use Rattle.forwarding.specs.Hops.{HopReady, Ready};
+ghost use Rattle.forwarding.specs.Hops.{Ready};
 ghost use Rattle.forwarding.specs.Route.{stage};
 ghost use Rattle.forwarding.proofs.Windows.{firstFrame};
 ghost use Rattle.search.specs.Reading.{Finds};
-ghost use Rattle.search.specs.Inner.{cellReach, wayOf, cellIf, lower, Keys, Trail, Windows, openWidth, openFree, Entered, Gathers, leadings, Gathering, Settled, Settling, Entering, Advanced, FirstRow, Sweeps, Swept, endOffers, chainOf, ChainFits};
+ghost use Rattle.search.specs.Inner.{cellReach, wayOf, cellIf, lower, Keys, Trail, Windows, Entered, Gathers, leadings, Gathering, Settled, Settling, Entering, Advanced, FirstRow, Sweeps, Swept, endOffers, chainOf, ChainFits};
 
 // The cell of a frame that no schedule leads to. No delay passes 6,720.
 const NEVER: u16 = 32768;
@@ -47,12 +47,6 @@ struct Choice {
     frame: u8,
 }
 
-// How many frames a frame leads to, and the word of the free ones.
-struct Opening {
-    width: u16,
-    free: u64,
-}
-
 // The first of two, unless the key of the other is smaller.
 fn sooner(first: Choice, other: Choice) -> Choice
     ensures { λ r. ⌜ (r .key ≡ cond (ltb (other .key) (first .key)) (other .key) (first .key)) × (r .frame ≡ cond (ltb (other .key) (first .key)) (other .frame) (first .frame)) ⌝ }
@@ -69,21 +63,6 @@ fn if_free(free: u64, i: u16, cell: u16) -> u16
     ensures { λ r. ⌜ r ≡ cellIf free i cell ⌝ }
 {
     if words::has_bit(free, i) { cell } else { NEVER }
-}
-
-// As many frames as there are holds, and the free frames; where there is no hold at all, one frame, and none free. Checks 7 and 8 have shown what is required.
-fn opened(hop: Hop) -> Opening
-    requires { ⌜ ((T : ℕ) × HopReady T hop) ⌝ }
-    ensures { λ r. ⌜ (r .width ≡ openWidth hop) × (r .free ≡ openFree hop) ⌝ }
-{
-    let width = forwarding::choices(hop);
-    if width == 0 {
-        return Opening { width: 1, free: 0 };
-    }
-    Opening {
-        width,
-        free: hop.free,
-    }
 }
 
 // Frame i is offered the key of frame k of the hop before. Check 7: both are below 64.
@@ -300,20 +279,20 @@ fn advance(
     let time = forwarding::frame_time(t, frames);
     let cycle = forwarding::delay_of(Hold(frames), time);
     let lead = forwarding::delay_of(Hold(forwarding::least_hold(hop)), time);
-    let open = opened(hop);
+    let width = forwarding::choices(hop);
     let mut keys = [EMPTY; 64];
     let mut froms = [0u8; 64];
     let mut lent = [0u8; 64];
-    words::window_ones(open.free, frames, open.width, &mut lent);
+    words::window_ones(hop.free, frames, width, &mut lent);
     let count = gather(row, before, hop, time, &lent, &mut keys, &mut froms);
-    windows(&keys, cycle, frames, open.width, &mut lent, preds, base);
+    windows(&keys, cycle, frames, width, &mut lent, preds, base);
     settle(
         &keys,
         &froms,
         time,
         lead,
         frames,
-        open.free,
+        hop.free,
         row,
         preds,
         base,

@@ -50,14 +50,7 @@ module _ (hops : List Hop) (n : ℕ) where
 
     pub counts-entered : (j : ℕ) (row : List ℕ) → j < n → Counts j row → LeadsInto (hopAt hops (j - 1)) (hopAt hops j) row
     counts-entered j row l e =
-        let r : HopReady T (hopAt hops j) = ready .each j l in
-        record {
-          few-before = ready .each (j - 1) (omega arith) .few-frames;
-          some-frame = r .some-frame;
-          few-frames = r .few-frames;
-          in-cycle = r .in-cycle;
-          small = counts-small j row e;
-        }
+        record { few-before = ready .each (j - 1) (omega arith) .few-frames; ticks = T; ready = ready .each j l; small = counts-small j row e }
 
   -- a hop further back
   pub counts-before : (j : ℕ) (row ways : List ℕ) → 0 < j → j < n → Counts j row

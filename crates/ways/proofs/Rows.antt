@@ -8,7 +8,6 @@ use Rattle.lists.specs.Count.{oneIf, sumBelow}
 use Rattle.places.proofs.Firsts.{one-stored}
 use Rattle.forwarding.specs.declared.Hop.{Hop}
 use Rattle.forwarding.specs.Forwarding.{referenceInto, leastHold, isFree, isAllowed, choices}
-use Rattle.forwarding.proofs.Holds.{choices-in}
 use Rattle.forwarding.proofs.Windows.{window-sum}
 use Rattle.ways.specs.Inner.{freeWays, LeadsInto, RowBefore}
 
@@ -20,7 +19,7 @@ module _ (g h : Hop) (row : List ℕ) where
   pub row-window : (k r y w v : ℕ) → LeadsInto g h row → r ≡ referenceInto g h k → y ≡ leastHold h → w ≡ choices h
       → v ≡ sumBelow w (λ d. freeWays (h .free) row (((r + y) % h .frames + d) % h .frames)) → v ≡ sumBelow (h .frames) (λ i. oneIf (isAllowed g h k i) * getD row i 0)
   unfolding isFree
-  row-window k r y w v p er ey ew e = e ∙ rw (er, ey, ew) (sym (window-sum g h k (p .some-frame) (choices-in h (p .in-cycle)) (λ i. getD row i 0)))
+  row-window k r y w v p er ey ew e = e ∙ rw (er, ey, ew) (sym (window-sum (p .ticks) g h k (p .ready) (λ i. getD row i 0)))
 
   pub one-before : (n : ℕ) (ways : List ℕ) (v : ℕ) → n < 64 → RowBefore g h row n ways
       → v ≡ sumBelow (h .frames) (λ i. oneIf (isAllowed g h n i) * getD row i 0) → RowBefore g h row (n + 1) (set ways n v)

@@ -7,6 +7,7 @@ use Rattle.lists.specs.Count.{oneIf, sumBelow}
 use Rattle.words.specs.Word.{bitOf}
 use Rattle.forwarding.specs.declared.Hop.{Hop}
 use Rattle.forwarding.specs.Forwarding.{isAllowed}
+use Rattle.forwarding.specs.Hops.{HopReady}
 
 -- the ways on from frame i of a hop with this word of free frames and this row, none where it is not free
 abbrev pub freeWays : ℕ → List ℕ → ℕ → ℕ
@@ -27,11 +28,10 @@ CycleSums f K sums = SumsTo f K sums × (sumBelow K f ≤ 64 ^ 8)
 
 -- what is known where frames of the hop g lead into the hop h, with the row of h
 pub record LeadsInto (g h : Hop) (row : List ℕ) : Type 0 where
-  -- check 7 of both links, and check 8 of the one entered
+  -- check 7 of the link before, and checks 7, 8 and 21 of the one entered, for some cycle
   pub few-before : g .frames ≤ 64
-  pub some-frame : 0 < h .frames
-  pub few-frames : h .frames ≤ 64
-  pub in-cycle : h .range ≤ h .frames
+  pub ticks : ℕ
+  pub ready : HopReady ticks h
   pub small : SmallRow (h .frames) row
 
 -- the ways on from the first n frames of the hop g, by the row of the hop h after it

@@ -50,7 +50,7 @@ fn window(sums: &[u64; 65], first: u16, count: u16, frames: u16) -> u64
     sums[frames as usize] + sums[(end - frames) as usize] - before
 }
 
-// The row of the hop before, from the row of a hop. Checks 7 and 8 have shown what is required.
+// The row of the hop before, from the row of a hop. Checks 7, 8 and 21 have shown what is required.
 fn row_before(row: &[u64; 64], before: Hop, hop: Hop) -> [u64; 64]
     requires { ⌜ LeadsInto before hop (now row) ⌝ }
     ensures { λ r. ⌜ RowBefore before hop (now (row .entry)) (before .frames) r ⌝ }
@@ -70,7 +70,7 @@ fn row_before(row: &[u64; 64], before: Hop, hop: Hop) -> [u64; 64]
     ways
 }
 
-// The number of schedules over hops 0 to n - 1. Checks 7, 8 and 12 have shown what is required.
+// The number of schedules over hops 0 to n - 1. Checks 7, 8, 21 and 12 have shown what is required.
 pub fn number_over(hops: [Hop; 8], n: usize) -> u64
     requires { ⌜ ((T : ℕ) × Ready T hops n) ⌝ }
     ensures { λ r. ⌜ r ≡ routeWays (firsts n hops noHop) ⌝ }

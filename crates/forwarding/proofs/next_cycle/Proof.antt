@@ -17,7 +17,7 @@ add-if1 : tie.Need-add-if1
 add-if1 c =
     let s = c .before .before .before in
     let a = s .args in
-    omega (arith, reaches (a .before) (a .hop) (a .k) (a .i) (a .cycle) (s .pre .0) (s .pre .2), c .before .before .reference-frame .ensures, c .before .hold-into .ensures)
+    omega (arith, reaches (a .before) (a .hop) (a .k) (a .i) (a .cycle) (s .pre .0) (s .pre .2) (s .pre .4), c .before .before .reference-frame .ensures, c .before .hold-into .ensures)
 
 returns : tie.Need-returns
 returns c =

@@ -15,6 +15,9 @@ array-set-from-fields-2 c = search needs
 array-set-from-fields-3 : tie.Need-array-set-from-fields-3
 array-set-from-fields-3 c = search needs
 
+array-set-from-fields-4 : tie.Need-array-set-from-fields-4
+array-set-from-fields-4 c = search needs
+
 returns : tie.Need-returns
 unfolding firsts linkLayout
 returns c = refl
@@ -22,4 +25,4 @@ returns c = refl
 pub link-fields-spec : {M : Type 1} → statement M
 link-fields-spec =
     tie.close
-    (tie.spec array-set-from-fields array-set-from-fields-2 array-set-from-fields-3 returns)
+    (tie.spec array-set-from-fields array-set-from-fields-2 array-set-from-fields-3 array-set-from-fields-4 returns)

@@ -12,9 +12,12 @@ cast-t2 c = search needs
 cast-t3 : tie.Need-cast-t3
 cast-t3 c = search needs
 
+cast-t4 : tie.Need-cast-t4
+cast-t4 c = search needs
+
 returns : tie.Need-returns
 unfolding firsts valuesOf
 returns c = refl
 
 pub values-of-spec : {M : Type 1} → statement M
-values-of-spec = tie.close (tie.spec cast-t2 cast-t3 returns)
+values-of-spec = tie.close (tie.spec cast-t2 cast-t3 cast-t4 returns)

@@ -2,7 +2,9 @@
 use mathlib.Core.Path.{_∙_, ap}
 use Prim.Native.Nat.{ℕ, _*_}
 use lib.ListN.{length-replicate}
+use native.Mathlib.Omega.{arith}
 use borrow.Author.Needs.{needs}
+use Rattle.forwarding.proofs.Holds.{least-range}
 use Rattle.search.proofs.Counting.{opens}
 use Rattle.search.proofs.Settling.{time-fits, least-time, begins-gathering, begins-windows, begins-settling, hop-advanced}
 use Rattle.search.proofs.advance.Statement.{statement}
@@ -26,13 +28,15 @@ delay-of-requires-2 c κs =
     let time = c .before .before .frame-time in
     least-time (a .t) (a .before) (a .hop) (a .row .now) (a .preds .now) (a .base) (time .result .0) (s .pre) (time .ensures) (c .least-hold .result) (c .least-hold .ensures)
 
-opened-requires : tie.Need-opened-requires
-opened-requires c κs = (c .before .before .before .before .args .t, c .before .before .before .before .pre .ready)
+choices-requires : tie.Need-choices-requires
+choices-requires c κs =
+    let s = c .before .before .before .before in
+    let r = s .pre .ready in (least-range (s .args .t) (s .args .hop) r, omega (arith, r .in-cycle, r .few-frames))
 
 window-ones-requires : tie.Need-window-ones-requires
 window-ones-requires c κs =
     let s = c .before .before .before .before .before .before in
-    let O = opens (s .args .t) (s .args .hop) (s .pre .ready) (c .before .opened .result .width) (c .before .opened .result .free) (c .before .opened .ensures .0) (c .before .opened .ensures .1) in
+    let O = opens (s .args .t) (s .args .hop) (s .pre .ready) (c .before .choices .result) (c .before .choices .ensures) in
     (O .some, O .within, s .pre .ready .few-frames, length-replicate {A = ℕ} 64 0)
 
 gather-requires : tie.Need-gather-requires
@@ -40,21 +44,21 @@ gather-requires c κs =
     let s = c .before .before .before .before .before .before .before .before .before .before .before in
     let a = s .args in
     let time = c .before .before .before .before .before .before .before .before .before .before .frame-time in
-    let open-is = c .before .before .before .before .before .before .opened in
-    let O = opens (a .t) (a .hop) (s .pre .ready) (open-is .result .width) (open-is .result .free) (open-is .ensures .0) (open-is .ensures .1) in
+    let wide = c .before .before .before .before .before .before .choices in
+    let O = opens (a .t) (a .hop) (s .pre .ready) (wide .result) (wide .ensures) in
     let ones = c .before .before .before .before .window-ones in
-    begins-gathering (a .t) (a .before) (a .hop) (a .row .now) (a .preds .now) (a .base) (time .result .0) (s .pre) (time .ensures) (open-is .result .width) (open-is .result .free) _ (ones .last .1 .1 .1 .0) _ O (ones .ensures) (length-replicate {A = ℕ} 64 0)
+    begins-gathering (a .t) (a .before) (a .hop) (a .row .now) (a .preds .now) (a .base) (time .result .0) (s .pre) (time .ensures) (wide .result) (a .hop .free) _ (ones .last .1 .1 .1 .0) _ O (ones .ensures) (length-replicate {A = ℕ} 64 0)
 
 windows-requires : tie.Need-windows-requires
 windows-requires c κs =
     let s = c .before .before .before .before .before .before .before .before .before .before .before .before .before .before .before in
     let a = s .args in
     let time = c .before .before .before .before .before .before .before .before .before .before .before .before .before .before .frame-time in
-    let open-is = c .before .before .before .before .before .before .before .before .before .before .opened in
-    let O = opens (a .t) (a .hop) (s .pre .ready) (open-is .result .width) (open-is .result .free) (open-is .ensures .0) (open-is .ensures .1) in
+    let wide = c .before .before .before .before .before .before .before .before .before .before .choices in
+    let O = opens (a .t) (a .hop) (s .pre .ready) (wide .result) (wide .ensures) in
     let ones = c .before .before .before .before .before .before .before .before .window-ones in
     let G = c .before .before .before .gather in
-    let keys = begins-windows (a .t) (a .before) (a .hop) (a .row .now) (a .preds .now) (a .base) (time .result .0) (s .pre) (time .ensures) (open-is .result .width) (open-is .result .free) O _ _ (G .ensures .0) (c .before .before .before .before .before .before .before .before .before .before .before .before .before .delay-of .result .0) (c .before .before .before .before .before .before .before .before .before .before .before .before .before .delay-of .ensures .product) in
+    let keys = begins-windows (a .t) (a .before) (a .hop) (a .row .now) (a .preds .now) (a .base) (time .result .0) (s .pre) (time .ensures) (wide .result) (a .hop .free) O _ _ (G .ensures .0) (c .before .before .before .before .before .before .before .before .before .before .before .before .before .delay-of .result .0) (c .before .before .before .before .before .before .before .before .before .before .before .before .before .delay-of .ensures .product) in
     (keys, O .some, O .within, ones .ensures .long, s .pre .within, s .pre .long)
 
 settle-requires : tie.Need-settle-requires
@@ -65,11 +69,11 @@ settle-requires c κs =
     let cycle = c .before .before .before .before .before .before .before .before .before .before .before .before .before .before .before .before .before .before .delay-of in
     let lead = c .before .before .before .before .before .before .before .before .before .before .before .before .before .before .before .before .delay-of2 in
     let led = lead .ensures .product ∙ ap (λ (x : ℕ). x * time .result .0) (c .before .before .before .before .before .before .before .before .before .before .before .before .before .before .before .before .before .least-hold .ensures) in
-    let open-is = c .before .before .before .before .before .before .before .before .before .before .before .before .before .before .before .opened in
-    let O = opens (a .t) (a .hop) (s .pre .ready) (open-is .result .width) (open-is .result .free) (open-is .ensures .0) (open-is .ensures .1) in
+    let wide = c .before .before .before .before .before .before .before .before .before .before .before .before .before .before .before .choices in
+    let O = opens (a .t) (a .hop) (s .pre .ready) (wide .result) (wide .ensures) in
     let G = c .before .before .before .before .before .before .before .before .gather in
     let W = c .before .before .before .before .windows in
-    (open-is .result .width, begins-settling (a .t) (a .before) (a .hop) (a .row .now) (a .preds .now) (a .base) (time .result .0) (s .pre) (time .ensures) (open-is .result .width) (open-is .result .free) O (G .last .1 .1 .1 .1 .1 .0) (G .last .1 .1 .1 .1 .1 .1 .0) (G .ensures .0) (cycle .result .0) (cycle .ensures .product) (lead .result .0) led (W .last .1 .1 .1 .1 .1 .0) (W .ensures))
+    (wide .result, begins-settling (a .t) (a .before) (a .hop) (a .row .now) (a .preds .now) (a .base) (time .result .0) (s .pre) (time .ensures) (wide .result) (a .hop .free) O (G .last .1 .1 .1 .1 .1 .0) (G .last .1 .1 .1 .1 .1 .1 .0) (G .ensures .0) (cycle .result .0) (cycle .ensures .product) (lead .result .0) led (W .last .1 .1 .1 .1 .1 .0) (W .ensures))
 
 returns : tie.Need-returns
 returns c =
@@ -79,12 +83,12 @@ returns c =
     let cycle = c .before .before .before .before .before .before .before .before .before .before .before .before .before .before .before .before .before .before .before .delay-of in
     let lead = c .before .before .before .before .before .before .before .before .before .before .before .before .before .before .before .before .before .delay-of2 in
     let led = lead .ensures .product ∙ ap (λ (x : ℕ). x * time .result .0) (c .before .before .before .before .before .before .before .before .before .before .before .before .before .before .before .before .before .before .least-hold .ensures) in
-    let open-is = c .before .before .before .before .before .before .before .before .before .before .before .before .before .before .before .before .opened in
-    let O = opens (a .t) (a .hop) (s .pre .ready) (open-is .result .width) (open-is .result .free) (open-is .ensures .0) (open-is .ensures .1) in
+    let wide = c .before .before .before .before .before .before .before .before .before .before .before .before .before .before .before .before .choices in
+    let O = opens (a .t) (a .hop) (s .pre .ready) (wide .result) (wide .ensures) in
     let G = c .before .before .before .before .before .before .before .before .before .gather in
     let W = c .before .before .before .before .before .windows in
     let ones = c .before .before .before .before .before .before .before .before .before .before .before .before .before .before .window-ones in
-    hop-advanced (a .t) (a .before) (a .hop) (a .row .now) (a .preds .now) (a .base) (time .result .0) (s .pre) (time .ensures) (open-is .result .width) (open-is .result .free) O (G .last .1 .1 .1 .1 .1 .0) (G .last .1 .1 .1 .1 .1 .1 .0) (G .ensures .0) (cycle .result .0) (cycle .ensures .product) (lead .result .0) led (W .last .1 .1 .1 .1 .1 .0) (W .ensures) _ (ones .last .1 .1 .1 .0) (G .result) (c .settle .last .1 .1 .1 .1 .1 .1 .0) (c .settle .last .1 .1 .1 .1 .1 .1 .1 .0) (ones .ensures) (G .ensures .1) (c .settle .ensures)
+    hop-advanced (a .t) (a .before) (a .hop) (a .row .now) (a .preds .now) (a .base) (time .result .0) (s .pre) (time .ensures) (wide .result) (a .hop .free) O (G .last .1 .1 .1 .1 .1 .0) (G .last .1 .1 .1 .1 .1 .1 .0) (G .ensures .0) (cycle .result .0) (cycle .ensures .product) (lead .result .0) led (W .last .1 .1 .1 .1 .1 .0) (W .ensures) _ (ones .last .1 .1 .1 .0) (G .result) (c .settle .last .1 .1 .1 .1 .1 .1 .0) (c .settle .last .1 .1 .1 .1 .1 .1 .1 .0) (ones .ensures) (G .ensures .1) (c .settle .ensures)
 
 pub advance-spec : {M : Type 1} → statement M
 advance-spec =
@@ -94,7 +98,7 @@ advance-spec =
     delay-of-requires
     least-hold-requires
     delay-of-requires-2
-    opened-requires
+    choices-requires
     window-ones-requires
     gather-requires
     windows-requires

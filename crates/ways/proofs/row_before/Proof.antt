@@ -4,7 +4,7 @@ use Prim.Native.Nat.{_+_, _-_, _≤_}
 use native.Mathlib.Nat.{mod-lt}
 use native.Mathlib.Omega.{arith}
 use borrow.Author.Needs.{needs}
-use Rattle.forwarding.proofs.Holds.{reference-in, least-in, choices-in}
+use Rattle.forwarding.proofs.Holds.{reference-in, least-range, least-in, choices-in}
 use Rattle.ways.specs.Inner.{freeWays, RowBefore}
 use Rattle.ways.proofs.Rows.{none-before, row-window, one-before}
 use Rattle.ways.proofs.row_before.Statement.{statement}
@@ -17,19 +17,21 @@ abbrev μ-loop : tie.MeasureT-loop
 μ-loop row before hop sums frames many least choices ways₀ k₀ ways k = many - k
 
 running-sums-requires : tie.Need-running-sums-requires Inv-loop μ-loop
-running-sums-requires c κs = (c .pre .few-frames, c .pre .small)
+running-sums-requires c κs = (c .pre .ready .few-frames, c .pre .small)
 
 least-hold-requires : tie.Need-least-hold-requires Inv-loop μ-loop
 least-hold-requires c κs = search needs
 
 choices-requires : tie.Need-choices-requires Inv-loop μ-loop
-choices-requires c κs = let p = c .before .before .pre in omega (arith, p .in-cycle, p .few-frames)
+choices-requires c κs =
+    let s = c .before .before in
+    let r = s .pre .ready in (least-range (s .pre .ticks) (s .args .hop) r, omega (arith, r .in-cycle, r .few-frames))
 
 loop-holds : tie.Need-loop-holds Inv-loop μ-loop
 loop-holds c = let a = c .before .before .before .args in (omega arith, none-before (a .before) (a .hop) (a .row .now))
 
 reference-frame-requires : tie.Need-reference-frame-requires Inv-loop μ-loop
-reference-frame-requires c κs = let p = c .before .before .before .before .before .pre in (c .loop-test .taken, p .few-before, p .some-frame, p .few-frames)
+reference-frame-requires c κs = let p = c .before .before .before .before .before .pre in (c .loop-test .taken, p .few-before, p .ready .some-frame, p .ready .few-frames)
 
 add-first : tie.Need-add-first Inv-loop μ-loop
 add-first c =
@@ -40,24 +42,24 @@ add-first c =
       fits = omega (
         arith,
         c .reference-frame .ensures,
-        reference-in (a .before) (a .hop) (c .before .before .loop .k) (p .some-frame) (c .before .loop-test .taken),
+        reference-in (a .before) (a .hop) (c .before .before .loop .k) (p .ready .some-frame) (c .before .loop-test .taken),
         c .before .before .before .before .least-hold .ensures,
-        least-in (a .hop) (p .some-frame),
-        p .few-frames,
+        least-in (p .ticks) (a .hop) (p .ready),
+        p .ready .few-frames,
       );
     }
 
 rem-first : tie.Need-rem-first Inv-loop μ-loop
-rem-first c = omega (arith, c .before .before .before .before .before .before .pre .some-frame)
+rem-first c = omega (arith, c .before .before .before .before .before .before .pre .ready .some-frame)
 
 window-requires : tie.Need-window-requires Inv-loop μ-loop
 window-requires c κs =
     let s = c .before .before .before .before .before .before .before in
     let p = s .pre in
     let a = s .args in (
-      mod-lt (c .before .reference-frame .result + c .before .before .before .before .before .least-hold .result) (p .some-frame),
-      omega (arith, c .before .before .before .before .choices .ensures, choices-in (a .hop) (p .in-cycle)),
-      p .few-frames,
+      mod-lt (c .before .reference-frame .result + c .before .before .before .before .before .least-hold .result) (p .ready .some-frame),
+      omega (arith, c .before .before .before .before .choices .ensures, choices-in (p .ticks) (a .hop) (p .ready)),
+      p .ready .few-frames,
       (freeWays (a .hop .free) (a .row .now), c .before .before .before .before .before .before .running-sums .ensures),
     )
 
