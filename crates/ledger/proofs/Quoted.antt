@@ -1,4 +1,4 @@
--- Where 0 and 13 don't refuse, a quote depends on T, the route and those links' K, Z and free frames alone. Assumes nothing.
+-- Where 0 and 13 don't refuse, a quote depends on T, the route and those links' K, Z, Y and free frames alone. Assumes nothing.
 use mathlib.Core.Path.{_≡_, refl, sym, ap, ap₂, _∙_}
 use mathlib.Core.Bool.{Bool, true, false}
 use mathlib.Core.List.{List, [], _∷_, map}

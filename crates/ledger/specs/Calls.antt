@@ -75,7 +75,7 @@ checksOf v call = refusedOr (brokenCheck v) (callCheck (v .network) (v .live) ca
 unfoldable pub reply : View → Call → Reply
 reply v call = unless (checksOf v call) (granted (v .network) (v .live) call)
 
--- A QUOTE: "Where 0 and 13 don't refuse, it depends on T, the route and those links' K, Z and free frames alone", which are its hops
+-- A QUOTE: "Where 0 and 13 don't refuse, it depends on T, the route and those links' K, Z and free frames alone", and "a quote may depend on Y" (W-206), which are its hops
 abbrev pub QuoteDepends : Type 0
 QuoteDepends = (v w : View) (route : List ℕ) → (reply v (Quote route) ≡ refusal 0 0 → ⊥) → (reply w (Quote route) ≡ refusal 0 0 → ⊥)
     → (reply v (Quote route) ≡ refusal 13 0 → ⊥) → (reply w (Quote route) ≡ refusal 13 0 → ⊥) → v .network .ticks ≡ w .network .ticks

@@ -65,9 +65,9 @@ linkAt net l = getD (net .links) l noLink
 unfoldable pub freeOf : Topology → List Session → ℕ → ℕ
 freeOf net ss l = wordOf (linkAt net l .frames) (λ i. not (bitOf (linkAt net l .closed) i) && not (heldIn ss (slot l i)))
 
--- link l as a hop: K, Z and its free frames; a field that is added later stands here
+-- link l as a hop: K, Z, Y (W-206) and its free frames; a field that is added later stands here
 abbrev pub hopOf : Topology → List Session → ℕ → Hop
-hopOf net ss l = record { frames = linkAt net l .frames; range = linkAt net l .range; free = freeOf net ss l }
+hopOf net ss l = record { frames = linkAt net l .frames; range = linkAt net l .range; least = linkAt net l .least; free = freeOf net ss l }
 
 -- A FRAME OF A HOP IS FREE exactly when it is one of its link's and "neither closed nor held by a live session"
 abbrev pub FreeIs : Type 0

@@ -19,7 +19,7 @@ abbrev pub passes : Ruling → Bool
 passes (given p) = true
 passes (refused n) = false
 
--- "its network fails 2, 3, 7, 8 or 9"
+-- "its network fails 2, 3, 7, 8 or 9", and "0 takes in every link check ... added later": 21 (W-206)
 unfoldable pub goodNetwork : Topology → Bool
 goodNetwork net = passes (networkCheck net)
 

@@ -7,9 +7,11 @@ use lib.ListN.{length, getD, drop, set, replicate, length-append}
 use Rattle.places.specs.Places.{firsts}
 use Rattle.places.proofs.Firsts.{length-firsts, getD-firsts, next-first, no-first, firsts-more}
 use Rattle.forwarding.specs.declared.Hop.{Hop}
+use Rattle.forwarding.specs.Forwarding.{leastHold}
 use Rattle.forwarding.specs.Hops.{noHop, Ready}
 use Rattle.forwarding.specs.Schedule.{IsSchedule}
 use Rattle.forwarding.specs.Cycles.{nextCycle, onwardCycles, scheduleCycles}
+use Rattle.forwarding.proofs.Holds.{least-in}
 use Rattle.forwarding.proofs.Schedules.{schedule-frame}
 use Rattle.forwarding.proofs.Cycles.{next-or-same}
 use Rattle.routes.specs.Inner.{FramesLaid}
@@ -39,8 +41,8 @@ module _ (n : ℕ) (hops : List Hop) (frames : List ℕ) (r : FramesLaid hops fr
 
   module _ (k : ℕ) (g : Hop) (cycles : List ℕ) (c j : ℕ) (p : CyclesSoFar n hops frames k g cycles c j) where
     module _ (h : j < n) (i : ℕ) (ei : i ≡ getD frames j 0) where
-      pub frame-in-hop : (i < getD hops j noHop .frames) × (getD hops j noHop .frames ≤ 64) × (c < 8)
-      frame-in-hop = (rw ei (r .inside j h), r .few-frames j h, omega (arith, p .small, r .few-hops))
+      pub frame-in-hop : (i < getD hops j noHop .frames) × (getD hops j noHop .frames ≤ 64) × (leastHold (getD hops j noHop) ≤ getD hops j noHop .frames) × (c < 8)
+      frame-in-hop = (rw ei (r .inside j h), r .few-frames j h, r .led j h, omega (arith, p .small, r .few-hops))
 
       pub one-cycle : (d : ℕ) → d ≡ nextCycle g (getD hops j noHop) k i c → CyclesSoFar n hops frames i (getD hops j noHop) (set cycles j d) d (j + 1)
       one-cycle d ed = record {
@@ -62,6 +64,7 @@ schedule-laid T n hops frames r s = record {
   some-hop = r .some-hop;
   few-hops = r .few-hops;
   few-frames = λ j h. r .each j h .few-frames;
+  led = λ j h. least-in T (getD hops j noHop) (r .each j h);
   inside = λ j h.
       rw (getD-firsts n j hops noHop h, getD-firsts n j frames 0 h) at (schedule-frame (firsts n hops noHop) (firsts n frames 0) s j (omega (arith, length-firsts n hops noHop)));
 }

@@ -5,6 +5,7 @@ use mathlib.Core.List.{List, [], _∷_, _++_, map, map-append}
 use Prim.Native.Nat.{ℕ, zero, suc, _+_, _<_, _≤_}
 use native.Mathlib.Nat.{not-suc-le-zero, le-of-suc-le-suc}
 use native.Mathlib.Numerals.{add-one}
+use native.Mathlib.Decide.{decLt}
 use native.Mathlib.Omega.{arith}
 use lib.ListN.{length, getD, take, set, replicate, length-map}
 use lib.Seq.{take-suc, take-all, length-take-le}
@@ -18,21 +19,23 @@ use Rattle.network.specs.declared.Link.{Link}
 use Rattle.network.specs.declared.Network.{Network}
 use Rattle.network.specs.Network.{Topology, noLink, topologyOf}
 use Rattle.network.specs.Checks.{networkCheck}
-use Rattle.network.proofs.Tests.{cycle-passed, frames-passed, range-passed}
+use Rattle.network.proofs.Tests.{cycle-passed, frames-passed, range-passed, least-passed}
 use Rattle.network.proofs.Checks.{GoodLink, network-good}
 use Rattle.forwarding.specs.declared.Hop.{Hop}
+use Rattle.forwarding.specs.Forwarding.{leastHold}
 use Rattle.forwarding.specs.Hops.{noHop, HopReady, AllReady}
+use Rattle.forwarding.proofs.Transitions.{may-hold, hold-may, hold-only}
 use Rattle.forwarding.proofs.ByHops.{all-ready}
 use Rattle.ledger.specs.Lists.{anyOf}
 use Rattle.ledger.specs.Sessions.{Session, slot, heldIn, linkAt, freeOf, hopOf, hopsOf}
 use Rattle.ledger.specs.Inner.{HeldWords}
 use Rattle.ledger.specs.Routes.{unknown, unknownLink, routeCheck}
-use Rattle.routes.specs.Hops.{hopFrom, hopsFrom, RouteReady}
+use Rattle.routes.specs.Hops.{hopFrom, hopsFrom, RouteReady, LinkHoldOnly}
 use Rattle.routes.proofs.Tests.{known-passed}
 use Rattle.routes.proofs.Links.{link-passed, many-links, stored-link, in-places, frames-bounded}
 use Rattle.routes.proofs.Routes.{route-long, route-known}
 
-pub hop-told : (k : Link) (held w : ℕ) → w ≡ freeWord (k .frames) (k .closed) held → _≡_ {A = Hop} (record { frames = k .frames; range = k .range; free = w }) (hopFrom k held)
+pub hop-told : (k : Link) (held w : ℕ) → w ≡ freeWord (k .frames) (k .closed) held → _≡_ {A = Hop} (record { frames = k .frames; range = k .range; least = k .least; free = w }) (hopFrom k held)
 hop-told k held w e = rw e
 
 -- ---- the hops before place j are laid
@@ -88,8 +91,27 @@ hops-held network held ss route w e u =
 -- ---- a route that passed may be searched
 hop-ready : (net : Topology) (ss : List Session) (l : ℕ) → GoodLink (net .ticks) (linkAt net l) → HopReady (net .ticks) (hopOf net ss l)
 hop-ready net ss l g =
-    let f = frames-passed (net .ticks) (linkAt net l .frames) (g .frames) in
-    record { some-frame = f .0; few-frames = f .1; divides = f .2; in-cycle = range-passed (linkAt net l .frames) (linkAt net l .range) (g .range) .1 }
+    let k : Link = linkAt net l in
+    let f = frames-passed (net .ticks) (k .frames) (g .frames) in
+    let z = range-passed (k .frames) (k .range) (g .range) in
+    let y = least-passed (k .frames) (k .range) (k .least) (g .least) in
+    record { some-frame = f .0; few-frames = f .1; divides = f .2; in-cycle = z .1; ordered = y .0; narrow = below (k .least) (k .range) (k .frames) (z .1) (y .1) }
+  where
+    below : (Y Z K : ℕ) → Z ≤ K → (Y ≡ 0 → Z ≡ K → ⊥) → Z < Y + K
+    below Y Z K l n =
+        elim (decLt Z (Y + K)) [
+          | yes b ↦ b
+          | no b ↦ absurd (n (omega arith) (omega arith))
+        ]
+
+-- THE HOLD IS THE ONE NUMBER FROM Y UP TO Z THAT FITS, on every link that passed
+pub link-hold-only : LinkHoldOnly
+unfolding leastHold
+link-hold-only net ss l e h r i m D =
+    let k = hold-only (net .ticks) (hopOf net ss l) r i (hop-ready net ss l (link-passed net l e h)) m D in (
+      λ d. (k .0 d .0, may-hold (hopOf net ss l) D (k .0 d .1)),
+      λ (q, z). k .1 (q, hold-may (hopOf net ss l) D z),
+    )
 
 pub map-place : (f : ℕ → Hop) (route : List ℕ) (j : ℕ) → j < length route → getD (map f route) j noHop ≡ f (getD route j 0)
 map-place f [] j h = absurd (not-suc-le-zero h)

@@ -2,8 +2,9 @@
 use mathlib.Core.Path.{_≡_}
 use mathlib.Core.Bool.{cond}
 use mathlib.Core.List.{List, map}
+use mathlib.Core.Logic.{_↔_}
 use mathlib.Core.Option.{Option, some, none}
-use Prim.Native.Nat.{ℕ}
+use Prim.Native.Nat.{ℕ, _<_, _≤_}
 use lib.ListN.{length, getD}
 use Rattle.places.specs.Places.{firsts}
 use Rattle.refusals.specs.Refusals.{given, pass}
@@ -12,16 +13,17 @@ use Rattle.network.specs.Network.{Topology, noLink}
 use Rattle.network.specs.Checks.{networkCheck}
 use Rattle.network.specs.declared.Link.{Link}
 use Rattle.forwarding.specs.declared.Hop.{Hop}
+use Rattle.forwarding.specs.Forwarding.{IsHold, hold}
 use Rattle.forwarding.specs.Hops.{noHop, Ready}
 use Rattle.forwarding.specs.Schedule.{isSchedule, scheduleDelay}
-use Rattle.ledger.specs.Sessions.{Session, hopsOf}
+use Rattle.ledger.specs.Sessions.{Session, linkAt, hopOf, hopsOf}
 use Rattle.ledger.specs.Routes.{routeCheck}
 use Rattle.routes.specs.declared.Walked.{Walked}
 use Rattle.routes.specs.declared.Walked.the-variants.{Delayed, Unfit}
 
 -- a link as a hop, by the word of its held frames
 abbrev pub hopFrom : Link → ℕ → Hop
-hopFrom k held = record { frames = k .frames; range = k .range; free = freeWord (k .frames) (k .closed) held }
+hopFrom k held = record { frames = k .frames; range = k .range; least = k .least; free = freeWord (k .frames) (k .closed) held }
 
 -- the hops of a route, by the links of a network and the words of their held frames
 abbrev pub hopsFrom : List Link → List ℕ → List ℕ → List Hop
@@ -31,6 +33,11 @@ hopsFrom links held route = map (λ l. hopFrom (getD links l noLink) (getD held 
 abbrev pub RouteReady : Type 0
 RouteReady = (net : Topology) (ss : List Session) (route : List ℕ) → networkCheck net ≡ given pass → routeCheck net route ≡ given pass
     → Ready (net .ticks) (firsts 8 (hopsOf net ss route) noHop) (length route)
+
+-- "The hold is the one number from Y up to Z that fits, if there is one" (W-206): SO ON EVERY LINK OF A NETWORK THAT PASSED ITS CHECKS, whatever is free
+abbrev pub LinkHoldOnly : Type 0
+LinkHoldOnly = (net : Topology) (ss : List Session) (l : ℕ) → networkCheck net ≡ given pass → l < length (net .links) → (r i : ℕ) → i < linkAt net l .frames
+    → (D : ℕ) → IsHold (hopOf net ss l) r i D ↔ ((D ≡ hold (linkAt net l .least) (linkAt net l .frames) r i) × (D ≤ linkAt net l .range))
 
 -- the delay of frames over hops, if they are a schedule
 abbrev pub delayIf : ℕ → List Hop → List ℕ → Option ℕ

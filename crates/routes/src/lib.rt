@@ -134,6 +134,7 @@ fn hop_of(link: Link, held: u64) -> Hop
     Hop {
         frames: link.frames,
         range: link.range,
+        least: link.least,
         free: words::free_word(link.frames, link.closed, held),
     }
 }
@@ -166,7 +167,7 @@ fn frame_free(hop: Hop, i: u16) -> bool
 }
 
 // The transition from frame k of the hop before to frame i of a hop: its delay, if it is allowed.
-// Checks 3, 7 and 8 guarantee what is required; the walk has found frame k free.
+// Checks 3, 7, 8 and 21 guarantee what is required; the walk has found frame k free.
 fn step(t: u16, before: Hop, k: u16, hop: Hop, i: u16) -> Walked
     requires { ⌜ (t ≤ 960) × (k < before .frames) × (before .frames ≤ 64) × HopReady t hop ⌝ }
     ensures { λ r. ⌜ walkedDelay r ≡ stepIf t before hop k i ⌝ }
@@ -182,7 +183,7 @@ fn step(t: u16, before: Hop, k: u16, hop: Hop, i: u16) -> Walked
     Walked::Delayed(forwarding::delay_of(hold, time))
 }
 
-// Whether the frames are a schedule over the first n hops, and its delay. Checks 3, 7, 8 and 12 guarantee what is required.
+// Whether the frames are a schedule over the first n hops, and its delay. Checks 3, 7, 8, 21 and 12 guarantee what is required.
 pub fn walk(t: u16, hops: [Hop; 8], frames: [u8; 8], n: usize) -> Walked
     requires { ⌜ Ready t hops n ⌝ }
     ensures { λ r. ⌜ walkedDelay r ≡ delayIf t (firsts n hops noHop) (firsts n frames 0) ⌝ }
@@ -211,7 +212,7 @@ pub fn walk(t: u16, hops: [Hop; 8], frames: [u8; 8], n: usize) -> Walked
     Walked::Delayed(total)
 }
 
-// The cycles of frames, one for each of the first n hops; unused places hold 0. Checks 7 and 12 bound the hops, and a schedule has frames of theirs.
+// The cycles of frames, one for each of the first n hops; unused places hold 0. Checks 7, 8, 21 and 12 bound the hops, and a schedule has frames of theirs.
 pub fn cycles(hops: [Hop; 8], frames: [u8; 8], n: usize) -> [u8; 8]
     requires { ⌜ FramesLaid hops frames n ⌝ }
     ensures { λ r. ⌜ r ≡ firsts 8 (scheduleCycles (firsts n hops noHop) (firsts n frames 0)) 0 ⌝ }

@@ -109,7 +109,7 @@ pub record Agree (st other : State) : Type 0 where
 abbrev pub ArrangementFree : Type 0
 ArrangementFree = (st other : State) → viewOf st ≡ viewOf other → Agree st other
 
--- A QUOTE, at the call: "Where 0 and 13 don't refuse, it depends on T, the route and those links' K, Z and free frames alone"
+-- A QUOTE, at the call: "Where 0 and 13 don't refuse, it depends on T, the route and those links' K, Z and free frames alone", and on Y (W-206)
 abbrev pub StoredQuoteDepends : Type 0
 StoredQuoteDepends = (st other : State) (route : List ℕ) (r q : Served) → Serves st (Quote route) r → Serves other (Quote route) q
     → (quotedIn (length route) (r .answer) ≡ refusal 0 0 → ⊥) → (quotedIn (length route) (q .answer) ≡ refusal 0 0 → ⊥)

@@ -42,7 +42,7 @@ next-cycle-requires c κs =
     let s = l .before .before .before .before in
     let inv = l .before .loop .inv in
     let next = frame-in-hop _ _ _ (s .pre) _ _ _ _ _ inv (l .loop-test .taken) _ (c .short2 .ensures) in
-    (inv .inside, inv .few, next .0, next .1, next .2)
+    (inv .inside, inv .few, next .0, next .1, next .2, next .3)
 
 array-write-cycles : tie.Need-array-write-cycles Inv-loop μ-loop
 array-write-cycles c = omega (arith, c .before .before .before .before .before .before .before .pre .few-hops)

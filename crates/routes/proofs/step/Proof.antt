@@ -1,5 +1,6 @@
 -- `routes::step` meets its contract. Assumes nothing.
 use borrow.Author.Tests.{not-true, not-false}
+use Rattle.forwarding.proofs.Holds.{least-in}
 use Rattle.routes.proofs.Steps.{frame-in, hold-lasts, not-free, over-range, step-delay}
 use Rattle.routes.proofs.step.Statement.{statement}
 use Rattle.routes.proofs.step.Tie as tie
@@ -13,7 +14,7 @@ returns c = not-free _ _ (c .before .before .args .hop) _ _ _ (c .before .frame-
 hold-into-requires : tie.Need-hold-into-requires
 hold-into-requires c κs =
     let s = c .before .before in
-    (s .pre .1, s .pre .2, frame-in (s .args .hop) _ _ (c .before .frame-free .ensures) (not-false _ (c .if1 .left)), s .pre .3 .few-frames)
+    (s .pre .1, s .pre .2, frame-in (s .args .hop) _ _ (c .before .frame-free .ensures) (not-false _ (c .if1 .left)), s .pre .3 .few-frames, least-in (s .args .t) (s .args .hop) (s .pre .3))
 
 returns-2 : tie.Need-returns-2
 returns-2 c =
