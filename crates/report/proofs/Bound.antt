@@ -40,14 +40,14 @@ use Rattle.text.specs.Lines.{letterOf, line, liveLine}
 use Rattle.text.proofs.Long.{scheduled-long, freed-long, refused-long, blocked-long, live-long, network-long}
 use Rattle.report.specs.Transcript.{linesOf, textOn, transcript}
 use Rattle.report.specs.Reports.{textBound, TextWithin}
-use Rattle.report.proofs.Numbers.{file-number, call-number}
+use Rattle.report.proofs.Numbers.{plain-short, file-number, call-number}
 use Rattle.report.proofs.Running.{lines-more, lines-none}
 
 -- ---- a schedule's count
 bound-most : (T : ℕ) (g : Hop) (hs : List Hop) → g .frames ≤ 64 → AllReady T hs → boundFrom g hs ≤ 4096 * length hs
 bound-most T g [] few p = omega arith
 bound-most T g (h ∷ hs) few p =
-    let most : choices h ≤ 64 = omega (arith, choices-in h (p .0 .in-cycle), p .0 .few-frames) in
+    let most : choices h ≤ 64 = omega (arith, choices-in T h (p .0), p .0 .few-frames) in
     omega (arith, mul-le-mul {n₁ = g .frames} {m₁ = choices h} {n₂ = 64} {m₂ = 64} few most, bound-most T h hs (p .0 .few-frames) (p .1))
 
 count-most : (T : ℕ) (hops : List Hop) (n : ℕ) → length hops ≤ 8 → AllReady T hops → CountOf hops n → n < 100000
@@ -89,7 +89,7 @@ module _ (net : Topology) (ss : List Session) (ok : networkCheck net ≡ given p
 
   call-line : (place letter : ℕ) → place < 100000 → (call : Call) (o : Ruling) → callCheck net ss call ≡ o → length (line place letter (unless o (granted net ss call))) ≤ 22 + 7 * length (linksOf call)
   call-line place letter h call (refused k) e =
-      omega (arith, refused-long place letter k 0 h (omega (arith, call-number net ss call k e)) (not-eighteen net ss call k e))
+      omega (arith, refused-long place letter k 0 h (plain-short k (call-number net ss call k e)) (not-eighteen net ss call k e))
   call-line place letter h (SetUp n route) (given pass) e = route-line place letter h route (admitted net ss n route e .passed) _ (call-due net ss (SetUp n route))
   call-line place letter h (Quote route) (given pass) e = route-line place letter h route (unfold callCheck in e) _ (call-due net ss (Quote route))
   call-line place letter h (Release n) (given pass) e =
@@ -145,4 +145,4 @@ text-bound file calls bytes = go (readNetwork file) refl
     go (given net) e =
         let n : length (take 65536 calls) ≡ min 65536 (length calls) = length-take 65536 calls in
         omega (arith, lines-most (take 65536 calls) 1 (fresh net) (fresh-intact net (read-passes file net bytes e)) (omega (arith, n)), n)
-    go (refused n) e = omega (arith, network-long n (omega (arith, file-number file n e)))
+    go (refused n) e = omega (arith, network-long n (plain-short n (file-number file n e)))

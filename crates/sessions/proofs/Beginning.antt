@@ -6,7 +6,7 @@ use Rattle.refusals.specs.declared.Refusal.{Refusal}
 use Rattle.refusals.specs.declared.Verdict.{Verdict}
 use Rattle.refusals.specs.declared.Verdict.the-variants.{Passed, Refused}
 use Rattle.network.specs.Network.{topologyOf}
-use Rattle.network.specs.Checks.{badCount, badCycle, badFrames, badRange, badClosed, linkCheck, linksCheck, networkCheck}
+use Rattle.network.specs.Checks.{badCount, badCycle, badFrames, badRange, badLeast, badClosed, linkCheck, linksCheck, networkCheck}
 use Rattle.network.specs.declared.Network.{Network}
 use Rattle.state.specs.declared.State.{State}
 use Rattle.state.specs.State.{freshState}
@@ -14,7 +14,7 @@ use Rattle.sessions.specs.Calls.{shutNetwork, begunOn, Begins}
 
 -- the network on which nothing can be held passes its checks
 shut-passes : networkCheck (topologyOf shutNetwork) ≡ given pass
-unfolding topologyOf firsts networkCheck badCount badCycle linksCheck linkCheck badFrames badRange badClosed
+unfolding topologyOf firsts networkCheck badCount badCycle linksCheck linkCheck badFrames badRange badLeast badClosed
 shut-passes = refl
 
 pub shut-passed : (net : Network) → net ≡ shutNetwork → networkCheck (topologyOf net) ≡ given pass

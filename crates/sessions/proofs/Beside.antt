@@ -13,8 +13,8 @@ use Rattle.network.specs.Checks.{networkCheck}
 use Rattle.forwarding.specs.declared.Hop.{Hop}
 use Rattle.forwarding.specs.Hops.{AllReady}
 use Rattle.forwarding.specs.Schedule.{IsSchedule}
-use Rattle.forwarding.specs.Cycles.{scheduleCycles, LaterHop, Lies, Follows, NotBelow}
-use Rattle.forwarding.proofs.Cycles.{cycles-lie, cycles-follow, cycles-never-fall, cycles-bounded}
+use Rattle.forwarding.specs.Cycles.{scheduleCycles, LaterHop, Keeps, Lies, Follows, NotBelow}
+use Rattle.forwarding.proofs.Cycles.{schedules-keep, cycles-lie, cycles-follow, cycles-never-fall, cycles-bounded}
 use Rattle.ledger.specs.Held.{Holding, heldPlaces}
 use Rattle.ledger.specs.Sessions.{Session, hopOf, hopsOf}
 use Rattle.ledger.specs.Routes.{routeCheck}
@@ -58,6 +58,7 @@ module _ (net : Topology) (route : List ℕ) (held : Holding) (passed : networkC
   pub beside : CyclesBeside net route (heldPlaces held)
   beside = record {
     cycles = ap (λ (cs : List ℕ). firsts 8 cs 0) (e ∙ ap (scheduleCycles hops) (sym (so-many-back 8 (length route) (held .frames) 0 (route-length net [] route (held .frames) s) few)));
+    keep = laid Keeps (schedules-keep (net .ticks) hops (held .frames) ready s);
     lie = laid Lies (cycles-lie (net .ticks) hops (held .frames) ready s);
     follow = laid (Follows (net .ticks)) (cycles-follow (net .ticks) hops (held .frames) ready s);
     neverFall = laid NotBelow (cycles-never-fall hops (held .frames) s);

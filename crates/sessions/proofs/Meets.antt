@@ -14,12 +14,12 @@ use Rattle.trellis.specs.Answer.{found, blocked}
 use Rattle.trellis.specs.Answer as trellis
 use Rattle.refusals.specs.Refusals.{refusalNumber, refusalCount, Outcome, Ruling, given, refused, pass, Pass, refuseIf, refusedOr, ruling}
 use Rattle.refusals.specs.declared.Refusal.{Refusal}
-use Rattle.refusals.specs.declared.Refusal.the-variants.{BrokenState, LinkCount, CycleLength, FrameCount, RangeOutside, ClosedOutside, RouteLength, UnknownLink, LinkTwice, RatesApart, NumberLive, PlacesFull, NoSchedule, NumberNotLive}
+use Rattle.refusals.specs.declared.Refusal.the-variants.{BrokenState, LinkCount, CycleLength, FrameCount, RangeOutside, LeastOutside, ClosedOutside, RouteLength, UnknownLink, LinkTwice, RatesApart, NumberLive, PlacesFull, NoSchedule, NumberNotLive}
 use Rattle.refusals.specs.declared.Verdict.{Verdict}
 use Rattle.refusals.specs.declared.Verdict.the-variants as verdict
 use Rattle.refusals.proofs.Refusals.{uncounted}
 use Rattle.network.specs.Network.{Topology, topologyOf}
-use Rattle.network.specs.Checks.{badCount, badCycle, badFrames, badRange, badClosed, linkCheck, linksCheck, networkCheck}
+use Rattle.network.specs.Checks.{badCount, badCycle, badFrames, badRange, badLeast, badClosed, linkCheck, linksCheck, networkCheck}
 use Rattle.network.specs.declared.Link.{Link}
 use Rattle.forwarding.specs.declared.Hop.{Hop}
 use Rattle.forwarding.specs.Route.{routeAnswer}
@@ -233,10 +233,12 @@ link-named : (T : ℕ) (k : Link) → Named (linkCheck T k)
 unfolding linkCheck
 link-named T k =
     let c : Ruling = refuseIf (badClosed (k .frames) (k .closed)) 9 in
-    let r : Ruling = refusedOr (refuseIf (badRange (k .frames) (k .range)) 8) c in
+    let y : Ruling = refusedOr (refuseIf (badLeast (k .frames) (k .range) (k .least)) 21) c in
+    let r : Ruling = refusedOr (refuseIf (badRange (k .frames) (k .range)) 8) y in
     named-or (refuseIf (badFrames T (k .frames)) 7) r (named-if (badFrames T (k .frames)) FrameCount refl)
-    (named-or (refuseIf (badRange (k .frames) (k .range)) 8) c (named-if (badRange (k .frames) (k .range)) RangeOutside refl)
-    (named-if (badClosed (k .frames) (k .closed)) ClosedOutside refl))
+    (named-or (refuseIf (badRange (k .frames) (k .range)) 8) y (named-if (badRange (k .frames) (k .range)) RangeOutside refl)
+    (named-or (refuseIf (badLeast (k .frames) (k .range) (k .least)) 21) c (named-if (badLeast (k .frames) (k .range) (k .least)) LeastOutside refl)
+    (named-if (badClosed (k .frames) (k .closed)) ClosedOutside refl)))
 
 links-named : (T : ℕ) (ks : List Link) → Named (linksCheck T ks)
 unfolding linksCheck

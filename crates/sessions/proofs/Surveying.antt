@@ -16,11 +16,11 @@ use Rattle.refusals.proofs.Refusals.{refusal-only, uncounted}
 use Rattle.words.proofs.Bits.{bit-zero}
 use Rattle.network.specs.Network.{noLink, topologyOf}
 use Rattle.places.specs.Places.{firsts}
-use Rattle.network.specs.Checks.{badCount, badCycle, badFrames, badRange, badClosed, linkCheck, linksCheck, networkCheck}
+use Rattle.network.specs.Checks.{badCount, badCycle, badFrames, badRange, badLeast, badClosed, linkCheck, linksCheck, networkCheck}
 use Rattle.network.specs.declared.Link.{Link}
 use Rattle.network.specs.declared.Network.{Network}
+use Rattle.forwarding.specs.Forwarding.{leastHold, choices}
 use Rattle.forwarding.specs.Ways.{routeWays, openWays}
-use Rattle.forwarding.proofs.Holds.{choices-are-z}
 use Rattle.forwarding.proofs.Ways.{ways-only, ways-open, ways-most}
 use Rattle.ledger.specs.Sessions.{View, hopOf, hopsOf}
 use Rattle.ledger.specs.Routes.{badLength, unknown, unknownLink, linkTwice, apart, ratesApart, routeCheck}
@@ -139,7 +139,7 @@ told-bounded v route q t = go (waysOf v route) refl t
 
 -- ---- 64 TO THE POWER 8: eight links of 64 frames, all open, each with a range of 64
 abbrev open-link : Link
-open-link = record { frames = 64; range = 64; closed = 0 }
+open-link = record { frames = 64; range = 64; least = 1; closed = 0 }
 
 abbrev widest : Network
 widest = record { ticks = 960; count = 8; links = replicate 32 open-link }
@@ -148,7 +148,7 @@ abbrev longest : List ℕ
 longest = 0 ∷ 1 ∷ 2 ∷ 3 ∷ 4 ∷ 5 ∷ 6 ∷ 7 ∷ []
 
 widest-passed : networkCheck (topologyOf widest) ≡ given pass
-unfolding topologyOf firsts networkCheck badCount badCycle linksCheck linkCheck badFrames badRange badClosed
+unfolding topologyOf firsts networkCheck badCount badCycle linksCheck linkCheck badFrames badRange badLeast badClosed
 widest-passed = refl
 
 longest-passed : routeCheck (topologyOf widest) longest ≡ given pass
@@ -156,8 +156,8 @@ unfolding topologyOf firsts routeCheck badLength unknownLink unknown linkTwice r
 longest-passed = refl
 
 all-open : openWays (hopsOf (topologyOf widest) [] longest) ≡ 64 ^ 8
-unfolding topologyOf firsts
-all-open = simp choices-are-z
+unfolding topologyOf firsts choices leastHold
+all-open = refl
 
 -- no frame is closed
 open-links : (n m l : ℕ) → getD (firsts n (replicate m open-link) noLink) l noLink .closed ≡ 0

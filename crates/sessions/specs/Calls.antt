@@ -24,7 +24,7 @@ use Rattle.sessions.specs.declared.Tallied.{Tallied}
 -- ---- `begin`
 -- a network that passes its checks and on which nothing can be held: one link of one frame, which is closed
 abbrev pub shutNetwork : Network
-shutNetwork = record { ticks = 1; count = 1; links = replicate 32 record { frames = 1; range = 1; closed = 1 } }
+shutNetwork = record { ticks = 1; count = 1; links = replicate 32 record { frames = 1; range = 1; least = 1; closed = 1 } }
 
 -- "Sessions are begun only on a network that passed": on the network itself, or where it is refused on that one
 abbrev pub begunOn : Ruling → Network → Network

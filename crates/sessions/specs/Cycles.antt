@@ -7,7 +7,7 @@ use Rattle.places.specs.Places.{firsts}
 use Rattle.refusals.specs.declared.Verdict.the-variants.{Passed}
 use Rattle.network.specs.Network.{Topology, topologyOf}
 use Rattle.forwarding.specs.declared.Held.{Held}
-use Rattle.forwarding.specs.Cycles.{scheduleCycles, LaterHop, Lies, Follows, NotBelow}
+use Rattle.forwarding.specs.Cycles.{scheduleCycles, LaterHop, Keeps, Lies, Follows, NotBelow}
 use Rattle.ledger.specs.Sessions.{hopsOf}
 use Rattle.ledger.specs.Calls.{Call, linksOf}
 use Rattle.state.specs.declared.State.{State}
@@ -16,10 +16,11 @@ use Rattle.state.specs.State.{Serves}
 use Rattle.sessions.specs.declared.Looked.{Looked}
 use Rattle.sessions.specs.Calls.{Looks}
 
--- beside the frames of a route's links stand their cycles, "unused hop and link places hold 0"; each frame lies in its cycle, none begins before the one on the
--- hop before has ended, cycles never fall, and hop j's is at most j
+-- beside the frames of a route's links stand their cycles, "unused hop and link places hold 0"; each frame is led to by a number from Y up to Z that fits, lies in its cycle,
+-- and ends Y of its frames, or more, after the one on the hop before has ended; cycles never fall, and hop j's is at most j
 pub record CyclesBeside (net : Topology) (route : List ℕ) (h : Held) : Type 0 where
   pub cycles : h .cycles ≡ firsts 8 (scheduleCycles (hopsOf net [] route) (firsts (length route) (h .frames) 0)) 0
+  pub keep : LaterHop Keeps (hopsOf net [] route) (h .frames) (h .cycles)
   pub lie : LaterHop Lies (hopsOf net [] route) (h .frames) (h .cycles)
   pub follow : LaterHop (Follows (net .ticks)) (hopsOf net [] route) (h .frames) (h .cycles)
   pub neverFall : LaterHop NotBelow (hopsOf net [] route) (h .frames) (h .cycles)

@@ -56,7 +56,7 @@ abbrev pub NumberRefused : Type 0
 NumberRefused = (st : State) (route : List ℕ) (r : Surveyed) (q : Served) → Surveys st route r → Serves st (Quote route) q → (x : Refusal)
     → (r .numbered ≡ notNumbered x) ↔ ((q .answer ≡ notQuoted x) × (refusalNumber x ≡ 18 → ⊥))
 
--- "Where no frame on it is closed or held this equals K of hop 0 times the product of the later Z"
+-- "Where no frame on it is closed or held this equals K of hop 0 times the product of the later" Z − Y + 1 (W-206)
 abbrev pub NumberOpen : Type 0
 NumberOpen = (st : State) (route : List ℕ) (r : Surveyed) (n : ℕ) → Surveys st route r → r .numbered ≡ numberedOf n → NoneTaken (viewOf st) route
     → n ≡ openWays (hopsOn st route)

@@ -72,6 +72,7 @@ fn shut_network() -> Network
     let link = Link {
         frames: 1,
         range: 1,
+        least: 1,
         closed: 1,
     };
     Network {
