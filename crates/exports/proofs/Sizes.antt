@@ -1,5 +1,5 @@
 -- How long what is written is at most, how large a count, and which buffers always serve. Assumes nothing.
-use mathlib.Core.Path.{_≡_, refl, ap}
+use mathlib.Core.Path.{_≡_, refl, ap, _∙_}
 use mathlib.Core.Bool.{Bool, true, false}
 use mathlib.Core.List.{List, [], _∷_, _++_}
 use Prim.Native.Nat.{ℕ, _^_, _<_, _≤_}
@@ -35,7 +35,7 @@ use Rattle.sessions.proofs.Surveying.{ways-bounded}
 use Rattle.report.specs.Transcript.{transcript}
 use Rattle.report.specs.Reports.{textBound, reported}
 use Rattle.report.proofs.Bound.{text-bound}
-use Rattle.report.proofs.Numbers.{file-number, network-number, lookup-number, ways-number}
+use Rattle.report.proofs.Numbers.{plain-other, file-number, network-number, lookup-number, ways-number}
 use Rattle.report.proofs.Whole.{bound-most}
 use Rattle.exports.specs.Exported.{stateAfter, sessionNumbers, lookupAfter, freeAfter, waysAfter, writtenAgain, linksFrom, writtenOf, AnswersSized, ValuesSized}
 use Rattle.exports.proofs.Answers.{after-intact}
@@ -56,15 +56,15 @@ room-short least room x e = go (ltb room least) refl e
 
 -- ---- an image
 module _ (t : Topology) (room : ℕ) where
-  image-sized : (x : List ℕ) → writeNetwork t room ≡ given x → length x ≤ 355
+  image-sized : (x : List ℕ) → writeNetwork t room ≡ given x → length x ≤ 387
   unfolding writeNetwork
   image-sized x e = go (networkCheck t) refl e
     where
-      go : (r : Ruling) → networkCheck t ≡ r → refusedOr r (inRoom (length (imageOf t)) room (imageOf t)) ≡ given x → length x ≤ 355
+      go : (r : Ruling) → networkCheck t ≡ r → refusedOr r (inRoom (length (imageOf t)) room (imageOf t)) ≡ given x → length x ≤ 387
       go (given pass) q f = omega (arith, image-bound t q, ap length (room-gives (ltb room (length (imageOf t))) (imageOf t) x f))
       go (refused n) q f = let z : _≡_ {A = ℕ} 0 1 = cc in omega arith
 
-  image-served : 355 ≤ room → writeNetwork t room ≡ refused 20 → ⊥
+  image-served : 387 ≤ room → writeNetwork t room ≡ refused 20 → ⊥
   unfolding writeNetwork
   image-served h e = go (networkCheck t) refl e
     where
@@ -72,22 +72,22 @@ module _ (t : Topology) (room : ℕ) where
       go (given pass) q f = omega (arith, image-bound t q, room-short (length (imageOf t)) room (imageOf t) f, h)
       go (refused n) q f =
           let is : n ≡ 20 = cc in
-          omega (arith, is, network-number t n q)
+          plain-other n (network-number t n q) is
 
 pub values-sized : ValuesSized
 unfolding writtenOf
-values-sized T ks zs cs room = (image-sized (record { ticks = T; links = linksFrom ks zs cs }) room, image-served (record { ticks = T; links = linksFrom ks zs cs }) room)
+values-sized T ks zs cs ys room = (image-sized (record { ticks = T; links = linksFrom ks zs cs ys }) room, image-served (record { ticks = T; links = linksFrom ks zs cs ys }) room)
 
 module _ (file : List ℕ) (room : ℕ) where
-  again-sized : (x : List ℕ) → writtenAgain file room ≡ given x → length x ≤ 355
+  again-sized : (x : List ℕ) → writtenAgain file room ≡ given x → length x ≤ 387
   unfolding writtenAgain
   again-sized x e = go (readNetwork file) e
     where
-      go : (o : Outcome Topology) → onGiven o (λ t. writeNetwork t room) ≡ given x → length x ≤ 355
+      go : (o : Outcome Topology) → onGiven o (λ t. writeNetwork t room) ≡ given x → length x ≤ 387
       go (given t) f = image-sized t room x f
       go (refused n) f = let z : _≡_ {A = ℕ} 0 1 = cc in omega arith
 
-  again-served : 355 ≤ room → writtenAgain file room ≡ refused 20 → ⊥
+  again-served : 387 ≤ room → writtenAgain file room ≡ refused 20 → ⊥
   unfolding writtenAgain
   again-served h e = go (readNetwork file) refl e
     where
@@ -95,7 +95,7 @@ module _ (file : List ℕ) (room : ℕ) where
       go (given t) q f = image-served t room h f
       go (refused n) q f =
           let is : n ≡ 20 = cc in
-          omega (arith, is, file-number file n q)
+          plain-other n (file-number file n q) is
 
 -- ---- a session
 numbers-few : (v : View) (number : ℕ) (s : Session) → lookup v number ≡ given s → length (sessionNumbers s) ≤ 26
@@ -127,15 +127,15 @@ free-few v link n i e = go (brokenCheck v) (unknown (length (v .network .links))
 -- ---- on the state after call records
 module _ (file calls : List ℕ) (bytes : IsBytes file) where
   -- it is given, or it is refused as the file is
-  after-number : (n : ℕ) → stateAfter file calls ≡ refused n → n ≤ 10
+  after-number : (n : ℕ) → stateAfter file calls ≡ refused n → n ≡ 20 → ⊥
   unfolding stateAfter
   after-number n e = go (readNetwork file) refl e
     where
-      go : (o : Outcome Topology) → readNetwork file ≡ o → onGiven o (λ net. given (viewAfterAll (fresh net) (callsIn (counted calls)))) ≡ refused n → n ≤ 10
-      go (given net) q f = let z : _≡_ {A = ℕ} 0 1 = cc in omega arith
+      go : (o : Outcome Topology) → readNetwork file ≡ o → onGiven o (λ net. given (viewAfterAll (fresh net) (callsIn (counted calls)))) ≡ refused n → n ≡ 20 → ⊥
+      go (given net) q f = let z : _≡_ {A = ℕ} 0 1 = cc in absurd (omega arith)
       go (refused k) q f =
           let is : k ≡ n = cc in
-          omega (arith, is, file-number file k q)
+          λ e. plain-other k (file-number file k q) (is ∙ e)
 
   -- what is put into a buffer of what a call on it gives, by its numbers
   module _ {A : Type 0} (call : View → Outcome A) (numbers : A → List ℕ) (room : ℕ) where
@@ -159,17 +159,17 @@ module _ (file calls : List ℕ) (bytes : IsBytes file) where
         go (given v) f = at v (call v) refl f
         go (refused n) f = let z : _≡_ {A = ℕ} 0 1 = cc in absurd (omega arith)
 
-    put-served : (most : ℕ) → ((v : View) (a : A) → call v ≡ given a → length (numbers a) ≤ most) → ((v : View) (n : ℕ) → call v ≡ refused n → n ≤ 19)
+    put-served : (most : ℕ) → ((v : View) (a : A) → call v ≡ given a → length (numbers a) ≤ most) → ((v : View) (n : ℕ) → call v ≡ refused n → n ≡ 20 → ⊥)
         → most ≤ room → onGiven (stateAfter file calls) put ≡ refused 20 → ⊥
-    put-served most few plain h e = go (stateAfter file calls) refl e
+    put-served most few other h e = go (stateAfter file calls) refl e
       where
         at : (v : View) (o : Outcome A) → call v ≡ o → onGiven o (λ a. inRoom (length (numbers a)) room (numbers a)) ≡ refused 20 → ⊥
         at v (given a) q f = omega (arith, few v a q, room-short (length (numbers a)) room (numbers a) f, h)
-        at v (refused n) q f = let is : n ≡ 20 = cc in omega (arith, is, plain v n q)
+        at v (refused n) q f = let is : n ≡ 20 = cc in other v n q is
 
         go : (o : Outcome View) → stateAfter file calls ≡ o → onGiven o put ≡ refused 20 → ⊥
         go (given v) q f = at v (call v) refl f
-        go (refused n) q f = let is : n ≡ 20 = cc in omega (arith, is, after-number n q)
+        go (refused n) q f = let is : n ≡ 20 = cc in after-number n q is
 
   session-sized : (number room : ℕ) (x : List ℕ) → lookupAfter file calls number room ≡ given x → length x ≤ 26
   unfolding lookupAfter
@@ -180,7 +180,7 @@ module _ (file calls : List ℕ) (bytes : IsBytes file) where
   session-served : (number room : ℕ) → 26 ≤ room → lookupAfter file calls number room ≡ refused 20 → ⊥
   unfolding lookupAfter
   session-served number room h e =
-      put-served (λ v. lookup v number) sessionNumbers room 26 (λ v. numbers-few v number) (λ v. lookup-number v number) h e
+      put-served (λ v. lookup v number) sessionNumbers room 26 (λ v. numbers-few v number) (λ v n q. plain-other n (lookup-number v number n q)) h e
 
   free-sized : (link n : ℕ) → freeAfter file calls link ≡ given n → n ≤ 64
   unfolding freeAfter
@@ -198,7 +198,7 @@ module _ (file calls : List ℕ) (bytes : IsBytes file) where
 
   ways-served : (route : List ℕ) (room : ℕ) → 1 ≤ room → waysAfter file calls route room ≡ refused 20 → ⊥
   unfolding waysAfter
-  ways-served route room h e = put-served (λ v. waysOf v route) (λ n. n ∷ []) room 1 (λ v n q. omega arith) (λ v. ways-number v route) h e
+  ways-served route room h e = put-served (λ v. waysOf v route) (λ n. n ∷ []) room 1 (λ v n q. omega arith) (λ v n q. plain-other n (ways-number v route n q)) h e
 
   text-sized : (room : ℕ) (x : List ℕ) → reported file calls room ≡ given x → length x ≤ 720918
   unfolding reported

@@ -72,16 +72,17 @@ waysAfter file calls route room = onGiven (stateAfter file calls) (λ v. onGiven
 unfoldable pub writtenAgain : List ℕ → ℕ → Outcome (List ℕ)
 writtenAgain file room = onGiven (readNetwork file) (λ t. writeNetwork t room)
 
--- the links with these K, Z and closed frames; there are as many as the shortest list has
-unfoldable pub linksFrom : List ℕ → List ℕ → List ℕ → List Link
-linksFrom [] zs cs = []
-linksFrom (k ∷ ks) [] cs = []
-linksFrom (k ∷ ks) (z ∷ zs) [] = []
-linksFrom (k ∷ ks) (z ∷ zs) (c ∷ cs) = record { frames = k; range = z; closed = c } ∷ linksFrom ks zs cs
+-- the links with these K, Z, closed frames and Y; there are as many as the shortest list has
+unfoldable pub linksFrom : List ℕ → List ℕ → List ℕ → List ℕ → List Link
+linksFrom [] zs cs ys = []
+linksFrom (k ∷ ks) [] cs ys = []
+linksFrom (k ∷ ks) (z ∷ zs) [] ys = []
+linksFrom (k ∷ ks) (z ∷ zs) (c ∷ cs) [] = []
+linksFrom (k ∷ ks) (z ∷ zs) (c ∷ cs) (y ∷ ys) = record { frames = k; range = z; least = y; closed = c } ∷ linksFrom ks zs cs ys
 
 -- A NETWORK GIVEN AS VALUES, WRITTEN into a buffer of so many bytes
-unfoldable pub writtenOf : ℕ → List ℕ → List ℕ → List ℕ → ℕ → Outcome (List ℕ)
-writtenOf T ks zs cs room = writeNetwork (record { ticks = T; links = linksFrom ks zs cs }) room
+unfoldable pub writtenOf : ℕ → List ℕ → List ℕ → List ℕ → List ℕ → ℕ → Outcome (List ℕ)
+writtenOf T ks zs cs ys room = writeNetwork (record { ticks = T; links = linksFrom ks zs cs ys }) room
 
 -- how long what is written on a file and call bytes is at most, and how large a count or a number; and how many places always serve
 pub record AnswerSizes (file calls : List ℕ) : Type 0 where
@@ -92,13 +93,13 @@ pub record AnswerSizes (file calls : List ℕ) : Type 0 where
   pub free : (link n : ℕ) → freeAfter file calls link ≡ given n → n ≤ 64
   pub ways : (route : List ℕ) (room : ℕ) (x : List ℕ) → waysAfter file calls route room ≡ given x → (length x ≡ 1) × (getD x 0 0 ≤ 64 ^ 8)
   pub waysServed : (route : List ℕ) (room : ℕ) → 1 ≤ room → waysAfter file calls route room ≡ refused 20 → ⊥
-  pub again : (room : ℕ) (x : List ℕ) → writtenAgain file room ≡ given x → length x ≤ 355
-  pub againServed : (room : ℕ) → 355 ≤ room → writtenAgain file room ≡ refused 20 → ⊥
+  pub again : (room : ℕ) (x : List ℕ) → writtenAgain file room ≡ given x → length x ≤ 387
+  pub againServed : (room : ℕ) → 387 ≤ room → writtenAgain file room ≡ refused 20 → ⊥
 
--- EVERY ANSWER BELOW 1,000,000 IS A LENGTH OR A COUNT, and every other a refusal; and 720,918 bytes, 26 numbers, one number and 355 bytes always serve
+-- EVERY ANSWER BELOW 1,000,000 IS A LENGTH OR A COUNT, and every other a refusal; and 720,918 bytes, 26 numbers, one number and 387 bytes always serve
 abbrev pub AnswersSized : Type 0
 AnswersSized = (file calls : List ℕ) → IsBytes file → AnswerSizes file calls
 
 -- the same of a network given as values
 abbrev pub ValuesSized : Type 0
-ValuesSized = (T : ℕ) (ks zs cs : List ℕ) (room : ℕ) → ((x : List ℕ) → writtenOf T ks zs cs room ≡ given x → length x ≤ 355) × (355 ≤ room → writtenOf T ks zs cs room ≡ refused 20 → ⊥)
+ValuesSized = (T : ℕ) (ks zs cs ys : List ℕ) (room : ℕ) → ((x : List ℕ) → writtenOf T ks zs cs ys room ≡ given x → length x ≤ 387) × (387 ≤ room → writtenOf T ks zs cs ys room ≡ refused 20 → ⊥)

@@ -207,9 +207,15 @@ fn shorter(a: usize, b: usize) -> usize
 }
 
 // The links of a network given as values.
-fn links_of(frames: &[u16], range: &[u16], closed: &[u64], count: usize) -> [Link; 32]
-    requires { ⌜ (count ≤ 32) × (count ≡ min (length (now frames)) (min (length (now range)) (length (now closed)))) ⌝ }
-    ensures { λ r. ⌜ r ≡ firsts 32 (linksFrom (now (frames .entry)) (now (range .entry)) (now (closed .entry))) noLink ⌝ }
+fn links_of(
+    frames: &[u16],
+    range: &[u16],
+    closed: &[u64],
+    least: &[u16],
+    count: usize,
+) -> [Link; 32]
+    requires { ⌜ (count ≤ 32) × (count ≡ min (length (now frames)) (min (length (now range)) (min (length (now closed)) (length (now least))))) ⌝ }
+    ensures { λ r. ⌜ r ≡ firsts 32 (linksFrom (now (frames .entry)) (now (range .entry)) (now (closed .entry)) (now (least .entry))) noLink ⌝ }
 {
     let mut links = [network::no_link(); 32];
     let mut i = 0;
@@ -217,6 +223,7 @@ fn links_of(frames: &[u16], range: &[u16], closed: &[u64], count: usize) -> [Lin
         links[i] = Link {
             frames: frames[i],
             range: range[i],
+            least: least[i],
             closed: closed[i],
         };
         i += 1;
@@ -224,22 +231,26 @@ fn links_of(frames: &[u16], range: &[u16], closed: &[u64], count: usize) -> [Lin
     links
 }
 
-// The file of a network given as values: T, and for each link its K, its Z and the word of its closed frames. There are as many links as the shortest slice has numbers.
+// The file of a network given as values: T, and for each link its K, its Z, the word of its closed frames and its Y. There are as many links as the shortest slice has numbers.
 #[no_mangle]
 pub extern "C" fn frames_write(
     ticks: u16,
     frames: &[u16],
     range: &[u16],
     closed: &[u64],
+    least: &[u16],
     out: &mut [u8],
 ) -> u64
-    ensures { λ r. ⌜ Exports (writtenOf ticks (now (frames .entry)) (now (range .entry)) (now (closed .entry)) (length (now (out .entry)))) (now (out .entry)) (now (out .exit)) r ⌝ }
+    ensures { λ r. ⌜ Exports (writtenOf ticks (now (frames .entry)) (now (range .entry)) (now (closed .entry)) (now (least .entry)) (length (now (out .entry)))) (now (out .entry)) (now (out .exit)) r ⌝ }
 {
-    let count = shorter(frames.len(), shorter(range.len(), closed.len()));
+    let count = shorter(
+        frames.len(),
+        shorter(range.len(), shorter(closed.len(), least.len())),
+    );
     if 32 < count {
         return refused(Refusal::LinkCount);
     }
-    let links = links_of(frames, range, closed, count);
+    let links = links_of(frames, range, closed, least, count);
     let network = Network {
         ticks,
         count,

@@ -7,8 +7,8 @@ ghost use mathlib.Core.Path.{_≡_};
 ghost use lib.ListN.{length, replicate};
 ghost use Rattle.io.specs.Counts.{Counts};
 
-// The bytes of net.bin, at the start of `file`, and how many: none where it can't be opened or read. The longest network file has 355 bytes, so that
-// 356 tell what the whole file says (`first-bytes`).
+// The bytes of net.bin, at the start of `file`, and how many: none where it can't be opened or read. The longest network file has 387 bytes, so that
+// 388 tell what the whole file says (`first-bytes`).
 fn read_file(file: &mut [u8]) -> usize
     ensures { λ r. ⌜ Counts r (now (file .exit)) ⌝ }
 {
@@ -46,7 +46,7 @@ fn run(file: &[u8], calls: &[u8]) {
 }
 
 fn main() {
-    let mut file = [0u8; 356];
+    let mut file = [0u8; 388];
     let n = read_file(&mut file);
     let mut calls = io::large_buffer();
     let m = io::read_full(STDIN_FILENO, &mut calls);

@@ -13,14 +13,17 @@ shorter-requires c κs = search needs
 shorter-requires-2 : tie.Need-shorter-requires-2
 shorter-requires-2 c κs = search needs
 
+shorter-requires-3 : tie.Need-shorter-requires-3
+shorter-requires-3 c κs = search needs
+
 refused-requires : tie.Need-refused-requires
 refused-requires c κs = search needs
 
 returns : tie.Need-returns
-returns c = refused-number _ _ 2 (too-many _ _ _ _ (c .before .before .shorter2 .ensures ∙ ap (min _) (c .before .before .before .shorter .ensures)) (c .before .if1 .taken) _ _) _ (c .refused .ensures)
+returns c = refused-number _ _ 2 (too-many _ _ _ _ _ (c .before .before .shorter3 .ensures ∙ ap (min _) (c .before .before .before .shorter2 .ensures ∙ ap (min _) (c .before .before .before .before .shorter .ensures))) (c .before .if1 .taken) _ _) _ (c .refused .ensures)
 
 links-of-requires : tie.Need-links-of-requires
-links-of-requires c κs = (c .if1 .left, c .before .shorter2 .ensures ∙ ap (min _) (c .before .before .shorter .ensures))
+links-of-requires c κs = (c .if1 .left, c .before .shorter3 .ensures ∙ ap (min _) (c .before .before .shorter2 .ensures ∙ ap (min _) (c .before .before .before .shorter .ensures)))
 
 write-network-requires : tie.Need-write-network-requires
 write-network-requires c κs = search needs
@@ -34,7 +37,7 @@ same-length c = search needs
 returns-2 : tie.Need-returns-2
 returns-2 c =
     let test = c .before .before .before .before .before .before in
-    values-number _ _ _ _ (test .before .shorter2 .ensures ∙ ap (min _) (test .before .before .shorter .ensures)) (test .if1 .left) _ _ (c .before .before .before .before .before .links-of .ensures) _ _ _ (c .before .before .before .write-network .ensures) _ (c .as-number .ensures)
+    values-number _ _ _ _ _ (test .before .shorter3 .ensures ∙ ap (min _) (test .before .before .shorter2 .ensures ∙ ap (min _) (test .before .before .before .shorter .ensures))) (test .if1 .left) _ _ (c .before .before .before .before .before .links-of .ensures) _ _ _ (c .before .before .before .write-network .ensures) _ (c .as-number .ensures)
 
 pub frames-write-spec : {M : Type 1} → statement M
 frames-write-spec =
@@ -42,6 +45,7 @@ frames-write-spec =
     (tie.spec
     shorter-requires
     shorter-requires-2
+    shorter-requires-3
     refused-requires
     returns
     links-of-requires
