@@ -1,7 +1,7 @@
 // The buffer that images are written to. It is filled with one byte first, so that a changed byte shows.
 use super::show;
 
-// More than the 355 bytes of the longest image.
+// More than the 387 bytes of the longest image.
 pub(super) const ROOM: usize = 400;
 
 pub(super) const FILL: u8 = 165;

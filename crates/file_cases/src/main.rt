@@ -1,6 +1,6 @@
 // The network file of document 01: files read, networks written, and networks given as values checked, a line for each case.
 // The cases are the lines of the file stdin, which says how they are written.
-// A line of a file has `ok` with T and K, Z and closed frames of each link, or `no` with the refusal; what was read is also written back.
+// A line of a file has `ok` with T and K, Z, closed frames and Y of each link, or `no` with the refusal; what was read is also written back.
 // A line of a network given as values has what its checks say, then what the writer says, and whether the rest of the buffer is as before.
 // The expected lines, in the file stdout, are written by hand from the document.
 mod image;
@@ -19,10 +19,10 @@ fn case(name: &[u8], numbers: &[u8])
     requires { ⌜ 0 < length (now name) ⌝ }
 {
     show::text(name);
-    if name[0] == b'r' {
-        reading::read(numbers);
-    } else {
-        values::value(numbers);
+    match name[0] {
+        b'r' => reading::read(numbers),
+        b'v' => values::value(numbers),
+        _ => values::least(numbers),
     }
     show::text(b"\n");
 }

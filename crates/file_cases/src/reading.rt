@@ -7,7 +7,7 @@ use network::Network;
 use network_file::Written;
 use refusals::Verdict;
 
-// K, Z and closed frames of each link, with a stroke between two.
+// K, Z, closed frames and Y of each link, with a stroke between two.
 fn show_links(links: [Link; 32], count: usize) {
     let mut i = 0;
     while i < 32 {
@@ -23,6 +23,7 @@ fn show_links(links: [Link; 32], count: usize) {
         show::next(link.frames as u64);
         show::next(link.range as u64);
         show::next(link.closed);
+        show::next(link.least as u64);
         i += 1;
     }
 }

@@ -11,13 +11,19 @@ use refusals::Verdict;
 // The first bytes of an image that are shown.
 const SHOWN: usize = 16;
 
-// The link whose values are the numbers from a place on.
-fn link(text: &[u8], place: usize) -> Link
+// A number of 16 bits at a place.
+fn short(text: &[u8], place: usize) -> u16 {
+    (lines::number(text, place, lines::DECIMAL) % 65536) as u16
+}
+
+// The link whose K, Z and closed frames are the numbers from a place on.
+fn link(text: &[u8], place: usize, least: u16) -> Link
     requires { ⌜ place ≤ 7 ⌝ }
 {
     Link {
-        frames: (lines::number(text, place, lines::DECIMAL) % 65536) as u16,
-        range: (lines::number(text, place + 1, lines::DECIMAL) % 65536) as u16,
+        frames: short(text, place),
+        range: short(text, place + 1),
+        least,
         closed: lines::number(text, place + 2, lines::DECIMAL),
     }
 }
@@ -70,12 +76,12 @@ fn check_and_write(network: Network, room: usize)
     show_written(&buffer, written);
 }
 
-// A network whose values are written in text.
-pub(super) fn value(text: &[u8]) {
-    let mut links = [link(text, 7); 32];
-    links[0] = link(text, 4);
+// A network whose values are written in text, but for Y of link 0 and of every other link.
+fn network(text: &[u8], first: u16, others: u16) {
+    let mut links = [link(text, 7, others); 32];
+    links[0] = link(text, 4, first);
     let network = Network {
-        ticks: (lines::number(text, 1, lines::DECIMAL) % 65536) as u16,
+        ticks: short(text, 1),
         count: lines::number(text, 2, lines::DECIMAL) as usize,
         links,
     };
@@ -83,4 +89,14 @@ pub(super) fn value(text: &[u8]) {
         network,
         (lines::number(text, 3, lines::DECIMAL) % 401) as usize,
     );
+}
+
+// One whose every Y is 1.
+pub(super) fn value(text: &[u8]) {
+    network(text, 1, 1);
+}
+
+// One whose Y are written in text, after the other values.
+pub(super) fn least(text: &[u8]) {
+    network(text, short(text, 10), short(text, 11));
 }

@@ -39,29 +39,31 @@ fn free_frames(text: &[u8], letter: u8) -> u64 {
     free
 }
 
-// A link with K and Z, on which all frames are closed but those that a route says are free.
-fn link(text: &[u8], letter: u8, frames: u16, range: u16) -> Link
+// A link with K, Z and Y, on which all frames are closed but those that a route says are free.
+fn link(text: &[u8], letter: u8, frames: u16, range: u16, least: u16) -> Link
     requires { ⌜ (0 < frames) × (frames ≤ 64) ⌝ }
 {
     Link {
         frames,
         range,
+        least,
         closed: words::ones_below(frames) & !free_frames(text, letter),
     }
 }
 
-// The network of a route: the links A to F, and G, which is B with Z 8.
+// The network of a route: the links A to F, G, which is B with Z 8, and H, which is B with Y 0 (W-206). Every other Y is 1.
 fn network(text: &[u8]) -> Network {
-    let mut links = [link(text, b'A', 8, 2); 32];
-    links[1] = link(text, b'B', 8, 2);
-    links[2] = link(text, b'C', 16, 4);
-    links[3] = link(text, b'D', 4, 2);
-    links[4] = link(text, b'E', 8, 2);
-    links[5] = link(text, b'F', 6, 2);
-    links[6] = link(text, b'G', 8, 8);
+    let mut links = [link(text, b'A', 8, 2, 1); 32];
+    links[1] = link(text, b'B', 8, 2, 1);
+    links[2] = link(text, b'C', 16, 4, 1);
+    links[3] = link(text, b'D', 4, 2, 1);
+    links[4] = link(text, b'E', 8, 2, 1);
+    links[5] = link(text, b'F', 6, 2, 1);
+    links[6] = link(text, b'G', 8, 8, 1);
+    links[7] = link(text, b'H', 8, 2, 0);
     Network {
         ticks: 48,
-        count: 7,
+        count: 8,
         links,
     }
 }

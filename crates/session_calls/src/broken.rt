@@ -11,7 +11,7 @@ use table::Place;
 use table::Table;
 ghost use Prim.Native.Nat.{_<_, _≤_};
 
-// A network with a new number of links, T, or K, Z or closed frames of a link.
+// A network with a new number of links, T, or K, Z, Y or closed frames of a link.
 fn changed_network(network: Network, field: u8, at: usize, value: usize) -> Network
     requires { ⌜ at < 32 ⌝ }
 {
@@ -21,6 +21,7 @@ fn changed_network(network: Network, field: u8, at: usize, value: usize) -> Netw
         b't' => next.ticks = lines::word(value),
         b'K' => next.links[at].frames = lines::word(value),
         b'Z' => next.links[at].range = lines::word(value),
+        b'Y' => next.links[at].least = lines::word(value),
         b'c' => next.links[at].closed = value as u64,
         _ => {}
     }

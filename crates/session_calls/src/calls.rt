@@ -10,27 +10,36 @@ use refusals::Verdict;
 use sessions::Begun;
 use state::Released;
 use state::State;
-ghost use Prim.Native.Nat.{_≤_};
+ghost use Prim.Native.Nat.{_<_, _≤_};
 
-// K, Z and closed frames of link i, in a line that tells a network.
-fn link_at(line: &[u8], i: usize) -> Link
-    requires { ⌜ i ≤ 32 ⌝ }
+// The link whose values are the words from word k on: K, Z, closed frames and, where a link has four words, Y; where it has three, Y is 1.
+fn link_at(line: &[u8], k: usize, many: usize) -> Link
+    requires { ⌜ k ≤ 130 ⌝ }
 {
-    let k = 3 * i + 2;
+    let least = if many == 4 {
+        lines::word(lines::number(line, k + 3))
+    } else {
+        1
+    };
     Link {
         frames: lines::word(lines::number(line, k)),
         range: lines::word(lines::number(line, k + 1)),
+        least,
         closed: lines::number(line, k + 2) as u64,
     }
 }
 
-// The state on the fresh network that a line tells: the letter, T, and three words for each link. The places that are not in use hold the first link.
-fn begin(line: &[u8]) -> Begun {
-    let count = lines::words(line) / 3 % 33;
-    let mut links = [link_at(line, 0); 32];
+// The state on the fresh network that a line tells: the letter, T, and so many words for each link. The places that are not in use hold the first link.
+fn begin(line: &[u8], many: usize) -> Begun
+    requires { ⌜ (0 < many) × (many ≤ 4) ⌝ }
+{
+    let count = lines::words(line) / many % 33;
+    let mut links = [link_at(line, 2, many); 32];
+    let mut k = 2;
     let mut i: usize = 0;
     while i < count {
-        links[i] = link_at(line, i);
+        links[i] = link_at(line, k, many);
+        k += many;
         i += 1;
     }
     sessions::begin(Network {
@@ -38,6 +47,16 @@ fn begin(line: &[u8]) -> Begun {
         count,
         links,
     })
+}
+
+// The same state, and what the network's checks say.
+fn fresh(line: &[u8], many: usize) -> State
+    requires { ⌜ (0 < many) × (many ≤ 4) ⌝ }
+{
+    let begun = begin(line, many);
+    let verdict = begun.verdict;
+    show::verdict(verdict);
+    begun.state
 }
 
 // A set-up, or a quote, which never changes a state.
@@ -167,12 +186,8 @@ fn many(st: State, line: &[u8], sets_up: bool) -> State {
 fn call(st: State, line: &[u8]) -> State {
     let letter = lines::byte(lines::number(line, 0));
     match letter {
-        b'N' => {
-            let begun = begin(line);
-            let verdict = begun.verdict;
-            show::verdict(verdict);
-            begun.state
-        }
+        b'N' => fresh(line, 3),
+        b'Y' => fresh(line, 4),
         b'S' => route_call(st, line, 2, letter),
         b'Q' | b'H' => route_call(st, line, 1, letter),
         b'M' => many(st, line, true),
@@ -190,7 +205,7 @@ fn call(st: State, line: &[u8]) -> State {
 
 // The lines of a text, each on the state that the one before it left. The first network is of no account: a line tells another.
 pub(super) fn run(text: &[u8]) {
-    let begun = begin(text);
+    let begun = begin(text, 3);
     let mut st = begun.state;
     let mut from = 0;
     while from < text.len() {

@@ -57,6 +57,7 @@ fn network(one: Network, other: Network) -> bool {
         let second = other.links[i];
         if (first.frames != second.frames)
             | (first.range != second.range)
+            | (first.least != second.least)
             | (first.closed != second.closed)
         {
             return false;

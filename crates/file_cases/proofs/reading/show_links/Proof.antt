@@ -49,6 +49,12 @@ next-requires-2 c κs = search needs
 next-requires-3 : tie.Need-next-requires-3 Inv-loop μ-loop
 next-requires-3 c κs = search needs
 
+cast-next-3 : tie.Need-cast-next-3 Inv-loop μ-loop
+cast-next-3 c = search needs
+
+next-requires-4 : tie.Need-next-requires-4 Inv-loop μ-loop
+next-requires-4 c κs = search needs
+
 add-i : tie.Need-add-i Inv-loop μ-loop
 add-i c = search needs
 
@@ -80,6 +86,8 @@ show-links-spec =
     cast-next-2
     next-requires-2
     next-requires-3
+    cast-next-3
+    next-requires-4
     add-i
     loop-less
     loop-again

@@ -1,5 +1,5 @@
--- `session_calls::calls::begin` meets its contract. The loop's invariant: i is at most the number of links, that at most 32, and there are 32 places. Assumes nothing.
-use Prim.Native.Nat.{_-_, _≤_}
+-- `session_calls::calls::begin` meets its contract. The loop's invariant: i is at most the number of links, that at most 32, there are 32 places, and the words of link i are among the first of the line. Assumes nothing.
+use Prim.Native.Nat.{_+_, _-_, _*_, _≤_}
 use lib.ListN.{length, length-set}
 use mathlib.Core.Path.{_≡_}
 use native.Mathlib.Omega.{arith}
@@ -8,13 +8,16 @@ use Rattle.session_calls.proofs.calls.begin.Statement.{statement}
 use Rattle.session_calls.proofs.calls.begin.Tie as tie
 
 abbrev Inv-loop : tie.InvT-loop
-Inv-loop line count links₀ i₀ links i = (i ≤ count) × (count ≤ 32) × (length links ≡ 32)
+Inv-loop line many count links₀ k₀ i₀ links k i = (i ≤ count) × (count ≤ 32) × (length links ≡ 32) × (k ≤ 2 + 4 * i)
 
 abbrev μ-loop : tie.MeasureT-loop
-μ-loop line count links₀ i₀ links i = count - i
+μ-loop line many count links₀ k₀ i₀ links k i = count - i
 
 words-requires : tie.Need-words-requires Inv-loop μ-loop
 words-requires c κs = search needs
+
+div-count : tie.Need-div-count Inv-loop μ-loop
+div-count c = search needs
 
 link-at-requires : tie.Need-link-at-requires Inv-loop μ-loop
 link-at-requires c κs = search needs
@@ -30,6 +33,9 @@ mul-links c = search needs
 
 array-set-from-links : tie.Need-array-set-from-links Inv-loop μ-loop
 array-set-from-links c = search needs
+
+add-k : tie.Need-add-k Inv-loop μ-loop
+add-k c = search needs
 
 add-i : tie.Need-add-i Inv-loop μ-loop
 add-i c = search needs
@@ -59,11 +65,13 @@ begin-spec =
     Inv-loop
     μ-loop
     words-requires
+    div-count
     link-at-requires
     loop-holds
     link-at-requires-2
     mul-links
     array-set-from-links
+    add-k
     add-i
     loop-less
     loop-again
