@@ -7,7 +7,7 @@ pub(super) const DECIMAL: u64 = 1;
 const HEXADECIMAL: u64 = 3;
 
 // No file of the cases has more bytes.
-pub(super) const MOST: usize = 64;
+pub(super) const MOST: usize = 400;
 
 // The number at a place, from 1 on, of those that a text says; 0 if it says fewer. A letter is a digit above 9: it stands at 64 or above, and its low
 // half is 9 less.

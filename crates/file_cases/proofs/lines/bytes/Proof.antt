@@ -1,14 +1,14 @@
--- `file_cases::lines::bytes` meets its contract. The loop's invariant: j is at most 64. Assumes nothing.
+-- `file_cases::lines::bytes` meets its contract. The loop's invariant: j is at most 400. Assumes nothing.
 use Prim.Native.Nat.{_-_, _≤_}
 use borrow.Author.Needs.{needs}
 use Rattle.file_cases.proofs.lines.bytes.Statement.{statement}
 use Rattle.file_cases.proofs.lines.bytes.Tie as tie
 
 abbrev Inv-loop : tie.InvT-loop
-Inv-loop text file₀ j₀ file j = j ≤ 64
+Inv-loop text file₀ j₀ file j = j ≤ 400
 
 abbrev μ-loop : tie.MeasureT-loop
-μ-loop text file₀ j₀ file j = 64 - j
+μ-loop text file₀ j₀ file j = 400 - j
 
 loop-holds : tie.Need-loop-holds Inv-loop μ-loop
 loop-holds c = search needs
