@@ -4,7 +4,7 @@ use Prim.Native.Nat.{ℕ, _+_, _-_, _*_, _/_, _<_, _≤_}
 use native.Mathlib.Nat.{add-zero, mod-eq-of-lt, zero-div, div-eq-of-lt-le, div-div-eq-div-mul, div-mul-le-self, lt-div-mul-add, le-div-iff-mul-le, mul-assoc, mul-comm, mul-right-comm, add-mul, zero-mul, one-mul, mul-le-mul-right, mul-lt-mul-of-pos-right, le-of-mul-le-mul-right, lt-of-mul-lt-mul-right}
 use native.Mathlib.Omega.{arith}
 use Rattle.forwarding.specs.declared.Hop.{Hop}
-use Rattle.forwarding.specs.Forwarding.{reference, referenceInto, leastHold, hold, holdInto, mayHold, isFree, frameTime, delay}
+use Rattle.forwarding.specs.Forwarding.{reference, referenceInto, leastHold, holdInto, frameTime, delay}
 use Rattle.forwarding.specs.Hops.{HopReady}
 use Rattle.forwarding.specs.Rates.{SameRate, ToFaster, ToSlower, ToFasterLater, NeverEarlier, WholeFrame, NotYetWhole, TurnsRound, SameFrame}
 use Rattle.forwarding.proofs.Holds.{hold-fitting, into-gap}

@@ -2,14 +2,14 @@
 use mathlib.Core.Path.{_≡_, refl, sym, _∙_, ap}
 use mathlib.Core.Bool.{Bool, true, false}
 use Prim.Native.Nat.{ℕ, _+_, _*_, _/_, _%_, _<_, _≤_}
-use native.Mathlib.Nat.{le-trans, div-le-of-le-mul, mul-le-mul-right, mul-comm, mul-assoc, mul-div-cancel-left, div-add-mod', le-of-eq}
+use native.Mathlib.Nat.{add-zero, add-mod-right, mod-eq-of-lt, le-trans, div-le-of-le-mul, mul-le-mul-right, mul-comm, mul-assoc, mul-div-cancel-left, div-add-mod', le-of-eq}
 use native.Mathlib.Omega.{arith}
 use lib.Dec.{leb, ltb}
 use borrow.Author.Tests.{leb-true, leb-false, le-leb, lt-ltb, le-ltb}
 use Rattle.lists.specs.Count.{oneIf, countBelow}
 use Rattle.lists.proofs.Count.{sum-le, and-both, both-and, and-left-le}
 use Rattle.forwarding.specs.declared.Hop.{Hop}
-use Rattle.forwarding.specs.Forwarding.{referenceInto, leastHold, isFree, mayHold, hold, holdInto, isAllowed, HoldOnly, AllowedWhere, choices, delay, frameTime, IsDelay}
+use Rattle.forwarding.specs.Forwarding.{referenceInto, leastHold, isFree, mayHold, hold, holdInto, isAllowed, HoldOnly, TwoFit, AllowedWhere, choices, delay, frameTime, IsDelay}
 use Rattle.forwarding.specs.Hops.{HopReady}
 use Rattle.forwarding.proofs.Holds.{hold-fits, hold-fitting, choices-range, choices-in, count-holds}
 
@@ -65,6 +65,13 @@ hold-only T h r i p l D = (
     hold-may h D (d .most),
   ),
   λ (e, m). let f = hold-fits (leastHold h) (h .frames) r i l in rw e (record { least = f .least; most = rw e at (may-hold h D m); fits = f .meets }),
+)
+
+-- WITH Y 0 AND Z EQUAL TO K both 0 and K fit
+pub two-fit : TwoFit
+two-fit h r l y z = (
+  record { least = omega (arith, y); most = omega arith; fits = rw add-zero (mod-eq-of-lt l) },
+  record { least = omega (arith, y); most = omega (arith, z); fits = add-mod-right r (h .frames) ∙ mod-eq-of-lt l },
 )
 
 -- A TRANSITION IS ALLOWED EXACTLY WHERE THERE IS SUCH A NUMBER and the frame is free

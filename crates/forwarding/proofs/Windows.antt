@@ -1,7 +1,7 @@
 -- The frames that a transition leads to are a window of the link's frames, going round the cycle: sums over them. Assumes nothing.
 use mathlib.Core.Path.{_≡_, sym, _∙_, ap}
 use mathlib.Core.Bool.{Bool, true, false, _&&_}
-use Prim.Native.Nat.{ℕ, _+_, _*_, _%_, _<_, _≤_}
+use Prim.Native.Nat.{ℕ, _+_, _*_, _%_, _<_}
 use native.Mathlib.Nat.{mod-lt, one-mul, zero-mul}
 use lib.Dec.{ltb}
 use Rattle.lists.specs.Count.{oneIf, sumBelow}

@@ -47,6 +47,10 @@ abbrev pub HoldOnly : Type 0
 HoldOnly = (T : ℕ) (h : Hop) (r i : ℕ) → HopReady T h → i < h .frames
     → (D : ℕ) → IsHold h r i D ↔ ((D ≡ hold (leastHold h) (h .frames) r i) × (mayHold h D ≡ true))
 
+-- what 21 is for: with Y 0 and Z equal to K there would be two, since from a frame to itself both 0 and K fit
+abbrev pub TwoFit : Type 0
+TwoFit = (h : Hop) (r : ℕ) → r < h .frames → leastHold h ≡ 0 → h .range ≡ h .frames → IsHold h r r 0 × IsHold h r r (h .frames)
+
 -- a frame of a hop is free: "Written as a word, bit i stands for a free frame i"
 unfoldable pub isFree : Hop → ℕ → Bool
 isFree h i = bitOf (h .free) i
