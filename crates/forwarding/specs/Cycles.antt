@@ -59,7 +59,7 @@ CyclesLie = (T : ℕ) (hops : List Hop) (fs : List ℕ) → AllReady T hops → 
 abbrev pub beginsAt : ℕ → Hop → ℕ → ℕ → ℕ
 beginsAt T h c i = (c * h .frames + i) * frameTime T (h .frames)
 
--- a frame in its cycle ends Y of its frames, or more, after the one on the hop before has ended; so where Y is 1 it begins no earlier than that
+-- a frame in its cycle ends Y of its frames, or more, after the one on the hop before has ended; so where Y is 1 or more it begins no earlier than that
 abbrev pub Follows : ℕ → Hop → Hop → ℕ → ℕ → ℕ → ℕ → Type 0
 Follows T g h k i c d = beginsAt T g c (k + 1) + leastHold h * frameTime T (h .frames) ≤ beginsAt T h d (i + 1)
 

@@ -33,7 +33,7 @@ unfoldable pub valuesIn : List Field → ℕ → List ℕ → List ℕ
 valuesIn [] map s = []
 valuesIn (f ∷ fs) map s = valueIn map f s ∷ valuesIn fs map (drop (sizeIn map f) s)
 
--- the bits of a map byte that are no field's: "a bit above bit 2", where the fields have bits 0 to 2
+-- the bits of a map byte that are no field's: "a bit above bit" 3, where the fields have bits 0 to 3 (W-206)
 unfoldable pub strayBits : List Field → ℕ → ℕ
 strayBits fs map = wordOf 8 (λ i. bitOf map i && not (isBit fs i))
 

@@ -123,7 +123,7 @@ leadings first cells ones n = sumBelow n (λ k. oneIf (reached (cellReach (getD 
 
 -- what is known where the frames of the hop g are gathered by the frames of the hop h after it
 pub record Gathering (g h : Hop) (time : ℕ) (cells ones keys froms : List ℕ) : Type 0 where
-  -- check 7 of both links, and the least hold of the one entered
+  -- check 7 of both links, and of the one entered checks 8 and 21: the least hold is within the cycle
   pub few-before : g .frames ≤ 64
   pub some-frame : 0 < h .frames
   pub few-frames : h .frames ≤ 64

@@ -143,7 +143,7 @@ fn seen(keys: &[u16; 64], cycle: Delay, i: u16, from: u16) -> u16
     if from < i { key + cycle.0 } else { key }
 }
 
-// The picks of the windows that end with frame `end`, of 1 to `width` frames: that of o + 1 frames at o. Checks 3, 7 and 8, also of the two below.
+// The picks of the windows that end with frame `end`, of 1 to `width` frames: that of o + 1 frames at o. Checks 3, 7, 8 and 21, also of the two below.
 fn trail(keys: &[u16; 64], cycle: Delay, frames: u16, end: u16, width: u16, behind: &mut [u8; 64])
     requires { ⌜ Keys (cycle .0) frames (now keys) × (end < frames) × (0 < width) × (width ≤ frames) × (length (now behind) ≡ 64) ⌝ }
     ensures { λ r. ⌜ Trail (cycle .0) frames (now (keys .entry)) end width (now (behind .exit)) ⌝ }
@@ -369,7 +369,7 @@ fn recover(preds: &[u8; 448], j: usize, f: u8, frames: &mut [u8; 8])
 }
 
 // The least-delay schedule over hops 0 to n - 1, for a cycle of t ticks.
-// Checks 3, 7, 8 and 12 of document 01 have shown what is required. Form: the search counts as it goes.
+// Checks 3, 7, 8, 21 and 12 have shown what is required. Form: the search counts as it goes.
 pub fn search(t: u16, hops: [Hop; 8], n: usize) -> Finding
     requires { ⌜ Ready t hops n ⌝ }
     ensures { λ r. ⌜ Finds t hops n r ⌝ }

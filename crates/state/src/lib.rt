@@ -125,7 +125,7 @@ fn scheduled(hops: [Hop; 8], n: usize, finding: Finding, delay: Delay) -> Quoted
     }
 }
 
-// The answer over the first n hops: the least-delay schedule, or 18 where none exists. Checks 3, 7, 8 and 12 guarantee what is required.
+// The answer over the first n hops: the least-delay schedule, or 18 where none exists. Checks 3, 7, 8, 21 and 12 guarantee what is required.
 fn answer_over(t: u16, hops: [Hop; 8], n: usize) -> Quoted
     requires { ⌜ Ready t hops n ⌝ }
     ensures { λ r. ⌜ Quotes (answerOver t (firsts n hops noHop)) r ⌝ }
