@@ -1,5 +1,5 @@
-//! The least-delay search of a route as it stood in the library before W-204, in plain Rust: survivor search from each reached frame over
-//! its holds. A row has a cell for each frame of a hop: 0 where no schedule leads to the frame, and else the least delay and 1. Only the
+//! The least-delay search of a route as it stood in the library before W-204, in plain Rust, with the least holds of W-206: survivor
+//! search from each reached frame over its holds. A row has a cell for each frame of a hop: 0 where no schedule leads to the frame, and else the least delay and 1. Only the
 //! rows of the hop before and of the current hop are kept.
 
 use crate::route::{cycles, Answer, Hop, MAX_HOPS};
@@ -13,11 +13,12 @@ type Row = [u16; FRAMES];
 /// The preceding frame of each frame of a hop.
 type Preceding = [u8; FRAMES];
 
-/// A hop that is entered: K of the hop before, its own K, Z and free frames, and the time of its frame.
+/// A hop that is entered: K of the hop before, its own K, Z, Y and free frames, and the time of its frame.
 struct Entered {
     before: u16,
     frames: u16,
     range: u16,
+    least: u16,
     free: u64,
     time: u16,
 }
@@ -87,6 +88,7 @@ impl Entered {
             before: before.frames as u16,
             frames: hop.frames as u16,
             range: hop.range as u16,
+            least: hop.least as u16,
             free: hop.free,
             time: (ticks / hop.frames) as u16,
         }
@@ -97,25 +99,25 @@ impl Entered {
         ((k + 1) * self.frames - 1) / self.before
     }
 
-    /// The frame after frame i: past the cycle's end it is taken back by a comparison and a subtraction.
-    fn frame_after(&self, i: u16) -> u16 {
-        if i + 1 < self.frames {
-            i + 1
+    /// The frame so many frames after frame i: past the cycle's end it is taken back by a comparison and a subtraction.
+    fn frame_after(&self, i: u16, frames: u16) -> u16 {
+        if i + frames < self.frames {
+            i + frames
         } else {
-            i + 1 - self.frames
+            i + frames - self.frames
         }
     }
 }
 
 impl Kept<'_> {
-    /// The transitions from frame k, reached after this delay, over its holds from 1 on: each free frame is offered its way. Answers how
+    /// The transitions from frame k, reached after this delay, over its holds from Y on: each free frame is offered its way. Answers how
     /// many there are.
     fn spread(&mut self, k: u16, delay: u16, entered: &Entered) -> u32 {
         let mut count = 0;
-        let mut next = entered.frame_after(entered.reference(k));
-        for hold in 1..entered.range + 1 {
+        let mut next = entered.frame_after(entered.reference(k), entered.least);
+        for hold in entered.least..entered.range + 1 {
             let i = next;
-            next = entered.frame_after(i);
+            next = entered.frame_after(i, 1);
             if entered.free >> i & 1 == 1 {
                 count += 1;
                 self.offer(i, delay + hold * entered.time, hold, k);

@@ -7,7 +7,7 @@ use crate::sorts::{print_lines, too_few_in, Line};
 use std::collections::HashSet;
 use std::hash::{DefaultHasher, Hash, Hasher};
 
-/// The routes compared with the listing. A route is its T and the K, Z and free frames of its hops; one that was
+/// The routes compared with the listing. A route is its T and the K, Z, Y and free frames of its hops; one that was
 /// compared before isn't of any sort again.
 pub struct Compared {
     answers: usize,
@@ -202,6 +202,7 @@ mod tests {
             let all_free = |&frames: &u32| Hop {
                 frames,
                 range: frames,
+                least: 1,
                 free: ones(frames),
             };
             let hops: Vec<Hop> = rates.iter().map(all_free).collect();
@@ -305,6 +306,7 @@ mod tests {
         let closed = Hop {
             frames: 8,
             range: 8,
+            least: 1,
             free: 0,
         };
         compared.add(&listing::list(24, &[closed]));

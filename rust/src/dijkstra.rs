@@ -69,13 +69,14 @@ impl<'a> Search<'a> {
 
     /// Settles frames in the order of the heap until one of the last hop comes out.
     ///
-    /// Every transition costs at least one tick, so all ways of one delay stand in the heap before the first
-    /// of them comes out, and the first way out into a frame is the best one: of equal delay, the smaller hold
-    /// and then the smaller preceding frame. What lies before the preceding frame was settled by the same rule.
+    /// A hold of 0 costs nothing, but every transition leads to the next hop, and of equal delays the earlier hop
+    /// comes out first. So all ways of one delay into a hop stand in the heap before the first of them comes out,
+    /// and the first way out into a frame is the best one: of equal delay, the smaller hold and then the smaller
+    /// preceding frame. What lies before the preceding frame was settled by the same rule.
     fn run(&mut self) -> Way {
         loop {
             let Reverse(key) = self.heap.pop().expect("some schedule exists");
-            let way = self.way(key);
+            let way = Self::way(key);
             if route::has(self.open[way.hop], way.frame) {
                 self.open[way.hop] &= !(1 << way.frame);
                 self.preceding[way.hop][way.frame as usize] = way.preceding as u8;
@@ -85,22 +86,24 @@ impl<'a> Search<'a> {
                 self.push_next(way.hop, way.frame, way.delay, 0);
             }
             if way.hop > 0 {
-                let spent = route::delay(way.hold, self.ticks, &self.hops[way.hop]);
-                self.push_next(way.hop - 1, way.preceding, way.delay - spent, way.hold);
+                let here = &self.hops[way.hop];
+                let spent = route::delay(way.hold, self.ticks, here);
+                let tried = way.hold - here.least + 1;
+                self.push_next(way.hop - 1, way.preceding, way.delay - spent, tried);
             }
         }
     }
 
-    /// Puts into the heap the way of least hold above `above` from a settled frame to an open frame.
+    /// Puts into the heap the way of least hold from a settled frame to an open frame, without the first so many holds.
     /// The ways of a frame differ in delay, so the next one isn't needed before this one has come out.
-    fn push_next(&mut self, hop: usize, frame: u32, delay: u32, above: u32) {
+    fn push_next(&mut self, hop: usize, frame: u32, delay: u32, tried: u32) {
         let here = &self.hops[hop + 1];
         let reference = route::reference(frame, &self.hops[hop], here);
-        let holds = holds(self.open[hop + 1], reference, here) & !route::ones(above);
+        let holds = holds(self.open[hop + 1], reference, here) & !route::ones(tried);
         if holds == 0 {
             return;
         }
-        let hold = holds.trailing_zeros() + 1;
+        let hold = here.least + holds.trailing_zeros();
         self.push(Way {
             delay: delay + route::delay(hold, self.ticks, here),
             hop: hop + 1,
@@ -110,12 +113,10 @@ impl<'a> Search<'a> {
         });
     }
 
-    /// Puts a way into the heap under its key: delay, hops still to go (the end first), frame, hold,
-    /// preceding frame.
+    /// Puts a way into the heap under its key: delay, hop, frame, hold, preceding frame.
     fn push(&mut self, way: Way) {
-        let to_go = (self.hops.len() - 1 - way.hop) as u64;
         let key = u64::from(way.delay) << 32
-            | to_go << 24
+            | (way.hop as u64) << 24
             | u64::from(way.frame) << 16
             | u64::from(way.hold) << 8
             | u64::from(way.preceding);
@@ -123,10 +124,10 @@ impl<'a> Search<'a> {
     }
 
     /// The way of a key.
-    fn way(&self, key: u64) -> Way {
+    fn way(key: u64) -> Way {
         Way {
             delay: (key >> 32) as u32,
-            hop: self.hops.len() - 1 - (key >> 24 & 0xff) as usize,
+            hop: (key >> 24 & 0xff) as usize,
             frame: (key >> 16 & 0xff) as u32,
             hold: (key >> 8 & 0xff) as u32,
             preceding: (key & 0xff) as u32,
@@ -143,15 +144,15 @@ impl<'a> Search<'a> {
     }
 }
 
-/// The holds from 1 to Z that lead from a reference frame to a frame of the word: bit D-1 stands for hold D.
+/// The holds from Y to Z that lead from a reference frame to a frame of the word: bit D-Y stands for hold D.
 fn holds(word: u64, reference: u32, here: &Hop) -> u64 {
-    let first = (reference + 1) % here.frames;
+    let first = (reference + here.least) % here.frames;
     let around = if first == 0 {
         word
     } else {
         word >> first | word << (here.frames - first)
     };
-    around & route::ones(here.range)
+    around & route::ones(here.holds())
 }
 
 /// The count of transitions considered, and the frames that end some schedule of the whole route.
@@ -174,7 +175,7 @@ fn count(hops: &[Hop]) -> (u32, u64) {
 
 /// The frames that the holds of a reference frame lead to: `holds` the other way round.
 fn frames_at(holds: u64, reference: u32, here: &Hop) -> u64 {
-    let first = (reference + 1) % here.frames;
+    let first = (reference + here.least) % here.frames;
     let around = if first == 0 {
         holds
     } else {

@@ -49,6 +49,8 @@ extern "C" {
         range_len: usize,
         closed: *const u64,
         closed_len: usize,
+        least: *const u16,
+        least_len: usize,
         out: *mut u8,
         out_len: usize,
     ) -> u64;
@@ -65,11 +67,11 @@ pub const TEXT_MOST: usize = 720_918;
 /// Numbers that serve for every session.
 pub const SESSION_MOST: usize = 26;
 
-/// The largest number of schedules: over 8 links with 64 frames each, all free, and the whole cycle as their range.
+/// The largest number of schedules: over 8 links with 64 frames each, all free, and 64 holds.
 pub const WAYS_MOST: u64 = 64u64.pow(8);
 
 /// Bytes that serve for every network file.
-pub const IMAGE_MOST: usize = 355;
+pub const IMAGE_MOST: usize = 387;
 
 /// Bytes that `report` demands for its text on so many call bytes.
 pub const fn text_bound(call_bytes: usize) -> usize {
@@ -173,14 +175,15 @@ pub fn image(file: &[u8], out: &mut [u8]) -> Result<usize, u64> {
     })
 }
 
-/// Puts the file of a network given as values, T and the links' K, Z and closed frames, at the start of `out` and answers
-/// its length, at most `IMAGE_MOST`, or answers the refusal number. `out` stays as it was behind the file, and as a
-/// whole at a refusal.
+/// Puts the file of a network given as values, T and the links' K, Z, closed frames and Y, at the start of `out` and
+/// answers its length, at most `IMAGE_MOST`, or answers the refusal number. There are as many links as the shortest of
+/// the four slices has numbers. `out` stays as it was behind the file, and as a whole at a refusal.
 pub fn write(
     ticks: u16,
     frames: &[u16],
     range: &[u16],
     closed: &[u64],
+    least: &[u16],
     out: &mut [u8],
 ) -> Result<usize, u64> {
     // SAFETY: each pointer comes with the length of the slice it was taken from.
@@ -193,6 +196,8 @@ pub fn write(
             range.len(),
             closed.as_ptr(),
             closed.len(),
+            least.as_ptr(),
+            least.len(),
             out.as_mut_ptr(),
             out.len(),
         )

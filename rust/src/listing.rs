@@ -141,13 +141,13 @@ fn rule(best: &Key, next_best: &Key) -> Decided {
 
 /// The cycle of each hop of a schedule, by positions counted from the beginning of cycle 0: frame i of cycle c stands
 /// at c * K + i. The position on the hop before has a reference position here as a frame has a reference frame, and the
-/// hop's own is the first after it that is one of its frame.
+/// hop's own is the first from Y frames after it on that is one of its frame.
 fn cycles(hops: &[Hop], frames: &[u32]) -> Vec<u8> {
     let mut position = frames[0];
     let mut cycles = vec![0];
     for (hop, &frame) in hops.windows(2).zip(&frames[1..]) {
         let reference = route::reference(position, &hop[0], &hop[1]);
-        let mut later = reference + 1..;
+        let mut later = reference + hop[1].least..;
         position = later
             .find(|position| position % hop[1].frames == frame)
             .expect("each frame comes again in every cycle");
@@ -164,6 +164,7 @@ fn key(ticks: u32, hops: &[Hop], frames: &[u32]) -> Key {
     for back in 0..last {
         let j = last - back;
         let hold = route::hold_between(frames[j - 1], &hops[j - 1], frames[j], &hops[j]);
+        let hold = hold.expect("each transition is allowed");
         key[0] += route::delay(hold, ticks, &hops[j]);
         key[2 + 2 * back] = hold;
         key[3 + 2 * back] = frames[j - 1];
@@ -174,7 +175,7 @@ fn key(ticks: u32, hops: &[Hop], frames: &[u32]) -> Key {
 #[cfg(test)]
 mod tests {
     use super::*;
-    use crate::question_four::{eight, four, link};
+    use crate::question_four::{eight, four, held_from, link};
 
     /// What decides the route in a cycle of 48 ticks.
     fn decided(hops: &[Hop]) -> Option<Decided> {
@@ -223,6 +224,27 @@ mod tests {
     }
 
     #[test]
+    fn decided_between_holds_of_none() {
+        // 0 0 with delay 0, then 1 1 with delay 0.
+        let none = |free| held_from(0, 8, 2, free);
+        assert_eq!(
+            decided(&[eight(ALL), none(ALL)]),
+            Some(Decided::ByLastFrame)
+        );
+        // 1 1 with delay 0, then 0 1 with delay 6.
+        assert_eq!(
+            decided(&[eight(&[0, 1]), none(&[1])]),
+            Some(Decided::ByDelay)
+        );
+        // 0 1 1 with holds 1 and 0, then 0 0 1 with holds 0 and 1, both with delay 6.
+        let route = [eight(&[0]), none(&[0, 1]), none(&[1])];
+        assert_eq!(decided(&route), Some(Decided::ByHold));
+        // 4 2, then 5 2: both have reference frame 2, hold 0 and delay 0.
+        let route = [eight(&[4, 5]), held_from(0, 4, 2, &[2])];
+        assert_eq!(decided(&route), Some(Decided::ByPrecedingFrame));
+    }
+
+    #[test]
     fn only_schedule_or_none() {
         let route = [eight(&[3]), eight(&[5])];
         assert_eq!(decided(&route), Some(Decided::OnlySchedule));
@@ -262,6 +284,12 @@ mod tests {
         // A whole cycle after a reference of 3, at position 11.
         assert_eq!(cycles(&[fast, fast], &[3, 3]), [0, 1]);
         assert_eq!(cycles(&[slow], &[3]), [0]);
+        // Without a hold at position 7, then at 15 a whole cycle later.
+        let none = held_from(0, 8, 7, &all(8));
+        assert_eq!(
+            cycles(&[fast, none, fast, none], &[7, 7, 7, 7]),
+            [0, 0, 1, 1]
+        );
     }
 
     #[test]

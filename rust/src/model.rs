@@ -276,6 +276,7 @@ pub fn hops_of(network: &Network, ledger: &Ledger, route: &[u8]) -> [Hop; MAX_HO
     let unused = Hop {
         frames: 1,
         range: 1,
+        least: 1,
         free: 0,
     };
     let mut hops = [unused; MAX_HOPS];
@@ -285,6 +286,7 @@ pub fn hops_of(network: &Network, ledger: &Ledger, route: &[u8]) -> [Hop; MAX_HO
         *hop = Hop {
             frames: link.frames,
             range: link.range,
+            least: link.least,
             free: route::ones(link.frames) & !link.closed & !held,
         };
     }
@@ -763,7 +765,7 @@ mod tests {
         let frame = |j: usize| u32::from(session.frames[j]);
         let delay = |j: usize| {
             let hold = route::hold_between(frame(j - 1), &hops[j - 1], frame(j), &hops[j]);
-            route::delay(hold, network.ticks, &hops[j])
+            route::delay(hold.expect("a schedule"), network.ticks, &hops[j])
         };
         (1..session.frames.len()).map(delay).sum()
     }

@@ -39,6 +39,32 @@ const RANGES: [Ranges; 4] = [
     Ranges::Absent,
 ];
 
+/// What the least holds of links are: the value of the absent field, none, two frames and more, or the range itself.
+#[derive(Clone, Copy)]
+enum LeastHolds {
+    Absent,
+    None,
+    Longer,
+    Range,
+}
+
+/// The least holds of the links of a network: of one sort, or for each link of another.
+const LEAST_HOLDS: [&[LeastHolds]; 8] = [
+    &[LeastHolds::Absent],
+    &[LeastHolds::Absent],
+    &[LeastHolds::Absent],
+    &[LeastHolds::None],
+    &[LeastHolds::Longer],
+    &[LeastHolds::Absent, LeastHolds::None],
+    &[LeastHolds::Absent, LeastHolds::None, LeastHolds::Longer],
+    &[
+        LeastHolds::Absent,
+        LeastHolds::None,
+        LeastHolds::Longer,
+        LeastHolds::Range,
+    ],
+];
+
 /// A network whose links have up to `most_frames` frames.
 pub fn network(random: &mut Random, most_frames: u32) -> Network {
     let ticks = cycle(random);
@@ -55,13 +81,12 @@ pub fn network(random: &mut Random, most_frames: u32) -> Network {
         vec![random.pick(&CLOSINGS)]
     };
     let ranges = random.pick(&RANGES);
-    Network {
-        ticks,
-        links: links(random, &rates, ranges, &closings),
-    }
+    let mut links = links(random, &rates, ranges, &closings);
+    draw_least_holds(random, &mut links);
+    Network { ticks, links }
 }
 
-/// A network of 32 links with 8, 16, 32 or 64 frames, any range and some frames closed.
+/// A network of 32 links with 8, 16, 32 or 64 frames, any range, some frames closed and least holds of 1.
 pub fn large_network(random: &mut Random) -> Network {
     let rates: Vec<u32> = (0..32).map(|_| 8 << random.below(4)).collect();
     Network {
@@ -70,7 +95,7 @@ pub fn large_network(random: &mut Random) -> Network {
     }
 }
 
-/// Links with these frames per cycle in turn, and ranges of one kind.
+/// Links with these frames per cycle in turn, ranges of one kind and least holds of 1.
 fn links(random: &mut Random, rates: &[u32], ranges: Ranges, closings: &[Closing]) -> Vec<Link> {
     rates
         .iter()
@@ -80,9 +105,33 @@ fn links(random: &mut Random, rates: &[u32], ranges: Ranges, closings: &[Closing
                 frames,
                 range: range(random, frames, ranges),
                 closed: closed_frames(random, frames, closing),
+                least: ABSENT.least,
             }
         })
         .collect()
+}
+
+/// Gives the links of a network other least holds.
+pub fn draw_least_holds(random: &mut Random, links: &mut [Link]) {
+    let sorts = random.pick(&LEAST_HOLDS);
+    for link in links {
+        let sort = random.pick(sorts);
+        set_least_hold(random, link, sort);
+    }
+}
+
+/// Gives a link a least hold of a sort. A link without one has a range below K; with a single frame it has a hold of 1.
+fn set_least_hold(random: &mut Random, link: &mut Link, sort: LeastHolds) {
+    link.least = match sort {
+        LeastHolds::None if link.frames > 1 => 0,
+        LeastHolds::Absent | LeastHolds::None => ABSENT.least,
+        LeastHolds::Longer => random.between(2, link.range.max(2) as usize) as u32,
+        LeastHolds::Range => link.range,
+    };
+    link.least = link.least.min(link.range);
+    if link.least == 0 {
+        link.range = link.range.min(link.frames - 1);
+    }
 }
 
 /// A cycle: most often one with many divisors, now and then any.
@@ -171,7 +220,9 @@ pub fn roomy_network(random: &mut Random) -> Network {
         frames,
         range: 1,
         closed: route::ones(frames),
+        least: ABSENT.least,
     });
+    draw_least_holds(random, &mut links);
     Network { ticks, links }
 }
 
@@ -206,10 +257,9 @@ pub fn listed_network(random: &mut Random) -> Network {
         &CLOSINGS
     };
     let ranges = random.pick(&RANGES);
-    Network {
-        ticks,
-        links: links(random, &rates, ranges, closings),
-    }
+    let mut links = links(random, &rates, ranges, closings);
+    draw_least_holds(random, &mut links);
+    Network { ticks, links }
 }
 
 /// The frames per cycle of each hop in turn, drawn until the route can be listed.
@@ -269,6 +319,9 @@ pub fn damaged(random: &mut Random, network: &Network) -> Vec<u8> {
     if random.chance(30) {
         spoil_draft(random, &mut draft, network);
     }
+    if random.chance(25) {
+        spoil_least(random, &mut draft, network);
+    }
     let mut bytes = draft.bytes();
     spoil_file(random, &mut bytes);
     bytes
@@ -283,7 +336,7 @@ fn spoil_draft(random: &mut Random, draft: &mut Draft, network: &Network) {
         0 => draft.number = random.pick(&[0, 33, 34, 64, 255]),
         1 => draft.number = random.byte() % 40,
         2 => draft.ticks = random.pick(&[0, 961, 962, 1024, 1920, 65_535]),
-        3 => record.stray = 8 << random.below(5),
+        3 => record.stray = 16 << random.below(4),
         4 => spoil_absent(random, record),
         5 => record.frames = Some(random.pick(&[0, 65, 96, 120, 240, 255])),
         6 => record.frames = Some(random.byte() % 70),
@@ -297,13 +350,43 @@ fn spoil_draft(random: &mut Random, draft: &mut Draft, network: &Network) {
 
 /// Writes a field that equals its absent value, or leaves out one that doesn't.
 fn spoil_absent(random: &mut Random, record: &mut Record) {
-    match random.below(6) {
+    match random.below(8) {
         0 => record.frames = Some(ABSENT.frames as u8),
         1 => record.range = Some(ABSENT.range as u8),
         2 => record.closed = Some(ABSENT.closed),
-        3 => record.frames = None,
-        4 => record.range = None,
-        _ => record.closed = None,
+        3 => record.least = Some(ABSENT.least as u8),
+        4 => record.frames = None,
+        5 => record.range = None,
+        6 => record.closed = None,
+        _ => record.least = None,
+    }
+}
+
+/// A fault of a least hold, or a value beside one; now and then with a fault that is checked before it or after it, or in the last
+/// record without its last byte.
+fn spoil_least(random: &mut Random, draft: &mut Draft, network: &Network) {
+    let at = random.below(network.links.len());
+    let link = &network.links[at];
+    let record = &mut draft.records[at];
+    let (frames, range, any) = (link.frames as u8, link.range as u8, random.byte());
+    match random.below(5) {
+        0 => {
+            record.range = Some(frames);
+            record.least = Some(0);
+        }
+        1 => {
+            record.range = Some(frames.max(2) - 1);
+            record.least = Some(0);
+        }
+        2 => record.least = Some(random.pick(&[1, range, any])),
+        _ => record.least = Some(random.pick(&[range + 1, range + 1, range + 2, 255])),
+    }
+    match random.below(8) {
+        0 | 1 if frames < 64 => record.closed = Some(1 << frames | link.closed),
+        2 => record.range = Some(random.pick(&[0, frames + 1])),
+        3 => record.frames = Some(random.pick(&[0, 65, frames.max(3) - 1])),
+        4 => record.stray = 16 << random.below(4),
+        _ => {}
     }
 }
 
@@ -347,7 +430,7 @@ pub fn values(random: &mut Random) -> Values {
 /// Moves one value, or the number of links.
 fn move_value(random: &mut Random, values: &mut Values) {
     let links = values.network().links.len();
-    match random.below(10) {
+    match random.below(13) {
         0 => values.ticks = edge_of_ticks(random, values.ticks),
         1 => {
             let number = random.pick(&[0, 1, 31, 32, 33, 34, 255, 256, 257, 288, 1_025]);
@@ -362,10 +445,33 @@ fn move_value(random: &mut Random, values: &mut Values) {
             let choices = [0, 1, k, k.wrapping_add(1), 4, 64, 256, z.wrapping_add(256)];
             values.range[at] = random.pick(&choices);
         }
-        _ => {
+        8 | 9 => {
             let at = random.below(links);
             values.closed[at] = edge_of_closed(random, u32::from(values.frames[at]));
         }
+        _ => {
+            let at = random.below(links);
+            move_least(random, values, at);
+        }
+    }
+}
+
+/// Moves the Y of a link to an edge; now and then with another value of the link over an edge of its own.
+fn move_least(random: &mut Random, values: &mut Values, at: usize) {
+    let (k, z, y) = (values.frames[at], values.range[at], values.least[at]);
+    if random.chance(30) {
+        values.range[at] = random.pick(&[k, k.wrapping_sub(1)]);
+        values.least[at] = 0;
+    } else {
+        let above = z.wrapping_add(1);
+        let choices = [0, 1, 2, z, above, above, k, 255, 256, y.wrapping_add(256)];
+        values.least[at] = random.pick(&choices);
+    }
+    match random.below(8) {
+        0 | 1 => values.closed[at] = edge_of_closed(random, u32::from(k)),
+        2 => values.range[at] = random.pick(&[0, k.wrapping_add(1)]),
+        3 => values.frames[at] = random.pick(&[0, 65, k.wrapping_sub(1)]),
+        _ => {}
     }
 }
 
@@ -424,6 +530,7 @@ fn resize(values: &mut Values, number: usize) {
     to(&mut values.frames, number, ABSENT.frames as u16);
     to(&mut values.range, number, ABSENT.range as u16);
     to(&mut values.closed, number, ABSENT.closed);
+    to(&mut values.least, number, ABSENT.least as u16);
 }
 
 /// Makes one of the lists longer than the others, or shorter.
@@ -432,10 +539,11 @@ fn make_unequal(random: &mut Random, values: &mut Values) {
         0 => random.below(values.frames.len() + 1),
         _ => values.frames.len() + random.pick(&[1, 2, 40, 300]),
     };
-    match random.below(3) {
+    match random.below(4) {
         0 => values.frames.resize(number, 0),
         1 => values.range.resize(number, 0),
-        _ => values.closed.resize(number, u64::MAX),
+        2 => values.closed.resize(number, u64::MAX),
+        _ => values.least.resize(number, u16::MAX),
     }
 }
 

@@ -1,8 +1,8 @@
 //! Random networks whose links, in the order of their numbers, make a route to be quoted: any number of frames per cycle, rates
-//! that rise and fall, ranges and free frames by which ways tie and windows pass the cycle's end.
+//! that rise and fall, ranges, least holds and free frames by which ways tie and windows pass the cycle's end.
 
-use crate::network_file::{Link, Network};
-use crate::networks::fit;
+use crate::network_file::{Link, Network, ABSENT};
+use crate::networks::{draw_least_holds, fit};
 use crate::random::Random;
 use crate::route::{ones, MAX_HOPS};
 
@@ -31,8 +31,10 @@ fn any_network(random: &mut Random) -> Network {
         frames: rates[j],
         range: words.range(random, rates[j]),
         closed: ones(rates[j]) & !free(random, j),
+        least: ABSENT.least,
     });
-    let links = links.collect();
+    let mut links: Vec<Link> = links.collect();
+    draw_least_holds(random, &mut links);
     Network { ticks, links }
 }
 
@@ -53,9 +55,11 @@ fn tied_network(random: &mut Random) -> Network {
             frames,
             range: range(random, frames).max(3).min(frames),
             closed: ones(frames) & !free,
+            least: ABSENT.least,
         }
     });
-    let links = links.collect();
+    let mut links: Vec<Link> = links.collect();
+    draw_least_holds(random, &mut links);
     Network { ticks, links }
 }
 

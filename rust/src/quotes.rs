@@ -238,7 +238,8 @@ impl Entered {
         ];
         add_each(&mut self.ties, &ties);
         add_each(&mut self.windows, &[entry.window_passes, entry.way_passes]);
-        let is_no_divisor = here.range > 1 && here.frames % here.range != 0;
+        let window = here.holds();
+        let is_no_divisor = window > 1 && here.frames % window != 0;
         let is_cut = is_no_divisor && entry.block_is_cut;
         let is_from_before = is_no_divisor && entry.from_before_block;
         let is_both = is_cut && is_from_before;

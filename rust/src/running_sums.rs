@@ -17,7 +17,8 @@ pub fn number(hops: &[Hop]) -> u64 {
         let sums = sums(&ways, here);
         for frame in 0..before.frames {
             let reference = route::reference(frame, before, here);
-            ways[frame as usize] = window(&sums, (reference + 1) % here.frames, here);
+            let nearest = (reference + here.least) % here.frames;
+            ways[frame as usize] = window(&sums, nearest, here);
         }
     }
     sums(&ways, &hops[0])[hops[0].frames as usize]
@@ -32,9 +33,9 @@ fn sums(ways: &[u64; FRAMES], here: &Hop) -> Sums {
     sums
 }
 
-/// The sum over the free ones among the Z frames that begin at the first, going round the cycle.
+/// The sum over the free ones among the Z - Y + 1 frames that begin at the first, going round the cycle.
 fn window(sums: &Sums, first: u32, here: &Hop) -> u64 {
-    let end = first + here.range;
+    let end = first + here.holds();
     let sum = |frames: u32| sums[frames as usize];
     if end <= here.frames {
         sum(end) - sum(first)

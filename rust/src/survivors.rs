@@ -42,6 +42,7 @@ fn search(ticks: u32, hops: &[Hop], wrapped: impl Fn(u32, u32) -> u32) -> Answer
         let &Hop {
             frames,
             range,
+            least,
             free,
         } = &hops[j];
         let time = ticks / frames;
@@ -54,7 +55,7 @@ fn search(ticks: u32, hops: &[Hop], wrapped: impl Fn(u32, u32) -> u32) -> Answer
             }
             let reference = ((k + 1) * frames - 1) / from;
             let mut considered = 0;
-            for hold in 1..range + 1 {
+            for hold in least..range + 1 {
                 let i = wrapped(reference + hold, frames) as usize;
                 if free >> i & 1 == 1 {
                     considered += 1;

@@ -39,8 +39,8 @@ fn ways<'a>(
     let frames = (0..before.frames).filter(move |_| is_free);
     frames.filter_map(move |preceding| {
         let delay = delays[preceding as usize]?;
-        let hold = route::hold_between(preceding, before, frame, here);
-        (hold <= here.range).then(|| Way {
+        let hold = route::hold_between(preceding, before, frame, here)?;
+        Some(Way {
             delay: delay + route::delay(hold, ticks, here),
             hold,
             preceding,
@@ -64,15 +64,16 @@ pub fn ends_tie(delays: &[Delays]) -> bool {
 /// What the answer met where it entered a hop after the first.
 #[derive(Clone, Copy, Debug, PartialEq, Eq)]
 pub struct Entry {
+    pub hold: u32,
     /// Another way of the same delay had a longer hold; another of the same delay and hold came from a later frame.
     pub tie_by_hold: bool,
     pub tie_by_frame: bool,
     /// Another way of the same delay came from before the block, and the answer's from within it.
     pub tie_across_block: bool,
-    /// The Z frames that end with the one entered pass the cycle's end; the way itself passes it after its least hold.
+    /// The Z - Y + 1 frames that end with the one entered pass the cycle's end; the way itself passes it after its least hold.
     pub window_passes: bool,
     pub way_passes: bool,
-    /// In blocks of Z frames from frame 0 on, the last cut off at the cycle's end: the frame lies in one that is cut off;
+    /// In blocks of Z - Y + 1 frames from frame 0 on, the last cut off at the cycle's end: the frame lies in one that is cut off;
     /// the least hold leads to a frame before the block.
     pub block_is_cut: bool,
     pub from_before_block: bool,
@@ -91,17 +92,19 @@ fn entry(ticks: u32, hops: &[Hop], delays: &Delays, frame: u32) -> Entry {
     let best = *ways.iter().min().expect("the answer entered the frame");
     let ties = ways.iter().filter(|way| way.delay == best.delay);
     let ties: Vec<&Way> = ties.filter(|&&way| way != best).collect();
-    let (before, Hop { frames, range, .. }) = (&hops[0], hops[1]);
-    let first = frame - frame % range;
-    let is_from_before = |way: &Way| way.hold - 1 > frame - first;
+    let (before, here) = (&hops[0], &hops[1]);
+    let window = here.holds();
+    let first = frame - frame % window;
+    let is_from_before = |way: &Way| way.hold - here.least > frame - first;
     let is_unreached = |frame| route::has(before.free, frame) && delays[frame as usize].is_none();
     Entry {
+        hold: best.hold,
         tie_by_hold: ties.iter().any(|tie| tie.hold > best.hold),
         tie_by_frame: ties.iter().any(|tie| tie.hold == best.hold),
         tie_across_block: !is_from_before(&best) && ties.iter().any(|tie| is_from_before(tie)),
-        window_passes: frame + 1 < range,
-        way_passes: best.hold - 1 > frame,
-        block_is_cut: first + range > frames,
+        window_passes: frame + 1 < window,
+        way_passes: best.hold - here.least > frame,
+        block_is_cut: first + window > here.frames,
         from_before_block: is_from_before(&best),
         follows_unreached: (0..before.frames).any(is_unreached),
     }
@@ -110,7 +113,7 @@ fn entry(ticks: u32, hops: &[Hop], delays: &Delays, frame: u32) -> Entry {
 #[cfg(test)]
 mod tests {
     use super::*;
-    use crate::question_four::{eight, link};
+    use crate::question_four::{eight, held_from, link};
     use crate::route::Answer;
     use crate::survivors;
 
@@ -191,6 +194,14 @@ mod tests {
         assert_eq!(places(7, 3, 2), ((false, false), (false, false)));
         assert_eq!(places(4, 3, 7), ((false, false), (true, true)));
         assert_eq!(places(5, 3, 7), ((false, false), (true, false)));
+        // The same blocks: without a hold 7 leads to 7 first and then on to 1, and a least hold of 3 leads 4 to 7 and on to 1.
+        for (least, before) in [(0, 7), (3, 4)] {
+            let here = held_from(least, 8, least + 2, &[1]);
+            let entry = met(&[eight(&[before]), here])[0];
+            assert_eq!(entry.hold, least + 2);
+            assert!(entry.window_passes && entry.way_passes && entry.from_before_block);
+            assert!(!entry.block_is_cut);
+        }
         // Blocks 0 to 3 and 4 to 7, and then the whole cycle.
         assert_eq!(places(4, 4, 7), ((false, false), (false, false)));
         assert_eq!(places(3, 8, 3), ((true, true), (false, true)));

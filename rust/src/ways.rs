@@ -31,9 +31,9 @@ pub fn is_open(hops: &[Hop]) -> bool {
     hops.iter().all(|hop| hop.free == route::ones(hop.frames))
 }
 
-/// The number of an open route: K of hop 0 times the product of the later Z.
+/// The number of an open route: K of hop 0 times the product of the later Z - Y + 1.
 pub fn product(hops: &[Hop]) -> u64 {
-    let later: u64 = hops[1..].iter().map(|hop| u64::from(hop.range)).product();
+    let later: u64 = hops[1..].iter().map(|hop| u64::from(hop.holds())).product();
     u64::from(hops[0].frames) * later
 }
 
@@ -42,7 +42,7 @@ mod tests {
     use super::*;
     use crate::library::WAYS_MOST;
     use crate::listing;
-    use crate::question_four::{eight, four, link};
+    use crate::question_four::{eight, four, held_from, link};
     use crate::route::ones;
 
     const ALL: &[u32] = &[0, 1, 2, 3, 4, 5, 6, 7];
@@ -90,6 +90,7 @@ mod tests {
         let all_free = |frames, range| Hop {
             frames,
             range,
+            least: 1,
             free: ones(frames),
         };
         let route = [all_free(8, 1), all_free(4, 3), all_free(8, 2)];
@@ -98,6 +99,44 @@ mod tests {
         let route = [all_free(64, 64); 8];
         assert_eq!((product(&route), number(&route)), (WAYS_MOST, WAYS_MOST));
         assert_eq!(WAYS_MOST, 281_474_976_710_656);
+    }
+
+    #[test]
+    fn an_open_route_has_the_product_of_its_holds() {
+        let all_free = |least, frames, range| Hop {
+            frames,
+            range,
+            least,
+            free: ones(frames),
+        };
+        // 8 * (2 - 0 + 1), whatever Y of hop 0 is.
+        let none = all_free(0, 8, 2);
+        for first in [none, all_free(1, 8, 2), all_free(2, 8, 2)] {
+            let route = [first, none];
+            assert_eq!((product(&route), number_of(&route)), (24, 24));
+        }
+        // 8 * (4 - 2 + 1) * (3 - 0 + 1) * (3 - 3 + 1).
+        let route = [
+            none,
+            all_free(2, 8, 4),
+            all_free(0, 4, 3),
+            all_free(3, 8, 3),
+        ];
+        assert_eq!((product(&route), number_of(&route)), (96, 96));
+        // Of the whole cycle and of all frames but the last there are as many holds.
+        let route = [all_free(0, 64, 63); 8];
+        assert_eq!((product(&route), number(&route)), (WAYS_MOST, WAYS_MOST));
+    }
+
+    #[test]
+    fn ways_over_links_with_another_least_hold() {
+        // From 3 to 3, 4 and 5; from 3 to 5 and 6.
+        assert_eq!(number_of(&[eight(&[3]), held_from(0, 8, 2, ALL)]), 3);
+        assert_eq!(number_of(&[eight(&[3]), held_from(2, 8, 3, ALL)]), 2);
+        assert_eq!(number_of(&[eight(&[3]), held_from(2, 8, 3, &[3, 4, 7])]), 0);
+        assert_eq!(number_of(&[eight(&[3]), held_from(0, 8, 2, &[3, 6])]), 1);
+        // Frames 4 and 5 have reference frame 2 on the slow link, and 2 alone is free there.
+        assert_eq!(number_of(&[eight(&[4, 5]), held_from(0, 4, 3, &[2])]), 2);
     }
 
     #[test]

@@ -1,5 +1,5 @@
 //! The least-delay search of a route in plain Rust by windows: the frames of the hop before are gathered by the frame that
-//! the least hold leads each to, and the best way into a frame is the best of the Z gathered ones that end with it.
+//! the least hold leads each to, and the best way into a frame is the best of the Z - Y + 1 gathered ones that end with it.
 
 use crate::route::{self, cycles, has, Answer, Hop, MAX_HOPS};
 
@@ -31,7 +31,10 @@ pub enum Part {
 #[derive(Clone, Copy)]
 pub struct Method {
     pub reference: fn(u32, &Hop, &Hop) -> u32,
-    pub least_hold: u32,
+    /// The least hold from one hop into the next.
+    pub least_hold: fn(&Hop, &Hop) -> u32,
+    /// How many frames of delay a least hold costs.
+    pub cost: fn(u32, &Hop) -> u32,
     /// By delay, hop and frame: is the frame one that a schedule leads to?
     pub is_reached: fn(i32, &Hop, u32) -> bool,
     /// Of ways that the least hold leads to one frame: does the one from a later frame take the place of the earlier one?
@@ -65,11 +68,12 @@ pub struct Method {
 /// The method without a mistake.
 pub const RIGHT: Method = Method {
     reference: route::reference,
-    least_hold: 1,
+    least_hold: |_, here| here.least,
+    cost: |least_hold, _| least_hold,
     is_reached: |delay, _, _| delay < NEVER,
     gathers: |earlier, later| later.delay < earlier.delay,
     prefers: |_, shorter, longer| longer.delay < shorter.delay,
-    window: |here| here.range,
+    window: Hop::holds,
     block: |first, whole, here| whole.min(here.frames - first),
     back: |first, frame, here| Some(((first + here.frames - frame) % here.frames) as i32),
     before_block: |after, window| window - 1 - after,
@@ -79,7 +83,7 @@ pub const RIGHT: Method = Method {
     kept: |delay| delay,
     wipes: true,
     ends: |earlier, later| later < earlier,
-    counted: |here| here.range,
+    counted: Hop::holds,
     counts: |here, place| has(here.free, place % here.frames),
 };
 
@@ -161,16 +165,17 @@ impl Step<'_> {
             ..
         } = self;
         let is_reached = |&frame: &u32| (method.is_reached)(delays[frame as usize], before, frame);
-        let nearest = |frame| {
+        let least_hold = (method.least_hold)(before, here);
+        let nearest = move |frame| {
             let reference = (method.reference)(frame, before, here);
-            ((reference + method.least_hold) % here.frames) as usize
+            ((reference + least_hold) % here.frames) as usize
         };
         let reached = (0..before.frames).filter(is_reached);
         reached.map(move |frame| (frame, nearest(frame)))
     }
 
-    /// The transitions considered: for each frame that is reached the free frames among the Z from its nearest on. Their
-    /// number for each frame comes from that for the frame before it.
+    /// The transitions considered: for each frame that is reached the free frames among the Z - Y + 1 from its nearest on.
+    /// Their number for each frame comes from that for the frame before it.
     fn count(&self, delays: &Delays) -> u32 {
         let frame = |place| u32::from((self.method.counts)(self.here, place));
         let counted = (self.method.counted)(self.here);
@@ -204,8 +209,9 @@ impl Step<'_> {
     /// For each frame the best of the ways that the least hold leads there.
     fn gathered(&self, delays: &Delays) -> Vec<Option<Way>> {
         let mut gathered: Vec<Option<Way>> = vec![None; self.here.frames as usize];
+        let least_hold = (self.method.least_hold)(self.before, self.here);
+        let held = (self.method.cost)(least_hold, self.here) as i32 * self.time;
         for (preceding, nearest) in self.reached(delays) {
-            let held = self.method.least_hold as i32 * self.time;
             let delay = delays[preceding as usize] + held;
             let way = Way { delay, preceding };
             let place = &mut gathered[nearest];

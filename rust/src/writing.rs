@@ -1,7 +1,7 @@
 //! Network files written, compared with the model: of a file that was read, and of a network given as values.
 
 use crate::lent::Lent;
-use crate::network_file::{check_link, write_again, write_network};
+use crate::network_file::{check_closed, check_least, check_link, write_again, write_network};
 use crate::network_file::{Link, Network, Refusal, Values};
 use crate::networks;
 use crate::random::{enough_room, too_little_room, Random};
@@ -11,8 +11,8 @@ use crate::stand_in::{Image, Write};
 use crate::tried::Tried;
 use crate::wrong_writing;
 
-/// The longest image: three bytes, and eleven for each of 32 links.
-const LONGEST: usize = 3 + 32 * 11;
+/// The longest image: three bytes, and twelve for each of 32 links.
+const LONGEST: usize = 3 + 32 * 12;
 
 /// The functions under test, and what has been seen of them so far.
 pub struct Writing {
@@ -23,11 +23,14 @@ pub struct Writing {
     /// Files written again; refused, and with too little room.
     images: [Sort; 3],
     /// Values written, and each refusal.
-    values: [Sort; 7],
-    /// Written, with such a value.
+    values: [Sort; 8],
+    /// Written, with such a value; the same of Y.
     passed: [Sort; 10],
-    /// Refused for such a value.
+    least_passed: [Sort; 5],
+    /// Refused for such a value; for such a Y; and with 7, 8 or 21 where the link breaks another one of 21 and 9 too.
     refused: [Sort; 10],
+    least_refused: [Sort; 5],
+    several: [Sort; 3],
     pub wrong_images: Tried<Box<Image>>,
     pub wrong_writers: Tried<Box<Write>>,
 }
@@ -52,6 +55,7 @@ impl Writing {
                 sort("with 3:", 10_000),
                 sort("with 7:", 30_000),
                 sort("with 8:", 25_000),
+                sort("with 21:", 20_000),
                 sort("with 9:", 20_000),
                 sort("with 20:", 40_000),
             ],
@@ -67,6 +71,13 @@ impl Writing {
                 sort("frame K - 1 closed", 20_000),
                 sort("lists of unequal length", 5_000),
             ],
+            least_passed: [
+                sort("0:", 10_000),
+                sort("1:", 20_000),
+                sort("2 or more:", 10_000),
+                sort("Z:", 10_000),
+                sort("0 with Z K - 1:", 5_000),
+            ],
             refused: [
                 sort("no link", 3_000),
                 sort("33 links", 1_500),
@@ -78,6 +89,18 @@ impl Writing {
                 sort("Z 0:", 3_000),
                 sort("Z K + 1:", 4_000),
                 sort("frame K closed", 10_000),
+            ],
+            least_refused: [
+                sort("Z + 1:", 5_000),
+                sort("above Z + 1:", 5_000),
+                sort("0 with Z K:", 3_000),
+                sort("0 with K 1:", 300),
+                sort("256 or more:", 3_000),
+            ],
+            several: [
+                sort("with 7 where 21 would refuse too:", 1_000),
+                sort("with 8 where 21 would refuse too:", 1_000),
+                sort("with 21 where 9 would refuse too:", 1_000),
             ],
             wrong_images: Tried::new("image", wrong_writing::images()),
             wrong_writers: Tried::new("writer", wrong_writing::writers()),
@@ -140,22 +163,31 @@ impl Writing {
             Ok(_) => 0,
             Err(refusal) => *refusal,
         };
-        let is_of = [0, 2, 3, 7, 8, 9, 20].map(|of| outcome == of);
+        let is_of = [0, 2, 3, 7, 8, 21, 9, 20].map(|of| outcome == of);
         add_each(&mut self.values, &is_of);
         if outcome == 0 {
             add_each(&mut self.passed, &edges_passed(values, network));
+            add_each(&mut self.least_passed, &least_holds_passed(network));
         } else {
             add_each(&mut self.refused, &edges_refused(network, outcome));
+            let bad = bad_link(network).filter(|_| matches!(outcome, 7..=9 | 21));
+            if let Some(bad) = bad {
+                add_each(&mut self.least_refused, &least_holds_refused(bad, outcome));
+                add_each(&mut self.several, &several_refused(bad, outcome));
+            }
         }
     }
 
     // ---- What was seen ----
 
-    fn lines(&self) -> [Line<'_>; 3] {
+    fn lines(&self) -> [Line<'_>; 6] {
         [
             ("", &self.values),
             ("written: ", &self.passed),
+            ("written: Y ", &self.least_passed),
             ("refused: ", &self.refused),
+            ("refused: Y ", &self.least_refused),
+            ("refused ", &self.several),
         ]
     }
 
@@ -181,7 +213,12 @@ impl Writing {
 /// On which edges the values of a network that passes its checks lie, in the order of `passed`.
 fn edges_passed(values: &Values, network: &Network) -> [bool; 10] {
     let any = |is: fn(&Link) -> bool| network.links.iter().any(is);
-    let lengths = [values.frames.len(), values.range.len(), values.closed.len()];
+    let lengths = [
+        values.frames.len(),
+        values.range.len(),
+        values.closed.len(),
+        values.least.len(),
+    ];
     [
         network.links.len() == 1,
         network.links.len() == 32,
@@ -192,14 +229,59 @@ fn edges_passed(values: &Values, network: &Network) -> [bool; 10] {
         any(|link| link.range == 1),
         any(|link| link.range == link.frames),
         any(|link| route::has(link.closed, link.frames - 1)),
-        lengths != [network.links.len(); 3],
+        lengths != [network.links.len(); 4],
+    ]
+}
+
+/// Which least holds a network has that passes its checks, in the order of `least_passed`.
+pub fn least_holds_passed(network: &Network) -> [bool; 5] {
+    let any = |is: fn(&Link) -> bool| network.links.iter().any(is);
+    [
+        any(|link| link.least == 0),
+        any(|link| link.least == 1),
+        any(|link| link.least > 1),
+        any(|link| link.least == link.range),
+        any(|link| link.least == 0 && link.range + 1 == link.frames),
+    ]
+}
+
+/// The first link that doesn't pass its checks.
+fn bad_link(network: &Network) -> Option<&Link> {
+    let mut links = network.links.iter();
+    links.find(|link| check_link(network.ticks, link).is_err())
+}
+
+/// For which least hold a link is refused, in the order of `least_refused`.
+pub fn least_holds_refused(link: &Link, refusal: Refusal) -> [bool; 5] {
+    let Link {
+        frames,
+        range,
+        least,
+        ..
+    } = *link;
+    let edges = [
+        least == range + 1,
+        least > range + 1,
+        least == 0 && frames > 1,
+        least == 0 && frames == 1,
+        least > 255,
+    ];
+    edges.map(|is_edge| refusal == 21 && is_edge)
+}
+
+/// With which check a link is refused where another one would refuse it too, in the order of `several`.
+pub fn several_refused(link: &Link, refusal: Refusal) -> [bool; 3] {
+    let is_least = check_least(link).is_err();
+    [
+        refusal == 7 && is_least,
+        refusal == 8 && is_least,
+        refusal == 21 && check_closed(link).is_err(),
     ]
 }
 
 /// Over which edge the value lies for which a network is refused, in the order of `refused`.
 fn edges_refused(network: &Network, refusal: Refusal) -> [bool; 10] {
-    let mut links = network.links.iter();
-    let bad = links.find(|link| check_link(network.ticks, link).is_err());
+    let bad = bad_link(network);
     let is = |of: Refusal, condition: bool| refusal == of && condition;
     let is_bad = |of: Refusal, condition: fn(&Link) -> bool| is(of, bad.is_some_and(condition));
     [
@@ -258,6 +340,7 @@ mod tests {
             frames,
             range,
             closed,
+            least: 1,
         };
         Network {
             ticks,
@@ -301,8 +384,51 @@ mod tests {
             let values = Values::of(&network);
             assert_eq!(places(edges_passed(&values, &network)), edges);
             let mut unequal = values;
-            unequal.closed.push(0);
+            unequal.least.push(0);
             assert!(edges_passed(&unequal, &network)[9]);
         }
+    }
+
+    #[test]
+    fn edges_of_least_holds() {
+        let link = |frames, range, closed, least| Link {
+            frames,
+            range,
+            closed,
+            least,
+        };
+        let passed = |link: &Link| {
+            let links = vec![link.clone()];
+            assert_eq!(check_link(48, link), Ok(()));
+            least_holds_passed(&Network { ticks: 48, links })
+        };
+        assert_eq!(
+            passed(&link(8, 6, 0, 0)),
+            [true, false, false, false, false]
+        );
+        assert_eq!(passed(&link(8, 7, 0, 0)), [true, false, false, false, true]);
+        assert_eq!(passed(&link(8, 1, 0, 1)), [false, true, false, true, false]);
+        assert_eq!(passed(&link(8, 8, 0, 8)), [false, false, true, true, false]);
+        // Each refused link has such a Y, and breaks so many of 7, 8 and 21 with the check that comes after.
+        let refused = [
+            (link(8, 2, 0, 3), 21, Some(0), None),
+            (link(8, 2, 256, 4), 21, Some(1), Some(2)),
+            (link(8, 8, 0, 0), 21, Some(2), None),
+            (link(1, 1, 2, 0), 21, Some(3), Some(2)),
+            (link(7, 2, 0, 3), 7, None, Some(0)),
+            (link(8, 0, 0, 1), 8, None, Some(1)),
+            (link(8, 0, 0, 0), 8, None, None),
+        ];
+        for (link, refusal, least, several) in refused {
+            assert_eq!(check_link(48, &link), Err(refusal));
+            let is_of = |place| move |edge| Some(edge) == place;
+            let places: [usize; 5] = std::array::from_fn(|place| place);
+            let edges = least_holds_refused(&link, refusal);
+            assert_eq!(edges, places.map(is_of(least)));
+            let edges = several_refused(&link, refusal);
+            assert_eq!(edges, [0, 1, 2].map(is_of(several)));
+        }
+        let edges = least_holds_refused(&link(8, 2, 0, 257), 21);
+        assert_eq!(edges, [false, true, false, false, true]);
     }
 }

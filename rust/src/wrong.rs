@@ -32,26 +32,26 @@ pub(crate) fn by_rules(name: &'static str, rules: impl Rules + 'static) -> Wrong
 
 /// A schedule of the first hops.
 #[derive(Clone)]
-struct Way {
+pub(crate) struct Way {
     delay: u32,
     frames: Vec<u32>,
     holds: Vec<u32>,
 }
 
 /// A transition of a schedule, and the cycle of the hop before.
-struct Step<'a> {
-    cycle: u8,
-    preceding: u32,
-    before: &'a Hop,
-    frame: u32,
-    here: &'a Hop,
-    reference: u32,
-    hold: u32,
+pub(crate) struct Step<'a> {
+    pub cycle: u8,
+    pub preceding: u32,
+    pub before: &'a Hop,
+    pub frame: u32,
+    pub here: &'a Hop,
+    pub reference: u32,
+    pub hold: u32,
 }
 
 /// Which pairs a student counts.
 #[derive(Clone, Copy)]
-enum Counting {
+pub(crate) enum Counting {
     FromFramesThatEndASchedule,
     WithoutDeadEnds,
     FromFreeFrames,
@@ -60,20 +60,21 @@ enum Counting {
 
 /// A search hop by hop that keeps the best way to each frame, made of single rules to be replaced.
 #[derive(Clone, Copy)]
-struct Student {
-    reference: fn(u32, &Hop, &Hop) -> u32,
-    hold: fn(u32, u32, u32) -> u32,
-    delay: fn(u32, u32, &Hop, &Hop) -> u32,
-    order: fn(&Way) -> Vec<u32>,
-    counting: Counting,
-    first_cycle: u8,
-    next_cycle: fn(&Step) -> u8,
+pub(crate) struct Student {
+    pub reference: fn(u32, &Hop, &Hop) -> u32,
+    /// The hold from a reference frame to a frame, if there is one, by the hop before and the hop itself.
+    pub hold: fn(u32, u32, &Hop, &Hop) -> Option<u32>,
+    pub delay: fn(u32, u32, &Hop, &Hop) -> u32,
+    pub order: fn(&Way) -> Vec<u32>,
+    pub counting: Counting,
+    pub first_cycle: u8,
+    pub next_cycle: fn(&Step) -> u8,
 }
 
 /// The search without a mistake.
-const RIGHT: Student = Student {
+pub(crate) const RIGHT: Student = Student {
     reference: route::reference,
-    hold: route::hold,
+    hold: |reference, frame, _before, here| route::hold(reference, frame, here),
     delay: |hold, ticks, _first, here| route::delay(hold, ticks, here),
     order: going_back,
     counting: Counting::FromFramesThatEndASchedule,
@@ -97,13 +98,21 @@ pub(crate) fn wrong_searches() -> Vec<Wrong<Text>> {
     all
 }
 
+/// The hold where 0 is one too, whose place the whole cycle would have with a least hold of 1.
+pub(crate) fn hold_from_zero(reference: u32, frame: u32, here: &Hop) -> Option<u32> {
+    match here.least {
+        1 => route::hold(reference, frame, &Hop { least: 0, ..*here }),
+        _ => route::hold(reference, frame, here),
+    }
+}
+
 fn wrong_schedules() -> Vec<Wrong<Text>> {
     let student = |name, student: Student| by_rules(name, student);
     vec![
         student(
             "a hold of 0 allowed",
             Student {
-                hold: |reference, frame, frames| (frame + frames - reference) % frames,
+                hold: |reference, frame, _, here| hold_from_zero(reference, frame, here),
                 ..RIGHT
             },
         ),
@@ -205,7 +214,8 @@ fn wrong_cycles() -> Vec<Wrong<Text>> {
             route::next_cycle(step.cycle, step.reference, step.hold + 1, step.here)
         }),
         next_cycle("next cycle one frame too late", |step| {
-            route::next_cycle(step.cycle, step.reference, step.hold - 1, step.here)
+            let end = (step.reference + step.hold).saturating_sub(1);
+            route::next_cycle(step.cycle, 0, end, step.here)
         }),
         next_cycle("next cycle by K of the hop before", |step| {
             route::next_cycle(step.cycle, step.reference, step.hold, step.before)
@@ -255,14 +265,13 @@ fn frames_of(ways: &[Way]) -> u64 {
 }
 
 impl Student {
-    fn hold_of(&self, preceding: u32, before: &Hop, frame: u32, here: &Hop) -> u32 {
+    fn hold_of(&self, preceding: u32, before: &Hop, frame: u32, here: &Hop) -> Option<u32> {
         let reference = (self.reference)(preceding, before, here);
-        (self.hold)(reference, frame, here.frames)
+        (self.hold)(reference, frame, before, here)
     }
 
     fn allowed(&self, preceding: u32, before: &Hop, frame: u32, here: &Hop) -> bool {
-        let hold = self.hold_of(preceding, before, frame, here);
-        route::has(here.free, frame) && hold <= here.range
+        route::has(here.free, frame) && self.hold_of(preceding, before, frame, here).is_some()
     }
 
     /// The best way into a frame of hop j over the best ways of the hop before.
@@ -276,24 +285,24 @@ impl Student {
     ) -> Option<Way> {
         let (before, here) = (&hops[j - 1], &hops[j]);
         ways.iter()
-            .filter(|way| self.allowed(way.frames[j - 1], before, frame, here))
-            .map(|way| {
-                let hold = self.hold_of(way.frames[j - 1], before, frame, here);
+            .filter(|_| route::has(here.free, frame))
+            .filter_map(|way| {
+                let hold = self.hold_of(way.frames[j - 1], before, frame, here)?;
                 let mut longer = way.clone();
                 longer.delay += (self.delay)(hold, ticks, &hops[0], here);
                 longer.frames.push(frame);
                 longer.holds.push(hold);
-                longer
+                Some(longer)
             })
             .min_by_key(|way| (self.order)(way))
     }
 
     /// The cycle of each hop of a schedule.
-    fn cycles(&self, hops: &[Hop], frames: &[u32]) -> Vec<u8> {
+    fn cycles(&self, hops: &[Hop], way: &Way) -> Vec<u8> {
         let mut cycles = vec![self.first_cycle];
         for j in 1..hops.len() {
             let (before, here) = (&hops[j - 1], &hops[j]);
-            let (preceding, frame) = (frames[j - 1], frames[j]);
+            let (preceding, frame) = (way.frames[j - 1], way.frames[j]);
             let step = Step {
                 cycle: cycles[j - 1],
                 preceding,
@@ -301,7 +310,7 @@ impl Student {
                 frame,
                 here,
                 reference: (self.reference)(preceding, before, here),
-                hold: self.hold_of(preceding, before, frame, here),
+                hold: way.holds[j - 1],
             };
             cycles.push((self.next_cycle)(&step));
         }
@@ -323,7 +332,7 @@ impl Student {
                 delay: way.delay,
                 count,
                 frames: bytes(&way.frames),
-                cycles: self.cycles(hops, &way.frames),
+                cycles: self.cycles(hops, &way),
             },
         }
     }
@@ -377,10 +386,10 @@ impl Rules for Nearest {
             let nearest = (0..hop[1].frames)
                 .filter(|&frame| route::allowed(last, &hop[0], frame, &hop[1]))
                 .min_by_key(hold);
-            let Some(frame) = nearest else {
+            let Some((frame, hold)) = nearest.and_then(|frame| Some((frame, hold(&frame)?))) else {
                 return Answer::Blocked { count };
             };
-            delay += route::delay(hold(&frame), ticks, &hop[1]);
+            delay += route::delay(hold, ticks, &hop[1]);
             frames.push(frame);
         }
         let frames = bytes(&frames);
@@ -576,7 +585,7 @@ fn read_by(
 mistake! { StrayBitFirst,
     fn read(&self, file: &[u8]) -> Result<Network, Refusal> {
         let record = |bytes: &[u8]| {
-            refuse(5, bytes.first().is_some_and(|&map| map > 7))?;
+            refuse(5, bytes.first().is_some_and(|&map| map > 15))?;
             read_link(bytes)
         };
         read_by(file, record, check_link)

@@ -8,7 +8,7 @@ use crate::stand_in::{change, put, stored, ways, Ways};
 use crate::tried::Wrong;
 use crate::way_calls::faults;
 use crate::ways::{is_open, number, product};
-use crate::wrong::{FreeNothing, GoesOn, NoLimit, QuoteHolds, RouteLinkByLink};
+use crate::wrong::{hold_from_zero, FreeNothing, GoesOn, NoLimit, QuoteHolds, RouteLinkByLink};
 use crate::wrong_numbers::THREE_KINDS;
 
 /// All wrong numbers of schedules.
@@ -115,7 +115,7 @@ fn wrong_hops() -> Vec<Wrong<Box<Ways>>> {
 fn number_by(
     hops: &[Hop],
     reference: fn(u32, &Hop, &Hop) -> u32,
-    hold: fn(u32, u32, u32) -> u32,
+    hold: fn(u32, u32, &Hop) -> Option<u32>,
 ) -> u64 {
     let mut ending: Vec<u64> = (0..64).map(|frame| hops[0].free >> frame & 1).collect();
     for hop in hops.windows(2) {
@@ -124,7 +124,7 @@ fn number_by(
         for preceding in 0..before.frames {
             let reference = reference(preceding, before, here);
             for frame in (0..here.frames).filter(|&frame| route::has(here.free, frame)) {
-                if hold(reference, frame, here.frames) <= here.range {
+                if hold(reference, frame, here).is_some() {
                     next[frame as usize] += ending[preceding as usize];
                 }
             }
@@ -143,9 +143,7 @@ fn wrong_transitions() -> Vec<Wrong<Box<Ways>>> {
             number(&with_ranges(hops, |hop| hop.range - 1))
         }),
         counts("a hold of 0 counted for a whole cycle", |_, _, hops| {
-            number_by(&hops, route::reference, |reference, frame, frames| {
-                (frame + frames - reference) % frames
-            })
+            number_by(&hops, route::reference, hold_from_zero)
         }),
         counts(
             "reference of a frame's first bit, as before W-201",
@@ -156,14 +154,10 @@ fn wrong_transitions() -> Vec<Wrong<Box<Ways>>> {
             },
         ),
         counts("holds not going round the cycle", |_, _, hops| {
-            number_by(
-                &hops,
-                route::reference,
-                |reference, frame, frames| match frame.checked_sub(reference) {
-                    None | Some(0) => frames + 1,
-                    Some(ahead) => ahead,
-                },
-            )
+            number_by(&hops, route::reference, |reference, frame, here| {
+                let ahead = frame.checked_sub(reference)?;
+                (here.least..=here.range).contains(&ahead).then_some(ahead)
+            })
         }),
     ]
 }
@@ -198,10 +192,10 @@ fn wrong_numbers() -> Vec<Wrong<Box<Ways>>> {
             product(&hops)
         }),
         counts(
-            "product of all ranges where no frame is taken",
+            "product of the holds of all hops where no frame is taken",
             |_, _, hops| {
                 if is_open(&hops) {
-                    return hops.iter().map(|hop| u64::from(hop.range)).product();
+                    return hops.iter().map(|hop| u64::from(hop.holds())).product();
                 }
                 number(&hops)
             },

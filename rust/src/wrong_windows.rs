@@ -19,14 +19,14 @@ fn wrong(name: &'static str, does: Method) -> Wrong<Method> {
     Wrong { name, does }
 }
 
-/// One frame fewer than the range has.
+/// One frame fewer than a window has.
 fn one_short(here: &Hop) -> u32 {
-    here.range - 1
+    here.holds() - 1
 }
 
 /// One frame more, where the cycle has one.
 fn one_long(here: &Hop) -> u32 {
-    here.frames.min(here.range + 1)
+    here.frames.min(here.holds() + 1)
 }
 
 fn wrong_windows() -> Vec<Wrong<Method>> {
@@ -114,7 +114,7 @@ fn wrong_gathering() -> Vec<Wrong<Method>> {
         wrong(
             "least hold 0",
             Method {
-                least_hold: 0,
+                least_hold: |_, _| 0,
                 ..RIGHT
             },
         ),

@@ -96,7 +96,7 @@ fn wrong_buffers() -> Vec<Wrong<Box<Write>>> {
             "records put before a later link is refused",
             |values, out| {
                 let answer = stand_in::write(values, out);
-                if let Err(7..=9) = answer {
+                if let Err(7..=9 | 21) = answer {
                     put_what_fits(&image(&values.network()), out);
                 }
                 answer
@@ -173,6 +173,9 @@ fn wrong_networks() -> Vec<Wrong<Box<Write>>> {
                 .range
                 .resize(values.frames.len(), ABSENT.range as u16);
             values.closed.resize(values.frames.len(), ABSENT.closed);
+            values
+                .least
+                .resize(values.frames.len(), ABSENT.least as u16);
             values.network()
         }),
         means("links after the 32nd left out", |values| {

@@ -7,7 +7,7 @@ use std::time::{Duration, Instant};
 use frames_check::call_records::{push_quote, push_release, push_set_up};
 use frames_check::library::{self, CALLS_MOST, TEXT_MOST};
 use frames_check::model::State;
-use frames_check::network_file::{image, Link, Network};
+use frames_check::network_file::{image, Link, Network, ABSENT};
 use frames_check::networks::{closed_frames, large_network, Closing};
 use frames_check::random::Random;
 use frames_check::route::{Answer, Hop, MAX_HOPS};
@@ -22,12 +22,13 @@ const QUOTES: usize = CALLS_MOST / (2 + MAX_HOPS);
 /// The calls in turn that a number of ways is timed by.
 const COUNTS: usize = 200;
 
-/// The bytes of net.bin: in a cycle of 960 ticks, links with 64 frames and one range.
+/// The bytes of net.bin: in a cycle of 960 ticks, links with 64 frames, one range and a least hold of 1.
 fn file_of(range: u32, closed: impl Iterator<Item = u64>) -> Vec<u8> {
     let link = |closed| Link {
         frames: 64,
         range,
         closed,
+        least: ABSENT.least,
     };
     image(&Network {
         ticks: 960,

@@ -134,8 +134,9 @@ fn write(values: &Values, out: &mut [u8]) -> Result<usize, u64> {
         frames,
         range,
         closed,
+        least,
     } = values;
-    library::write(*ticks, frames, range, closed, out)
+    library::write(*ticks, frames, range, closed, least, out)
 }
 
 impl Check {
@@ -230,7 +231,7 @@ impl Check {
         }
         self.worked_ways(file, &calls);
         let mut image = [0; 7];
-        let length = library::write(48, &[16, 8], &[4, 2], &[0, 0], &mut image);
+        let length = library::write(48, &[16, 8], &[4, 2], &[0, 0], &[1, 1], &mut image);
         if (length, image) != (Ok(7), [0x30, 0, 2, 0, 3, 8, 2]) {
             fail("the file of the example's values isn't the document's");
         }

@@ -6,6 +6,9 @@ use std::fmt::Debug;
 /// T = 48; links 0 and 1 have K 8 and Z 2.
 const NET: [u8; 9] = [0x30, 0x00, 0x02, 0x03, 0x08, 0x02, 0x03, 0x08, 0x02];
 
+/// The same, but that link 1 has a least hold Y of 0: its switch needs no frame to turn round.
+const NO_HOLD: [u8; 10] = [0x30, 0x00, 0x02, 0x03, 0x08, 0x02, 0x0b, 0x08, 0x02, 0x00];
+
 const CALLS: [u8; 21] = [
     0x01, 0x05, 0x00, 0x02, 0x00, 0x01, // set-up 5 over 0 1: frames 7 0, cycles 0 1, delay 6
     0x01, 0x05, 0x00, 0x02, 0x00, 0x01, // set-up 5 again: refused with 16
@@ -84,6 +87,12 @@ fn try_report() {
     // the second record is cut in its route
     let cut = "1 S ok 6 16 7 0 / 0 1\n2 ? no 11\nlive 1\n";
     assert_eq!(mixed(BOTH - 1), Ok(cut.into()));
+    // with Y 0 on link 1 frame 0 is sent on within frame 0; from each of 8 frames there are the holds 0, 1 and 2
+    let text = |file, calls| written(text_bound(4), |out| library::report(file, calls, out));
+    let quote = [0x02, 0x02, 0x00, 0x01];
+    let no_hold = "1 Q ok 0 24 0 0 / 0 0\nlive 0\n";
+    assert_eq!(text(&NO_HOLD, &quote), Ok(no_hold.into()));
+    assert_eq!(text(&ABOVE_RANGE, &quote), Ok("net no 21\n".into()));
     println!("library::report: as expected");
 }
 
@@ -111,6 +120,8 @@ fn try_lookup() {
     assert_eq!(lookup(&MIXED[..ONE], 5, 8), Err(19));
     assert_eq!(lookup(&MIXED[..ONE], 65_541, 8), Ok(beside.into()));
     assert_eq!(lookup(&MIXED, 65_541, 8), Err(19));
+    let no_hold = written(8, |out| library::lookup(&NO_HOLD, &CALLS[..LIVE], 5, out));
+    assert_eq!(no_hold, Ok(vec![2, 0, 0, 1, 0, 0, 0, 0]));
     println!("library::lookup: as expected");
 }
 
@@ -152,6 +163,9 @@ fn try_ways() {
     assert_eq!(ways(&NET, &TWO, &[0, 1], 1), Ok(vec![6 * 2 - 1]));
     assert_eq!(ways(&NET, &CALLS[..LIVE], &[0], 1), Ok(vec![7]));
     assert_eq!(ways(&BLOCKED, &[], &[0, 1], 1), Ok(vec![0]));
+    assert_eq!(ways(&NO_HOLD, &[], &[0, 1], 1), Ok(vec![8 * 3]));
+    assert_eq!(ways(&NO_HOLD, &[], &[1, 0], 1), Ok(vec![8 * 2]));
+    assert_eq!(ways(&ABOVE_RANGE, &[], &[], 0), Err(21));
     assert_eq!(ways(&NET, &CALLS[..LIVE], &[], 1), Err(12));
     assert_eq!(ways(&NET, &CALLS[..LIVE], &[0, 0, 2], 1), Err(13));
     assert_eq!(ways(&NET, &CALLS[..LIVE], &[0, 0], 1), Err(14));
@@ -177,30 +191,51 @@ fn try_image() {
     // the last record has no Z
     assert_eq!(image(&NET[..8], 8), Err(4));
     assert_eq!(image(&[], 0), Err(1));
+    assert_eq!(image(&NO_HOLD, 10), Ok(NO_HOLD.into()));
+    // the last record has no Y
+    assert_eq!(image(&NO_HOLD[..9], 9), Err(4));
+    assert_eq!(image(&ABOVE_RANGE, 0), Err(21));
     println!("library::image: as expected");
 }
 
+/// One link of K 16 and Z 4 with Y 5.
+const ABOVE_RANGE: [u8; 5] = [0x30, 0x00, 0x01, 0x08, 0x05];
+
 fn try_write() {
     let mut image = [0; IMAGE_MOST];
-    let length = library::write(48, &[16, 8], &[4, 2], &[0, 0], &mut image).expect("they pass");
-    // link 0 has the absent values alone, K 16 and Z 4; link 1 has K 8 and Z 2
+    let answer = library::write(48, &[16, 8], &[4, 2], &[0, 0], &[1, 1], &mut image);
+    let length = answer.expect("the values pass");
+    // link 0 has the absent values alone, K 16, Z 4 and Y 1; link 1 has K 8 and Z 2
     let expected = [0x30, 0x00, 0x02, 0x00, 0x03, 0x08, 0x02];
     assert_eq!(image[..length], expected);
 
-    let write = |ticks, frames, range, closed, room| {
+    let two = |least, room| {
         written(room, |out| {
-            library::write(ticks, frames, range, closed, out)
+            library::write(48, &[8, 8], &[2, 2], &[0, 0], least, out)
         })
     };
+    assert_eq!(two(&[1, 1], 9), Ok(NET.into()));
+    assert_eq!(two(&[1, 0], 10), Ok(NO_HOLD.into()));
+    assert_eq!(two(&[1, 0], 9), Err(20));
+    assert_eq!(two(&[1, 3], 9), Err(21));
     assert_eq!(
-        write(48, &[16, 8], &[4, 2], &[0, 0], 7),
-        Ok(expected.into())
+        two(&[1], 6),
+        Ok([0x30, 0x00, 0x01, 0x03, 0x08, 0x02].into())
     );
-    assert_eq!(write(48, &[16, 8], &[4, 2], &[0, 0], 6), Err(20));
-    assert_eq!(write(48, &[16, 8], &[4, 2], &[], IMAGE_MOST), Err(2));
-    assert_eq!(write(961, &[8], &[2], &[0], IMAGE_MOST), Err(3));
-    assert_eq!(write(48, &[5], &[2], &[0], IMAGE_MOST), Err(7));
-    assert_eq!(write(48, &[8], &[9], &[0], IMAGE_MOST), Err(8));
-    assert_eq!(write(48, &[8], &[2], &[1 << 8], 0), Err(9));
+    assert_eq!(two(&[], IMAGE_MOST), Err(2));
+
+    let write = |ticks, frames, range, closed, least| {
+        written(IMAGE_MOST, |out| {
+            library::write(ticks, &[frames], &[range], &[closed], &[least], out)
+        })
+    };
+    assert_eq!(write(961, 8, 2, 0, 1), Err(3));
+    assert_eq!(write(48, 5, 2, 0, 1), Err(7));
+    assert_eq!(write(48, 8, 9, 0, 1), Err(8));
+    // Y above Z, Y 0 with Z K, and of 21 and 9 the first
+    assert_eq!(write(48, 8, 2, 0, 3), Err(21));
+    assert_eq!(write(48, 8, 8, 0, 0), Err(21));
+    assert_eq!(write(48, 8, 2, 1 << 8, 3), Err(21));
+    assert_eq!(write(48, 8, 2, 1 << 8, 2), Err(9));
     println!("library::write: as expected");
 }
