@@ -30,6 +30,7 @@ pub mod widths;
 pub mod windows;
 pub mod writing;
 pub mod wrong;
+pub mod wrong_least;
 pub mod wrong_numbers;
 pub mod wrong_runs;
 pub mod wrong_state;

@@ -181,7 +181,8 @@ impl Record {
         }
     }
 
-    fn put(&self, bytes: &mut Vec<u8>) {
+    /// Puts the record behind the bytes.
+    pub fn put(&self, bytes: &mut Vec<u8>) {
         let map = u8::from(self.frames.is_some())
             | u8::from(self.range.is_some()) << 1
             | u8::from(self.closed.is_some()) << 2

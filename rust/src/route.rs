@@ -54,8 +54,8 @@ pub fn reference(frame: u32, before: &Hop, here: &Hop) -> u32 {
 
 /// The least number D from Y on with (reference + D) mod K = frame.
 pub fn first_fitting(reference: u32, frame: u32, here: &Hop) -> u32 {
-    let nearest = (reference + here.least) % here.frames;
-    here.least + (frame + here.frames - nearest) % here.frames
+    let ahead = frame as i32 - (reference + here.least) as i32;
+    here.least + ahead.rem_euclid(here.frames as i32) as u32
 }
 
 /// The hold: the one number from Y up to Z that fits, if there is one (W-206).

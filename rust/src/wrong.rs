@@ -6,7 +6,7 @@ use crate::network_file::{check_link, read_link, read_network, refuse};
 use crate::network_file::{Link, Network, Refusal, ABSENT};
 use crate::route::{self, Answer, Hop};
 use crate::tried::Wrong;
-use crate::wrong_numbers;
+use crate::{wrong_least, wrong_numbers};
 
 /// The text of a wrong model.
 pub type Text = Box<dyn Fn(&[u8], &[u8]) -> Vec<u8>>;
@@ -17,6 +17,7 @@ pub fn all() -> Vec<Wrong<Text>> {
     all.extend(wrong_calls());
     all.extend(wrong_numbers::all());
     all.extend(wrong_files());
+    all.extend(wrong_least::files());
     all.extend(wrong_texts());
     all
 }
@@ -54,6 +55,7 @@ pub(crate) struct Step<'a> {
 pub(crate) enum Counting {
     FromFramesThatEndASchedule,
     WithoutDeadEnds,
+    WithoutHoldsOfZero,
     FromFreeFrames,
     NoneWhenBlocked,
 }
@@ -76,25 +78,28 @@ pub(crate) const RIGHT: Student = Student {
     reference: route::reference,
     hold: |reference, frame, _before, here| route::hold(reference, frame, here),
     delay: |hold, ticks, _first, here| route::delay(hold, ticks, here),
-    order: going_back,
+    order: |way| way.going_back(|hold| hold),
     counting: Counting::FromFramesThatEndASchedule,
     first_cycle: 0,
     next_cycle: |step| route::next_cycle(step.cycle, step.reference, step.hold, step.here),
 };
 
-/// The document's order: delay, last frame, then going back hold and preceding frame.
-fn going_back(way: &Way) -> Vec<u32> {
-    let mut key = vec![way.delay];
-    for j in (1..way.frames.len()).rev() {
-        key.extend([way.frames[j], way.holds[j - 1]]);
+impl Way {
+    /// The document's order: delay, last frame, then going back hold and preceding frame; the holds by what stands for each.
+    pub fn going_back(&self, hold: fn(u32) -> u32) -> Vec<u32> {
+        let mut key = vec![self.delay];
+        for j in (1..self.frames.len()).rev() {
+            key.extend([self.frames[j], hold(self.holds[j - 1])]);
+        }
+        key.push(self.frames[0]);
+        key
     }
-    key.push(way.frames[0]);
-    key
 }
 
 pub(crate) fn wrong_searches() -> Vec<Wrong<Text>> {
     let mut all = wrong_schedules();
     all.extend(wrong_cycles());
+    all.extend(wrong_least::searches());
     all
 }
 
@@ -320,11 +325,10 @@ impl Student {
     fn answer(&self, hops: &[Hop], ends: &[u64], best: Option<Way>) -> Answer {
         let free: Vec<u64> = hops.iter().map(|hop| hop.free).collect();
         let count = match self.counting {
-            Counting::FromFramesThatEndASchedule => self.count(hops, ends, &free),
             Counting::WithoutDeadEnds => self.count(hops, ends, &self.lead_to_the_end(hops)),
             Counting::FromFreeFrames => self.count(hops, &free, &free),
             Counting::NoneWhenBlocked if best.is_none() => 0,
-            Counting::NoneWhenBlocked => self.count(hops, ends, &free),
+            _ => self.count(hops, ends, &free),
         };
         match best {
             None => Answer::Blocked { count },
@@ -337,14 +341,24 @@ impl Student {
         }
     }
 
-    /// The allowed pairs from the frames of one word to those of the other.
+    /// Does a pair count that is of the right words?
+    fn counts(&self, preceding: u32, before: &Hop, frame: u32, here: &Hop) -> bool {
+        let is_left_out = |hold| match self.counting {
+            Counting::WithoutHoldsOfZero => hold == 0,
+            _ => false,
+        };
+        let hold = self.hold_of(preceding, before, frame, here);
+        route::has(here.free, frame) && hold.is_some_and(|hold| !is_left_out(hold))
+    }
+
+    /// The pairs that count from the frames of one word to those of the other.
     fn count(&self, hops: &[Hop], from: &[u64], to: &[u64]) -> u32 {
         let mut pairs = 0;
         for j in 1..hops.len() {
             let (before, here) = (&hops[j - 1], &hops[j]);
             for preceding in (0..before.frames).filter(|&k| route::has(from[j - 1], k)) {
                 for frame in (0..here.frames).filter(|&i| route::has(to[j], i)) {
-                    pairs += u32::from(self.allowed(preceding, before, frame, here));
+                    pairs += u32::from(self.counts(preceding, before, frame, here));
                 }
             }
         }
@@ -560,7 +574,7 @@ fn wrong_calls() -> Vec<Wrong<Text>> {
 // ---- Mistakes in the network file ----
 
 /// Reads the file with the reader of a record and the checks of a link handed in.
-fn read_by(
+pub(crate) fn read_by(
     file: &[u8],
     record: impl Fn(&[u8]) -> Result<(Link, usize), Refusal>,
     check: impl Fn(u32, &Link) -> Result<(), Refusal>,

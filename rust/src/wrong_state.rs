@@ -8,6 +8,7 @@ use crate::stand_in::{change, free_frames, look_up, lookup, put, put_what_fits, 
 use crate::stand_in::{FreeFrames, Lookup};
 use crate::tried::Wrong;
 use crate::wrong::{FreeNothing, FreeOnEveryLink, GoesOn, NoLimit, NoMistake, QuoteHolds};
+use crate::wrong_least::{LEAST_IGNORED, NEXT_CYCLE_WITHOUT_HOLD};
 use crate::wrong_numbers::{ReleasedByLowBits, StoredIn16Bits, HIGH_BYTE_FIRST, THREE_KINDS};
 use std::cell::RefCell;
 
@@ -178,6 +179,8 @@ fn wrongly_found() -> Vec<Wrong<Box<Lookup>>> {
         looks_up_by("kinds 4 and 5 unreadable, as before W-205", THREE_KINDS),
         looks_up_by("four bytes of a number high byte first", HIGH_BYTE_FIRST),
         looks_up_by("numbers stored in 16 bits", StoredIn16Bits),
+        looks_up_by("Y ignored at set-up, as before W-206", LEAST_IGNORED),
+        looks_up_by("a hold of 0 into the next cycle", NEXT_CYCLE_WITHOUT_HOLD),
         wrong_lookup("last call byte not read", |file, calls, number, out| {
             let read = &calls[..calls.len().saturating_sub(1)];
             lookup(file, read, number, out)
@@ -347,6 +350,11 @@ fn wrong_words() -> Vec<Wrong<Box<FreeFrames>>> {
             free_word,
         ),
         counts_by("released by the low 16 bits", ReleasedByLowBits, free_word),
+        counts_by(
+            "Y ignored at set-up, as before W-206",
+            LEAST_IGNORED,
+            free_word,
+        ),
     ]
 }
 

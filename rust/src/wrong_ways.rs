@@ -9,12 +9,14 @@ use crate::tried::Wrong;
 use crate::way_calls::faults;
 use crate::ways::{is_open, number, product};
 use crate::wrong::{hold_from_zero, FreeNothing, GoesOn, NoLimit, QuoteHolds, RouteLinkByLink};
+use crate::wrong_least::LEAST_IGNORED;
 use crate::wrong_numbers::THREE_KINDS;
 
 /// All wrong numbers of schedules.
 pub fn all() -> Vec<Wrong<Box<Ways>>> {
     let mut all = wrong_hops();
     all.extend(wrong_transitions());
+    all.extend(wrong_least_holds());
     all.extend(wrong_numbers());
     all.extend(wrong_states());
     all.extend(wrong_refusals());
@@ -162,6 +164,56 @@ fn wrong_transitions() -> Vec<Wrong<Box<Ways>>> {
     ]
 }
 
+// ---- Other least holds ----
+
+/// The number where other holds than those from Y to Z are allowed.
+fn counts_holds(name: &'static str, hold: fn(u32, u32, &Hop) -> Option<u32>) -> Wrong<Box<Ways>> {
+    counts(name, move |_, _, hops| {
+        number_by(&hops, route::reference, hold)
+    })
+}
+
+/// The least number that fits from one up to another one, if there is one.
+fn hold_within(reference: u32, frame: u32, here: &Hop, least: u32, range: u32) -> Option<u32> {
+    let hop = Hop {
+        least,
+        range,
+        ..*here
+    };
+    route::hold(reference, frame, &hop)
+}
+
+fn wrong_least_holds() -> Vec<Wrong<Box<Ways>>> {
+    vec![
+        counts_holds("Y ignored, as before W-206", |reference, frame, here| {
+            hold_within(reference, frame, here, 1, here.range)
+        }),
+        counts_holds("holds from Y to Y + Z - 1", |reference, frame, here| {
+            let range = here.least + here.range - 1;
+            hold_within(reference, frame, here, here.least, range)
+        }),
+        counts_holds("a hold of Y left out", |reference, frame, here| {
+            hold_within(reference, frame, here, here.least + 1, here.range)
+        }),
+        counts_holds("Y 0 taken for 1", |reference, frame, here| {
+            hold_within(reference, frame, here, here.least.max(1), here.range)
+        }),
+        counts("Y of the link before", |_, _, mut hops| {
+            for j in (1..hops.len()).rev() {
+                hops[j].least = hops[j - 1].least;
+            }
+            number(&hops)
+        }),
+        counts("product of Z where no frame is taken", |_, _, hops| {
+            if is_open(&hops) {
+                let from_one = hops.iter().map(|&hop| Hop { least: 1, ..hop });
+                return product(&from_one.collect::<Vec<Hop>>());
+            }
+            number(&hops)
+        }),
+    ]
+}
+
 // ---- Other numbers ----
 
 /// How many frames of the last hop end a schedule.
@@ -233,6 +285,7 @@ fn wrong_states() -> Vec<Wrong<Box<Ways>>> {
         counts_by("bytes after the first 65,536 served", NoLimit),
         counts_by("calls after a broken record served", GoesOn),
         counts_by("kinds 4 and 5 unreadable, as before W-205", THREE_KINDS),
+        counts_by("Y ignored at set-up, as before W-206", LEAST_IGNORED),
     ]
 }
 

@@ -9,6 +9,8 @@ pub fn all() -> Vec<Wrong<Method>> {
     let mut all = wrong_windows();
     all.extend(wrong_blocks());
     all.extend(wrong_gathering());
+    all.extend(wrong_least_holds());
+    all.extend(wrong_costs());
     all.extend(wrong_ties());
     all.extend(wrong_counts());
     all.extend(wrong_delays());
@@ -136,6 +138,94 @@ fn wrong_gathering() -> Vec<Wrong<Method>> {
             "free frame gathered that nothing reaches",
             Method {
                 is_reached: |_, hop, frame| has(hop.free, frame),
+                ..RIGHT
+            },
+        ),
+    ]
+}
+
+/// Mistakes with where a least hold leads to, and with how many holds there are from it on.
+fn wrong_least_holds() -> Vec<Wrong<Method>> {
+    vec![
+        wrong(
+            "least hold 1 on every link",
+            Method {
+                least_hold: |_, _| 1,
+                ..RIGHT
+            },
+        ),
+        wrong(
+            "least hold of the link before",
+            Method {
+                least_hold: |before, _| before.least,
+                ..RIGHT
+            },
+        ),
+        wrong(
+            "a least hold of 0 taken for a whole cycle",
+            Method {
+                least_hold: |_, here| match here.least {
+                    0 => here.frames,
+                    least => least,
+                },
+                ..RIGHT
+            },
+        ),
+        wrong(
+            "window of Z frames",
+            Method {
+                window: |here| here.range,
+                ..RIGHT
+            },
+        ),
+        wrong(
+            "window of Z - Y frames",
+            Method {
+                window: |here| here.range - here.least,
+                ..RIGHT
+            },
+        ),
+        wrong(
+            "count of Z frames",
+            Method {
+                counted: |here| here.range,
+                ..RIGHT
+            },
+        ),
+    ]
+}
+
+/// Mistakes with the delay of a least hold.
+fn wrong_costs() -> Vec<Wrong<Method>> {
+    vec![
+        wrong(
+            "least hold without its delay",
+            Method {
+                cost: |_, _| 0,
+                ..RIGHT
+            },
+        ),
+        wrong(
+            "least hold with the delay of one frame",
+            Method {
+                cost: |_, _| 1,
+                ..RIGHT
+            },
+        ),
+        wrong(
+            "a least hold of 0 with the delay of one frame",
+            Method {
+                cost: |least_hold, _| least_hold.max(1),
+                ..RIGHT
+            },
+        ),
+        wrong(
+            "a least hold of 0 with the delay of a whole cycle",
+            Method {
+                cost: |least_hold, here| match least_hold {
+                    0 => here.frames,
+                    least_hold => least_hold,
+                },
                 ..RIGHT
             },
         ),

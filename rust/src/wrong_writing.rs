@@ -1,11 +1,12 @@
 //! Wrong writers of network files: of a file that was read, and of a network given as values.
 
+use crate::network_file::{check_closed, check_frames, check_least, check_range};
 use crate::network_file::{check_head, check_link, check_network, image, read_network, refuse};
 use crate::network_file::{write_again, write_network};
 use crate::network_file::{Draft, Link, Network, Record, Refusal, Values, ABSENT};
-use crate::route;
 use crate::stand_in::{self, change, put, put_what_fits, Image, Write};
 use crate::tried::Wrong;
+use crate::wrong_least::{check_with, CHECKS};
 
 // ---- A file read and written again ----
 
@@ -40,6 +41,19 @@ pub fn images() -> Vec<Wrong<Box<Image>>> {
             stand_in::image(file, out)?;
             put(&image(&network), out)
         }),
+        wrong("Y of no link written", |file, out| {
+            let mut network = read_network(file)?;
+            let links = network.links.iter_mut();
+            links.for_each(|link| link.least = ABSENT.least);
+            stand_in::image(file, out)?;
+            put(&image(&network), out)
+        }),
+        wrong("8 for 21", |file, out| {
+            stand_in::image(file, out).map_err(|refusal| match refusal {
+                21 => 8,
+                other => other,
+            })
+        }),
     ]
 }
 
@@ -49,8 +63,11 @@ pub fn images() -> Vec<Wrong<Box<Image>>> {
 pub fn writers() -> Vec<Wrong<Box<Write>>> {
     let mut all = wrong_buffers();
     all.extend(wrong_orders());
+    all.extend(wrong_places_of_21());
+    all.extend(wrong_checks());
     all.extend(wrong_networks());
     all.extend(wrong_records());
+    all.extend(wrong_least_holds());
     all
 }
 
@@ -147,15 +164,56 @@ fn wrong_orders() -> Vec<Wrong<Box<Write>>> {
             refuse(7, check_link(ticks, link) == Err(7))
         }),
         first_of_links("8 before 7", |ticks, link| {
-            refuse(8, link.range == 0 || link.range > link.frames)?;
+            check_range(link)?;
             check_link(ticks, link)
         }),
         first_of_links("9 before 8", |ticks, link| {
-            refuse(7, check_link(ticks, link) == Err(7))?;
-            refuse(9, link.closed & !route::ones(link.frames) != 0)?;
+            check_frames(ticks, link)?;
+            check_closed(link)?;
             check_link(ticks, link)
         }),
     ]
+}
+
+fn wrong_places_of_21() -> Vec<Wrong<Box<Write>>> {
+    vec![
+        first_of_links("21 before 7", |ticks, link| {
+            check_least(link)?;
+            check_link(ticks, link)
+        }),
+        first_of_links("21 before 8", |ticks, link| {
+            check_frames(ticks, link)?;
+            check_least(link)?;
+            check_link(ticks, link)
+        }),
+        first_of_links("21 after 9", |ticks, link| {
+            check_frames(ticks, link)?;
+            check_range(link)?;
+            check_closed(link)?;
+            check_link(ticks, link)
+        }),
+        first_of_links("21 of every link before 9 of the first", |ticks, link| {
+            check_frames(ticks, link)?;
+            check_range(link)?;
+            check_least(link)
+        }),
+    ]
+}
+
+/// A writer with another check in the place of 21.
+fn checks_by(name: &'static str, check: fn(&Link) -> Result<(), Refusal>) -> Wrong<Box<Write>> {
+    wrong(name, move |values, out| {
+        let network = values.network();
+        check_head(network.ticks, network.links.len())?;
+        let mut links = network.links.iter();
+        links.try_for_each(|link| check_with(network.ticks, link, check))?;
+        put(&image(&network), out)
+    })
+}
+
+fn wrong_checks() -> Vec<Wrong<Box<Write>>> {
+    let checks = CHECKS.into_iter();
+    checks.map(|(name, check)| checks_by(name, check)).collect()
 }
 
 /// Writes another network than the one that is meant.
@@ -202,6 +260,19 @@ fn wrong_networks() -> Vec<Wrong<Box<Write>>> {
             network.links.iter_mut().for_each(|link| link.range %= 256);
             network
         }),
+        means("Y cut to a byte", |values| {
+            let mut network = values.network();
+            network.links.iter_mut().for_each(|link| link.least %= 256);
+            network
+        }),
+        means("links without a Y taken for ones of Y 1", |values| {
+            let mut values = values.clone();
+            if values.least.len() < values.frames.len() {
+                let links = values.frames.len();
+                values.least.resize(links, ABSENT.least as u16);
+            }
+            values.network()
+        }),
     ]
 }
 
@@ -229,6 +300,38 @@ fn wrong_records() -> Vec<Wrong<Box<Write>>> {
         }),
         records("closed frames high byte first", |record| {
             record.closed = record.closed.map(u64::swap_bytes);
+        }),
+    ]
+}
+
+/// The image of a network in which Y stands before the closed frames.
+fn image_with_least_first(network: &Network) -> Vec<u8> {
+    let mut draft = Draft::of(network);
+    let records = std::mem::take(&mut draft.records);
+    let mut bytes = draft.bytes();
+    for record in records {
+        record.put(&mut bytes);
+        if let (Some(_), Some(_)) = (record.closed, record.least) {
+            let start = bytes.len() - 9;
+            bytes[start..].rotate_right(1);
+        }
+    }
+    bytes
+}
+
+fn wrong_least_holds() -> Vec<Wrong<Box<Write>>> {
+    vec![
+        records("absent Y written", |record| {
+            record.least.get_or_insert(ABSENT.least as u8);
+        }),
+        records("Y left out", |record| record.least = None),
+        records("Y 0 left out", |record| {
+            record.least = record.least.filter(|&least| least > 0);
+        }),
+        wrong("Y before the closed frames", |values, out| {
+            let network = values.network();
+            check_network(&network)?;
+            put(&image_with_least_first(&network), out)
         }),
     ]
 }
