@@ -1,7 +1,8 @@
 //! The routes compared with the listing: how many of each sort there were, and how many there have to be.
 
+use crate::least_holds::{self, sorts_of_routes, sorts_of_zeros};
 use crate::listing::Listed;
-use crate::route::{Answer, Hop, MAX_HOPS};
+use crate::route::{count_bound, Answer, Hop, MAX_HOPS};
 use crate::sorts::{add_cycle, add_each, sort, sorts_of_cycles, sorts_of_hops, Sort};
 use crate::sorts::{print_lines, too_few_in, Line};
 use std::collections::HashSet;
@@ -18,11 +19,30 @@ pub struct Compared {
     hops_of_schedules: [Sort; MAX_HOPS],
     /// Blocked; with a step to a faster link, to a slower one, and with both steps.
     steps: [Sort; 4],
-    /// In the order of `Decided`.
+    /// In the order of `Decided`; the same where the answer has a hold of 0.
     decided: [Sort; 5],
+    decided_with_zero: [Sort; 5],
     last_cycles: [Sort; 3],
     /// With a link whose K has a prime factor above 3, and with T no multiple of 24.
     numbers: [Sort; 2],
+    /// By their least holds: all, those that have a schedule, and those whose count is as large as it can be.
+    least_holds: [Sort; 5],
+    least_holds_of_schedules: [Sort; 5],
+    least_holds_at_bound: [Sort; 5],
+    /// Answers with a hold of 0.
+    zeros: [Sort; 4],
+}
+
+/// A sort for each rule of the order.
+fn sorts_of_rules(least: [usize; 5]) -> [Sort; 5] {
+    const NAMES: [&str; 5] = [
+        "delay",
+        "last frame",
+        "hold",
+        "preceding frame",
+        "only schedule",
+    ];
+    std::array::from_fn(|place| sort(NAMES[place], least[place]))
 }
 
 impl Default for Compared {
@@ -43,18 +63,17 @@ impl Default for Compared {
                 sort("to a slower link", 100_000),
                 sort("both", 80_000),
             ],
-            decided: [
-                sort("delay", 20_000),
-                sort("last frame", 40_000),
-                sort("hold", 3_000),
-                sort("preceding frame", 20_000),
-                sort("only schedule", 8_000),
-            ],
+            decided: sorts_of_rules([20_000, 40_000, 3_000, 20_000, 8_000]),
+            decided_with_zero: sorts_of_rules([1_000, 1_000, 100, 1_000, 100]),
             last_cycles: sorts_of_cycles([40_000, 30_000, 20_000]),
             numbers: [
                 sort("K with a prime factor above 3:", 50_000),
                 sort("T no multiple of 24:", 60_000),
             ],
+            least_holds: sorts_of_routes([40_000, 20_000, 20_000, 20_000, 5_000]),
+            least_holds_of_schedules: sorts_of_routes([20_000, 10_000, 10_000, 10_000, 2_000]),
+            least_holds_at_bound: sorts_of_routes([1_000, 1_000, 1_000, 500, 100]),
+            zeros: sorts_of_zeros([5_000, 1_000, 1_000, 1_000]),
         }
     }
 }
@@ -79,18 +98,20 @@ impl Compared {
                     "the text's answer isn't the listing's\ntext: {answer:?}\nlisting: {listing:?}"
                 ));
             }
-            self.add(listed);
+            self.add(listed)?;
         }
         Ok(())
     }
 
-    /// Counts a route whose answer was compared with the listing's.
-    fn add(&mut self, listed: &Listed) {
+    /// Counts a route whose answer was compared with the listing's; what is wrong with the answer itself, in words.
+    fn add(&mut self, listed: &Listed) -> Result<(), String> {
         self.answers += 1;
         let is_new = self.routes.insert(fingerprint(listed.ticks, &listed.hops));
         if is_new {
             self.add_different(listed);
+            self.add_least_holds(listed)?;
         }
+        Ok(())
     }
 
     fn add_different(&mut self, listed: &Listed) {
@@ -110,8 +131,26 @@ impl Compared {
         }
     }
 
+    fn add_least_holds(&mut self, listed: &Listed) -> Result<(), String> {
+        let hops = &listed.hops;
+        let sorts = least_holds::route(hops);
+        add_each(&mut self.least_holds, &sorts);
+        if is_count_at_bound(hops, &listed.answer)? {
+            add_each(&mut self.least_holds_at_bound, &sorts);
+        }
+        if let (Some(decided), Answer::Found { frames, cycles, .. }) =
+            (listed.decided, &listed.answer)
+        {
+            add_each(&mut self.least_holds_of_schedules, &sorts);
+            let zeros = least_holds::zeros(hops, frames, cycles)?;
+            add_each(&mut self.zeros, &zeros);
+            self.decided_with_zero[decided as usize].add(zeros[0]);
+        }
+        Ok(())
+    }
+
     /// The sorts line by line, each line with the words before it.
-    fn lines(&self) -> [Line<'_>; 6] {
+    fn lines(&self) -> [Line<'_>; 11] {
         [
             ("of ", &self.hops),
             ("not blocked: of ", &self.hops_of_schedules),
@@ -119,6 +158,11 @@ impl Compared {
             ("decided by ", &self.decided),
             ("last hop in cycle ", &self.last_cycles),
             ("", &self.numbers),
+            ("later Y: ", &self.least_holds),
+            ("not blocked: later Y: ", &self.least_holds_of_schedules),
+            ("count at its bound: later Y: ", &self.least_holds_at_bound),
+            ("holds of 0: ", &self.zeros),
+            ("holds of 0: decided by ", &self.decided_with_zero),
         ]
     }
 
@@ -134,6 +178,16 @@ impl Compared {
         let different = self.different.too_few();
         different.or_else(|| too_few_in(&self.lines()))
     }
+}
+
+/// Is the count of an answer the most that it can be? That it is more, in words.
+pub fn is_count_at_bound(hops: &[Hop], answer: &Answer) -> Result<bool, String> {
+    let (Answer::Found { count, .. } | Answer::Blocked { count }) = answer;
+    let bound = count_bound(hops);
+    if *count > bound {
+        return Err(format!("the count {count} is above its bound {bound}"));
+    }
+    Ok(*count == bound)
 }
 
 /// The answer that a line of a text shows, if it shows one: a schedule, or that there is none.
@@ -189,7 +243,7 @@ mod tests {
     use super::*;
     use crate::inputs::{self, Input};
     use crate::listing::{self, MOST_PATHS};
-    use crate::question_four::eight;
+    use crate::question_four::{eight, held_from};
     use crate::random::Random;
     use crate::route::ones;
     use crate::{dijkstra, model, wrong};
@@ -206,7 +260,8 @@ mod tests {
                 free: ones(frames),
             };
             let hops: Vec<Hop> = rates.iter().map(all_free).collect();
-            compared.add(&listing::list(*ticks, &hops));
+            let added = compared.add(&listing::list(*ticks, &hops));
+            assert_eq!(added, Ok(()));
         }
         compared
     }
@@ -309,7 +364,7 @@ mod tests {
             least: 1,
             free: 0,
         };
-        compared.add(&listing::list(24, &[closed]));
+        assert_eq!(compared.add(&listing::list(24, &[closed])), Ok(()));
         assert_eq!(seen(&compared.steps), [1, 0, 1, 0]);
         assert_eq!(seen(&compared.decided), [0, 2, 0, 1, 1]);
         assert_eq!(compared.hops[0].seen, 3);
@@ -321,6 +376,43 @@ mod tests {
         // With K 1 each hop is a cycle later. Over K 8 and K 4 frames 6 0 are found: reference frame 3 and hold 1.
         let routes: [(u32, &[u32]); 4] = [(24, &[1]), (24, &[1; 2]), (24, &[1; 8]), (24, &[8, 4])];
         assert_eq!(seen(&compared(&routes).last_cycles), [1, 2, 1]);
+    }
+
+    #[test]
+    fn routes_and_answers_by_their_least_holds() {
+        let all: Vec<u32> = (0..8).collect();
+        let (one, none) = (eight(&all), held_from(0, 8, 2, &all));
+        let mut compared = Compared::default();
+        // 7 0; 0 0 without a hold; 7 0 0, the last without one; and 6 0 with a hold of 2. Of each the count is 8 times the holds.
+        for route in [
+            &[one, one][..],
+            &[one, none],
+            &[one, one, none],
+            &[one, held_from(2, 8, 3, &all)],
+        ] {
+            assert_eq!(compared.add(&listing::list(48, route)), Ok(()));
+        }
+        assert_eq!(seen(&compared.least_holds), [1, 2, 1, 1, 0]);
+        assert_eq!(seen(&compared.least_holds_of_schedules), [1, 2, 1, 1, 0]);
+        assert_eq!(seen(&compared.least_holds_at_bound), [1, 2, 1, 1, 0]);
+        assert_eq!(seen(&compared.zeros), [2, 1, 0, 1]);
+        assert_eq!(seen(&compared.decided_with_zero), [0, 2, 0, 0, 0]);
+        // Blocked, with a count below the bound.
+        let blocked = [eight(&[3]), held_from(0, 8, 2, &[6])];
+        assert_eq!(compared.add(&listing::list(48, &blocked)), Ok(()));
+        assert_eq!(seen(&compared.least_holds), [1, 3, 1, 1, 0]);
+        assert_eq!(seen(&compared.least_holds_of_schedules), [1, 2, 1, 1, 0]);
+        assert_eq!(seen(&compared.least_holds_at_bound), [1, 2, 1, 1, 0]);
+    }
+
+    #[test]
+    fn counts_above_their_bound_are_found() {
+        let all: Vec<u32> = (0..8).collect();
+        let hops = [eight(&all), held_from(0, 8, 2, &all)];
+        let at_bound = |count| is_count_at_bound(&hops, &Answer::Blocked { count });
+        assert_eq!(at_bound(23), Ok(false));
+        assert_eq!(at_bound(24), Ok(true));
+        assert!(at_bound(25).is_err());
     }
 
     #[test]
@@ -340,8 +432,13 @@ mod tests {
             &mut compared.hops_of_schedules,
             &mut compared.steps,
             &mut compared.decided,
+            &mut compared.decided_with_zero,
             &mut compared.last_cycles,
             &mut compared.numbers,
+            &mut compared.least_holds,
+            &mut compared.least_holds_of_schedules,
+            &mut compared.least_holds_at_bound,
+            &mut compared.zeros,
         ] {
             assert!(sorts.iter().all(|sort| sort.least > 0));
             sorts.iter_mut().for_each(|sort| sort.seen = sort.least);

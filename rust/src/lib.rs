@@ -5,6 +5,7 @@ pub mod call_records;
 pub mod compared;
 pub mod dijkstra;
 pub mod inputs;
+pub mod least_holds;
 pub mod lent;
 pub mod library;
 pub mod listing;

@@ -1,7 +1,8 @@
 //! Quotes over routes of every number of frames, with many ties and windows that pass the cycle's end, compared with the model.
 
 use crate::call_records::push_quote;
-use crate::compared::{fingerprint, has_step};
+use crate::compared::{fingerprint, has_step, is_count_at_bound};
+use crate::least_holds::{self, sorts_of_passed, sorts_of_routes, sorts_of_zeros};
 use crate::lent::Lent;
 use crate::listing::{self, MOST_PATHS};
 use crate::model::{hops_of, room_for_run, transcript, Ledger};
@@ -45,6 +46,11 @@ pub struct Quotes {
     ends: [Sort; 1],
     /// Schedules of 8 hops with several ties that the hold decided, that the preceding frame did, and with several of each.
     several: [Sort; 3],
+    /// By the least holds of the route: those with a schedule, and those whose count is as large as it can be. Answers with a
+    /// hold of 0.
+    least_holds: [Sort; 5],
+    least_holds_at_bound: [Sort; 5],
+    zeros: [Sort; 4],
     entered: Entered,
     pub wrong: Tried<Method>,
 }
@@ -56,12 +62,19 @@ struct Entered {
     /// Z above 1 that doesn't divide K; and of these by the blocks of Z frames.
     blocks: [Sort; 4],
     unreached: [Sort; 1],
-    /// By K and Z, and by the K of the hop before and K.
+    /// By Y; ties where Y is 0 or above 1, and those where the hold is 0; ways that pass the cycle's end where Y isn't 1.
+    least_holds: [Sort; 5],
+    ties_by_least_hold: [Sort; 4],
+    ties_of_zeros: [Sort; 2],
+    ways_by_least_hold: [Sort; 2],
+    /// By K and Z, by the K of the hop before and K, by K and Y, and by K and the number of holds where Y isn't 1.
     ranges: Pairs,
     rates: Pairs,
+    least: Pairs,
+    holds: Pairs,
 }
 
-/// How often two numbers from 1 to 64 were seen together.
+/// How often two numbers from 0 to 64 were seen together.
 type Pairs = Vec<[usize; FRAMES + 1]>;
 
 impl Quotes {
@@ -96,6 +109,9 @@ impl Quotes {
                 sort("preceding frame", 2_500),
                 sort("each", 1_500),
             ],
+            least_holds: sorts_of_routes([20_000, 20_000, 20_000, 20_000, 5_000]),
+            least_holds_at_bound: sorts_of_routes([1_000, 1_000, 1_000, 500, 100]),
+            zeros: sorts_of_zeros([20_000, 5_000, 5_000, 5_000]),
             entered: Entered::new(),
             wrong: Tried::new("search", wrong_windows::all()),
         }
@@ -129,6 +145,7 @@ impl Quotes {
         });
         if self.routes.insert(fingerprint(network.ticks, hops)) {
             self.add(network.ticks, hops, &answer, is_listed);
+            self.add_least_holds(hops, &answer)?;
         }
         Ok(())
     }
@@ -162,6 +179,19 @@ impl Quotes {
         add_each(&mut self.delays, &[delay > 4_095, delay == MOST_DELAY]);
     }
 
+    fn add_least_holds(&mut self, hops: &[Hop], answer: &Answer) -> Result<(), String> {
+        let sorts = least_holds::route(hops);
+        if is_count_at_bound(hops, answer)? {
+            add_each(&mut self.least_holds_at_bound, &sorts);
+        }
+        if let Answer::Found { frames, cycles, .. } = answer {
+            add_each(&mut self.least_holds, &sorts);
+            let zeros = least_holds::zeros(hops, frames, cycles)?;
+            add_each(&mut self.zeros, &zeros);
+        }
+        Ok(())
+    }
+
     fn add_several(&mut self, entries: &[Entry]) {
         if entries.len() + 1 < MAX_HOPS {
             return;
@@ -172,7 +202,8 @@ impl Quotes {
         add_each(&mut self.several, &[by_hold, by_frame, by_hold && by_frame]);
     }
 
-    fn lines<'a>(&'a self, rarest: &'a [Sort; 3]) -> [Line<'a>; 13] {
+    fn lines<'a>(&'a self, rarest: &'a [Sort; 5]) -> [Line<'a>; 20] {
+        let entered = &self.entered;
         [
             ("", &self.quotes),
             ("of ", &self.hops),
@@ -185,10 +216,23 @@ impl Quotes {
                 "not blocked: of 8 hops, with three or more ties decided by ",
                 &self.several,
             ),
-            ("entered hops: tie decided by ", &self.entered.ties),
-            ("entered hops: past the cycle's end ", &self.entered.windows),
-            ("entered hops: ", &self.entered.blocks),
-            ("entered hops: ", &self.entered.unreached),
+            ("not blocked: later Y: ", &self.least_holds),
+            ("count at its bound: later Y: ", &self.least_holds_at_bound),
+            ("not blocked: holds of 0: ", &self.zeros),
+            ("entered hops: tie decided by ", &entered.ties),
+            ("entered hops: past the cycle's end ", &entered.windows),
+            ("entered hops: ", &entered.blocks),
+            ("entered hops: ", &entered.unreached),
+            ("entered hops: Y ", &entered.least_holds),
+            ("entered hops: tie, ", &entered.ties_by_least_hold),
+            (
+                "entered hops: hold 0, tie decided by ",
+                &entered.ties_of_zeros,
+            ),
+            (
+                "entered hops: way past the cycle's end, ",
+                &entered.ways_by_least_hold,
+            ),
             ("entered hops: rarest ", rarest),
         ]
     }
@@ -225,8 +269,19 @@ impl Entered {
                 "after a hop with a free frame that nothing reaches",
                 50_000,
             )],
+            least_holds: sorts_of_passed([50_000, 100_000, 50_000, 20_000, 10_000]),
+            ties_by_least_hold: [
+                sort("Y 0: decided by hold", 5_000),
+                sort("by preceding frame", 5_000),
+                sort("Y above 1: decided by hold", 5_000),
+                sort("by preceding frame", 5_000),
+            ],
+            ties_of_zeros: [sort("hold", 5_000), sort("preceding frame", 5_000)],
+            ways_by_least_hold: [sort("Y 0:", 1_000), sort("Y above 1:", 1_000)],
             ranges: pairs(),
             rates: pairs(),
+            least: pairs(),
+            holds: pairs(),
         }
     }
 
@@ -249,10 +304,38 @@ impl Entered {
         let [from, frames, range] = [before.frames, here.frames, here.range].map(|n| n as usize);
         self.ranges[frames][range] += 1;
         self.rates[frames][from] += 1;
+        self.add_least_hold(here, entry);
     }
 
-    /// How often the rarest K from 1 to 64 was entered; the rarest K with one of its Z; and the rarest K after one that fits.
-    fn rarest(&self) -> [Sort; 3] {
+    fn add_least_hold(&mut self, here: &Hop, entry: &Entry) {
+        let Hop {
+            frames,
+            range,
+            least,
+            ..
+        } = *here;
+        let (zero, above) = (least == 0, least > 1);
+        let sorts = least_holds::passed(frames, range, least);
+        add_each(&mut self.least_holds, &sorts);
+        let [by_hold, by_frame] = [entry.tie_by_hold, entry.tie_by_frame];
+        let ties = [
+            zero && by_hold,
+            zero && by_frame,
+            above && by_hold,
+            above && by_frame,
+        ];
+        add_each(&mut self.ties_by_least_hold, &ties);
+        let ties = [by_hold, by_frame].map(|tie| tie && entry.hold == 0);
+        add_each(&mut self.ties_of_zeros, &ties);
+        let ways = [zero, above].map(|least| least && entry.way_passes);
+        add_each(&mut self.ways_by_least_hold, &ways);
+        self.least[frames as usize][least as usize] += 1;
+        self.holds[frames as usize][here.holds() as usize] += usize::from(least != 1);
+    }
+
+    /// How often the rarest K from 1 to 64 was entered; the rarest K with one of its Z, and after one that fits; the rarest K above
+    /// 1 with one of its Y, and with one of its numbers of holds where Y isn't 1.
+    fn rarest(&self) -> [Sort; 5] {
         let least = |name, least, seen: &dyn Fn(usize) -> Option<usize>| {
             let seen = (1..=FRAMES).filter_map(seen).min().unwrap_or(0);
             Sort { name, least, seen }
@@ -266,6 +349,14 @@ impl Entered {
             least("K and K before", 25, &|frames| {
                 let before = (1..=FRAMES).filter(|&from| fits(from, frames));
                 before.map(|from| self.rates[frames][from]).min()
+            }),
+            least("K and Y", 1, &|frames| {
+                let seen = self.least[frames][..=frames].iter().copied().min();
+                seen.filter(|_| frames > 1)
+            }),
+            least("K and Z - Y + 1 but for Y 1", 5, &|frames| {
+                let seen = self.holds[frames][1..=frames].iter().copied().min();
+                seen.filter(|_| frames > 1)
             }),
         ]
     }
@@ -344,7 +435,7 @@ mod tests {
         let entered = &quotes.entered;
         assert_eq!((entered.ranges[8][3], entered.ranges[4][3]), (1, 1));
         assert_eq!((entered.rates[8][8], entered.rates[4][8]), (1, 1));
-        assert_eq!(seen(&entered.rarest()), [0, 0, 0]);
+        assert_eq!(seen(&entered.rarest()), [0; 5]);
         assert_eq!(seen(&entered.ties), [0, 0, 1]);
         assert_eq!(seen(&entered.windows), [2, 0]);
         assert_eq!(seen(&entered.blocks), [2, 0, 0, 0]);

@@ -42,6 +42,8 @@ pub struct StateCalls {
     /// the number, and by the number where a live one is alike.
     hops: [Sort; MAX_HOPS],
     last_cycles: [Sort; 3],
+    /// Shown, of two hops or more with no delay.
+    no_delay: [Sort; 1],
     numbers_shown: [Sort; 2],
     not_live: [Sort; 3],
     numbers_alike: [Sort; 2],
@@ -70,6 +72,7 @@ impl StateCalls {
             ],
             hops: sorts_of_hops([30_000, 10_000, 10_000, 8_000, 4_000, 3_000, 2_000, 1_500]),
             last_cycles: sorts_of_cycles([60_000, 20_000, 12_000]),
+            no_delay: [sort("delay 0 over two hops or more", 2_000)],
             numbers_shown: sorts_of_numbers([23_000, 44_000]),
             not_live: [
                 sort("in the call records", 100_000),
@@ -139,6 +142,7 @@ impl StateCalls {
                 self.lookups[0].add(true);
                 self.hops[usize::from(shown[0]) - 1].add(true);
                 add_cycle(&mut self.last_cycles, shown[shown.len() - 1].into());
+                self.no_delay[0].add(shown[0] > 1 && shown[1] == 0);
             }
             Err(19) => {
                 self.lookups[1].add(true);
@@ -233,11 +237,12 @@ impl StateCalls {
 
     // ---- What was seen ----
 
-    fn lookup_lines(&self) -> [Line<'_>; 6] {
+    fn lookup_lines(&self) -> [Line<'_>; 7] {
         [
             ("", &self.lookups),
             ("shown: of ", &self.hops),
             ("shown: last hop in cycle ", &self.last_cycles),
+            ("shown: ", &self.no_delay),
             ("shown: number ", &self.numbers_shown),
             ("refused with 19: ", &self.not_live),
             (

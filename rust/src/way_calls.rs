@@ -2,6 +2,7 @@
 
 use crate::compared::has_step;
 use crate::inputs::{any_route, bad_route, good_route, good_route_from, Case, Input};
+use crate::least_holds::{self, sorts_of_routes};
 use crate::lent::Lent;
 use crate::listing::{self, MOST_PATHS};
 use crate::model::{self, State, INPUT_LIMIT};
@@ -43,6 +44,9 @@ pub struct WayCalls {
     /// with both steps.
     hops_of_ways: [Sort; MAX_HOPS],
     steps: [Sort; 3],
+    /// By the least holds of the route: numbers that aren't 0, and those of routes whose frames are all free.
+    least_holds: [Sort; 5],
+    least_holds_of_open: [Sort; 5],
     pub wrong: Tried<Box<Ways>>,
 }
 
@@ -96,6 +100,8 @@ impl WayCalls {
                 sort("to a slower link", 10_000),
                 sort("both", 5_000),
             ],
+            least_holds: sorts_of_routes([10_000, 10_000, 5_000, 10_000, 2_000]),
+            least_holds_of_open: sorts_of_routes([1_000, 1_000, 1_000, 500, 100]),
             wrong: Tried::new("ways", wrong_ways::all()),
         }
     }
@@ -174,7 +180,13 @@ impl WayCalls {
         self.hops[hops.len() - 1].add(true);
         self.hops_of_ways[hops.len() - 1].add(number > 0);
         let (faster, slower) = (has_step(hops, u32::lt), has_step(hops, u32::gt));
-        if number > 0 && !ways::is_open(hops) {
+        let (is_open, least_holds) = (ways::is_open(hops), least_holds::route(hops));
+        if number > 0 {
+            add_each(&mut self.least_holds, &least_holds);
+        }
+        if is_open {
+            add_each(&mut self.least_holds_of_open, &least_holds);
+        } else if number > 0 {
             add_each(&mut self.steps, &[faster, slower, faster && slower]);
         }
     }
@@ -233,7 +245,7 @@ impl WayCalls {
 
     // ---- What was seen ----
 
-    fn lines(&self) -> [Line<'_>; 11] {
+    fn lines(&self) -> [Line<'_>; 13] {
         [
             ("after ", &self.states),
             ("", &self.calls),
@@ -249,6 +261,8 @@ impl WayCalls {
             ("counted: of ", &self.hops),
             ("not 0: of ", &self.hops_of_ways),
             ("not 0 and a frame taken: ", &self.steps),
+            ("not 0: later Y: ", &self.least_holds),
+            ("frames all free: later Y: ", &self.least_holds_of_open),
         ]
     }
 
@@ -333,7 +347,7 @@ pub fn faults(network: &Network, route: &[u8]) -> [bool; 4] {
 mod tests {
     use super::*;
     use crate::network_file::read_network;
-    use crate::question_four::eight;
+    use crate::question_four::{eight, held_from};
     use crate::{inputs, stand_in};
 
     /// Compares a function with the model on some inputs, most of them short.
@@ -378,6 +392,11 @@ mod tests {
         let open = [eight(&all); 8];
         assert_eq!(agrees(48, &open, 8 << 7), Ok(false));
         assert!(agrees(48, &open, 8 << 6).is_err());
+        // Without a hold there are three ways from each frame, and with a least hold of 2 one.
+        let open = [held_from(0, 8, 2, &all); 8];
+        assert_eq!(agrees(48, &open, 8 * 3u64.pow(7)), Ok(false));
+        assert!(agrees(48, &open, 8 << 7).is_err());
+        assert_eq!(agrees(48, &[held_from(2, 8, 2, &all); 8], 8), Ok(false));
     }
 
     #[test]

@@ -1,7 +1,8 @@
 //! Network files written, compared with the model: of a file that was read, and of a network given as values.
 
+use crate::least_holds::{self, sorts_of_passed, sorts_of_refused, sorts_of_several};
 use crate::lent::Lent;
-use crate::network_file::{check_closed, check_least, check_link, write_again, write_network};
+use crate::network_file::{check_link, write_again, write_network};
 use crate::network_file::{Link, Network, Refusal, Values};
 use crate::networks;
 use crate::random::{enough_room, too_little_room, Random};
@@ -27,9 +28,10 @@ pub struct Writing {
     /// Written, with such a value; the same of Y.
     passed: [Sort; 10],
     least_passed: [Sort; 5],
-    /// Refused for such a value; for such a Y; and with 7, 8 or 21 where the link breaks another one of 21 and 9 too.
+    /// Refused for such a value; for such a Y, and for one past a byte; where a later check would refuse the link too.
     refused: [Sort; 10],
-    least_refused: [Sort; 5],
+    least_refused: [Sort; 4],
+    past_a_byte: [Sort; 1],
     several: [Sort; 3],
     pub wrong_images: Tried<Box<Image>>,
     pub wrong_writers: Tried<Box<Write>>,
@@ -71,13 +73,7 @@ impl Writing {
                 sort("frame K - 1 closed", 20_000),
                 sort("lists of unequal length", 5_000),
             ],
-            least_passed: [
-                sort("0:", 10_000),
-                sort("1:", 20_000),
-                sort("2 or more:", 10_000),
-                sort("Z:", 10_000),
-                sort("0 with Z K - 1:", 5_000),
-            ],
+            least_passed: sorts_of_passed([10_000, 20_000, 10_000, 10_000, 5_000]),
             refused: [
                 sort("no link", 3_000),
                 sort("33 links", 1_500),
@@ -90,18 +86,9 @@ impl Writing {
                 sort("Z K + 1:", 4_000),
                 sort("frame K closed", 10_000),
             ],
-            least_refused: [
-                sort("Z + 1:", 5_000),
-                sort("above Z + 1:", 5_000),
-                sort("0 with Z K:", 3_000),
-                sort("0 with K 1:", 300),
-                sort("256 or more:", 3_000),
-            ],
-            several: [
-                sort("with 7 where 21 would refuse too:", 1_000),
-                sort("with 8 where 21 would refuse too:", 1_000),
-                sort("with 21 where 9 would refuse too:", 1_000),
-            ],
+            least_refused: sorts_of_refused([5_000, 5_000, 3_000, 300]),
+            past_a_byte: [sort("256 or more:", 3_000)],
+            several: sorts_of_several([1_000, 1_000, 1_000]),
             wrong_images: Tried::new("image", wrong_writing::images()),
             wrong_writers: Tried::new("writer", wrong_writing::writers()),
         }
@@ -167,27 +154,36 @@ impl Writing {
         add_each(&mut self.values, &is_of);
         if outcome == 0 {
             add_each(&mut self.passed, &edges_passed(values, network));
-            add_each(&mut self.least_passed, &least_holds_passed(network));
+            add_each(&mut self.least_passed, &least_holds::some_passed(network));
         } else {
             add_each(&mut self.refused, &edges_refused(network, outcome));
-            let bad = bad_link(network).filter(|_| matches!(outcome, 7..=9 | 21));
-            if let Some(bad) = bad {
-                add_each(&mut self.least_refused, &least_holds_refused(bad, outcome));
-                add_each(&mut self.several, &several_refused(bad, outcome));
-            }
+            self.tally_link(network, outcome);
+        }
+    }
+
+    /// Counts the link for which values are refused.
+    fn tally_link(&mut self, network: &Network, refusal: Refusal) {
+        if let (Some(bad), 7..=9 | 21) = (bad_link(network), refusal) {
+            add_each(&mut self.least_refused, &least_holds::refused(bad, refusal));
+            add_each(&mut self.several, &least_holds::several(bad, refusal));
+            self.past_a_byte[0].add(refusal == 21 && bad.least > 255);
         }
     }
 
     // ---- What was seen ----
 
-    fn lines(&self) -> [Line<'_>; 6] {
+    fn lines(&self) -> [Line<'_>; 7] {
         [
             ("", &self.values),
             ("written: ", &self.passed),
             ("written: Y ", &self.least_passed),
             ("refused: ", &self.refused),
-            ("refused: Y ", &self.least_refused),
-            ("refused ", &self.several),
+            ("refused with 21: Y ", &self.least_refused),
+            ("refused with 21: Y ", &self.past_a_byte),
+            (
+                "refused where another check would refuse too: ",
+                &self.several,
+            ),
         ]
     }
 
@@ -233,50 +229,10 @@ fn edges_passed(values: &Values, network: &Network) -> [bool; 10] {
     ]
 }
 
-/// Which least holds a network has that passes its checks, in the order of `least_passed`.
-pub fn least_holds_passed(network: &Network) -> [bool; 5] {
-    let any = |is: fn(&Link) -> bool| network.links.iter().any(is);
-    [
-        any(|link| link.least == 0),
-        any(|link| link.least == 1),
-        any(|link| link.least > 1),
-        any(|link| link.least == link.range),
-        any(|link| link.least == 0 && link.range + 1 == link.frames),
-    ]
-}
-
 /// The first link that doesn't pass its checks.
 fn bad_link(network: &Network) -> Option<&Link> {
     let mut links = network.links.iter();
     links.find(|link| check_link(network.ticks, link).is_err())
-}
-
-/// For which least hold a link is refused, in the order of `least_refused`.
-pub fn least_holds_refused(link: &Link, refusal: Refusal) -> [bool; 5] {
-    let Link {
-        frames,
-        range,
-        least,
-        ..
-    } = *link;
-    let edges = [
-        least == range + 1,
-        least > range + 1,
-        least == 0 && frames > 1,
-        least == 0 && frames == 1,
-        least > 255,
-    ];
-    edges.map(|is_edge| refusal == 21 && is_edge)
-}
-
-/// With which check a link is refused where another one would refuse it too, in the order of `several`.
-pub fn several_refused(link: &Link, refusal: Refusal) -> [bool; 3] {
-    let is_least = check_least(link).is_err();
-    [
-        refusal == 7 && is_least,
-        refusal == 8 && is_least,
-        refusal == 21 && check_closed(link).is_err(),
-    ]
 }
 
 /// Over which edge the value lies for which a network is refused, in the order of `refused`.
@@ -387,48 +343,5 @@ mod tests {
             unequal.least.push(0);
             assert!(edges_passed(&unequal, &network)[9]);
         }
-    }
-
-    #[test]
-    fn edges_of_least_holds() {
-        let link = |frames, range, closed, least| Link {
-            frames,
-            range,
-            closed,
-            least,
-        };
-        let passed = |link: &Link| {
-            let links = vec![link.clone()];
-            assert_eq!(check_link(48, link), Ok(()));
-            least_holds_passed(&Network { ticks: 48, links })
-        };
-        assert_eq!(
-            passed(&link(8, 6, 0, 0)),
-            [true, false, false, false, false]
-        );
-        assert_eq!(passed(&link(8, 7, 0, 0)), [true, false, false, false, true]);
-        assert_eq!(passed(&link(8, 1, 0, 1)), [false, true, false, true, false]);
-        assert_eq!(passed(&link(8, 8, 0, 8)), [false, false, true, true, false]);
-        // Each refused link has such a Y, and breaks so many of 7, 8 and 21 with the check that comes after.
-        let refused = [
-            (link(8, 2, 0, 3), 21, Some(0), None),
-            (link(8, 2, 256, 4), 21, Some(1), Some(2)),
-            (link(8, 8, 0, 0), 21, Some(2), None),
-            (link(1, 1, 2, 0), 21, Some(3), Some(2)),
-            (link(7, 2, 0, 3), 7, None, Some(0)),
-            (link(8, 0, 0, 1), 8, None, Some(1)),
-            (link(8, 0, 0, 0), 8, None, None),
-        ];
-        for (link, refusal, least, several) in refused {
-            assert_eq!(check_link(48, &link), Err(refusal));
-            let is_of = |place| move |edge| Some(edge) == place;
-            let places: [usize; 5] = std::array::from_fn(|place| place);
-            let edges = least_holds_refused(&link, refusal);
-            assert_eq!(edges, places.map(is_of(least)));
-            let edges = several_refused(&link, refusal);
-            assert_eq!(edges, [0, 1, 2].map(is_of(several)));
-        }
-        let edges = least_holds_refused(&link(8, 2, 0, 257), 21);
-        assert_eq!(edges, [false, true, false, false, true]);
     }
 }

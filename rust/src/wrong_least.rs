@@ -27,7 +27,13 @@ pub(crate) fn searches() -> Vec<Wrong<Text>> {
 // ---- Mistakes in the search ----
 
 /// The least number that fits from one up to another one, if there is one.
-fn hold_within(reference: u32, frame: u32, here: &Hop, least: u32, range: u32) -> Option<u32> {
+pub(crate) fn hold_within(
+    reference: u32,
+    frame: u32,
+    here: &Hop,
+    least: u32,
+    range: u32,
+) -> Option<u32> {
     let hop = Hop {
         least,
         range,

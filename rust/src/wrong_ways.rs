@@ -9,7 +9,7 @@ use crate::tried::Wrong;
 use crate::way_calls::faults;
 use crate::ways::{is_open, number, product};
 use crate::wrong::{hold_from_zero, FreeNothing, GoesOn, NoLimit, QuoteHolds, RouteLinkByLink};
-use crate::wrong_least::LEAST_IGNORED;
+use crate::wrong_least::{hold_within, LEAST_IGNORED};
 use crate::wrong_numbers::THREE_KINDS;
 
 /// All wrong numbers of schedules.
@@ -171,16 +171,6 @@ fn counts_holds(name: &'static str, hold: fn(u32, u32, &Hop) -> Option<u32>) -> 
     counts(name, move |_, _, hops| {
         number_by(&hops, route::reference, hold)
     })
-}
-
-/// The least number that fits from one up to another one, if there is one.
-fn hold_within(reference: u32, frame: u32, here: &Hop, least: u32, range: u32) -> Option<u32> {
-    let hop = Hop {
-        least,
-        range,
-        ..*here
-    };
-    route::hold(reference, frame, &hop)
 }
 
 fn wrong_least_holds() -> Vec<Wrong<Box<Ways>>> {

@@ -2,6 +2,7 @@
 
 use frames_check::compared::Compared;
 use frames_check::inputs::{self, Case, Input};
+use frames_check::least_holds::LeastHolds;
 use frames_check::listing::{Listed, MOST_PATHS};
 use frames_check::model::Run;
 use frames_check::network_file::Values;
@@ -26,8 +27,10 @@ const SEED: u64 = 0x0960_0064_0096_0032;
 /// Each refusal has to be seen at least so often.
 const LEAST_SEEN: usize = 20;
 
-/// The refusals that a text can show: 1 to 19.
-const REFUSALS: usize = 19;
+/// The refusals that a text can show: 1 to 19 and 21.
+fn refusals() -> impl Iterator<Item = usize> {
+    (1..=19).chain([21])
+}
 
 fn main() {
     let start = Instant::now();
@@ -93,9 +96,10 @@ struct Check {
     schedules: usize,
     blocked: usize,
     released: usize,
-    refusals: [usize; REFUSALS + 1],
+    refusals: [usize; 22],
     searches: Searches,
     widths: Widths,
+    least_holds: LeastHolds,
     listed: Compared,
     wrong_models: Tried<wrong::Text>,
     runs: Runs,
@@ -152,9 +156,10 @@ impl Check {
             schedules: 0,
             blocked: 0,
             released: 0,
-            refusals: [0; REFUSALS + 1],
+            refusals: [0; 22],
             searches: Searches::default(),
             widths: Widths::default(),
+            least_holds: LeastHolds::default(),
             listed: Compared::default(),
             wrong_models: Tried::new("model", wrong::all()),
             runs: Runs::new(Box::new(library::report), SEED + 1),
@@ -177,6 +182,7 @@ impl Check {
             "1 S ok 6 16 7 0 / 0 1\n2 S no 16\n3 R ok\n4 Q ok 0 0 0 / 0\n5 R no 19\nlive 0\n";
         self.worked_text(&file, &calls, expected);
         self.worked_numbers(&file);
+        self.worked_least_holds();
         self.worked_calls(&file);
         println!("worked example: as in the document");
     }
@@ -214,6 +220,27 @@ impl Check {
         }
         if [shown(22, 5), shown(22, 65_541)] != [Err(19), Ok(long)] {
             fail("5 isn't released, or 65,541 is with it");
+        }
+    }
+
+    /// The case of W-206, Y 0 and Z 2 on link B; with Y 2 and Z 3 instead, frame 6 and a hold of 2 lead to frame 0 of the next
+    /// cycle; and a Y above Z.
+    fn worked_least_holds(&mut self) {
+        let file = |range, least| [0x30, 0, 2, 3, 8, 2, 0x0b, 8, range, least];
+        let quote = [2, 2, 0, 1];
+        self.worked_text(&file(2, 0), &quote, "1 Q ok 0 24 0 0 / 0 0\nlive 0\n");
+        self.worked_text(&file(3, 2), &quote, "1 Q ok 12 16 6 0 / 0 1\nlive 0\n");
+        self.worked_text(&file(2, 3), &quote, "net no 21\n");
+        self.worked_text(&file(8, 0), &quote, "net no 21\n");
+        let mut number = [0];
+        let answer = library::ways(&file(2, 0), &[], &[0, 1], &mut number);
+        if (answer, number) != (Ok(1), [24]) {
+            fail("the ways over the route of W-206 aren't 24");
+        }
+        let mut image = [0; 10];
+        let length = library::write(48, &[8, 8], &[2, 2], &[0, 0], &[1, 0], &mut image);
+        if (length, image) != (Ok(10), file(2, 0)) {
+            fail("the file of the values of W-206 isn't its file");
         }
     }
 
@@ -290,6 +317,7 @@ impl Check {
         let text = std::str::from_utf8(&written).expect("the text is plain");
         self.tally(text);
         self.widths.add(&input.calls, text);
+        self.least_holds.add(&input.file);
         let searches = self.searches.unread.take();
         if let Err(fault) = self.listed.compare(text, &searches) {
             self.show_and_fail(input, run, &fault);
@@ -375,8 +403,8 @@ impl Check {
     }
 
     fn print_counts(&self) {
-        for (refusal, seen) in self.refusals.iter().enumerate().skip(1) {
-            println!("refusal {refusal}: {seen}");
+        for refusal in refusals() {
+            println!("refusal {refusal}: {}", self.refusals[refusal]);
         }
         println!(
             "inputs {}, calls {}, schedules {}, blocked {}, released {}",
@@ -388,6 +416,7 @@ impl Check {
             self.searches.by_dijkstra.get()
         );
         self.widths.print();
+        self.least_holds.print();
         self.listed.print();
         self.runs.print();
         self.state_calls.print();
@@ -425,7 +454,8 @@ impl Check {
     }
 
     fn demand_refusals_seen(&self) {
-        for (refusal, &seen) in self.refusals.iter().enumerate().skip(1) {
+        for refusal in refusals() {
+            let seen = self.refusals[refusal];
             if seen < LEAST_SEEN {
                 fail(&format!("refusal {refusal} was seen only {seen} times"));
             }
@@ -437,6 +467,7 @@ impl Check {
         let listed = listed.map(|few| format!("listed routes: {few}"));
         let too_few = [
             self.widths.too_few(),
+            self.least_holds.too_few(),
             listed,
             self.runs.too_few(),
             self.state_calls.too_few(),
@@ -461,7 +492,7 @@ fn demand_found<F>(tried: &Tried<F>) {
 /// A refusal number of the text, as a place in the table.
 fn number(word: &str) -> usize {
     match word.parse() {
-        Ok(refusal) if (1..=REFUSALS).contains(&refusal) => refusal,
+        Ok(refusal) if refusals().any(|other| other == refusal) => refusal,
         _ => fail(&format!("no refusal number: {word}")),
     }
 }
