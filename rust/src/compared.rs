@@ -64,16 +64,16 @@ impl Default for Compared {
                 sort("both", 80_000),
             ],
             decided: sorts_of_rules([20_000, 40_000, 3_000, 20_000, 8_000]),
-            decided_with_zero: sorts_of_rules([1_000, 1_000, 100, 1_000, 100]),
+            decided_with_zero: sorts_of_rules([7_000, 7_000, 700, 5_500, 800]),
             last_cycles: sorts_of_cycles([40_000, 30_000, 20_000]),
             numbers: [
                 sort("K with a prime factor above 3:", 50_000),
                 sort("T no multiple of 24:", 60_000),
             ],
-            least_holds: sorts_of_routes([40_000, 20_000, 20_000, 20_000, 5_000]),
-            least_holds_of_schedules: sorts_of_routes([20_000, 10_000, 10_000, 10_000, 2_000]),
-            least_holds_at_bound: sorts_of_routes([1_000, 1_000, 1_000, 500, 100]),
-            zeros: sorts_of_zeros([5_000, 1_000, 1_000, 1_000]),
+            least_holds: sorts_of_routes([80_000, 60_000, 45_000, 70_000, 8_000]),
+            least_holds_of_schedules: sorts_of_routes([30_000, 20_000, 15_000, 20_000, 2_000]),
+            least_holds_at_bound: sorts_of_routes([6_000, 3_500, 2_500, 3_500, 450]),
+            zeros: sorts_of_zeros([20_000, 6_500, 7_000, 9_000]),
         }
     }
 }

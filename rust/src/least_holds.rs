@@ -12,7 +12,7 @@ use crate::sorts::{add_each, print_lines, sort, too_few_in, Line, Sort};
 
 /// The sorts of links that pass, by their least hold.
 pub fn sorts_of_passed(least: [usize; 5]) -> [Sort; 5] {
-    const NAMES: [&str; 5] = ["0:", "1:", "2 or more:", "Z:", "0 with Z K - 1:"];
+    const NAMES: [&str; 5] = ["0:", "1:", "2 or more:", "Z above 1:", "0 with Z K - 1:"];
     std::array::from_fn(|place| sort(NAMES[place], least[place]))
 }
 
@@ -22,7 +22,7 @@ pub fn passed(frames: u32, range: u32, least: u32) -> [bool; 5] {
         least == 0,
         least == 1,
         least > 1,
-        least == range,
+        least == range && least > 1,
         least == 0 && range + 1 == frames,
     ]
 }
@@ -144,22 +144,22 @@ pub struct LeastHolds {
 impl Default for LeastHolds {
     fn default() -> Self {
         LeastHolds {
-            passed: sorts_of_passed([40_000, 80_000, 20_000, 20_000, 10_000]),
-            refused: sorts_of_refused([1_000, 1_000, 500, 50]),
-            later: [sort("after the first", 1_000)],
-            several: sorts_of_several([100, 100, 200]),
-            written: [sort("alone", 50), sort("beside others", 500)],
+            passed: sorts_of_passed([30_000, 60_000, 20_000, 16_000, 18_000]),
+            refused: sorts_of_refused([250, 500, 200, 70]),
+            later: [sort("after the first", 750)],
+            several: sorts_of_several([250, 350, 400]),
+            written: [sort("alone", 50), sort("beside others", 350)],
             cut: [
-                sort("by bit 3 alone", 20),
+                sort("by bit 3 alone", 30),
                 sort("behind K or Z", 100),
-                sort("behind closed frames", 100),
-                sort("under a stray bit", 20),
-                sort("of any field under a stray bit", 50),
+                sort("behind closed frames", 200),
+                sort("under a stray bit", 40),
+                sort("of any field under a stray bit", 150),
             ],
             stray: [
-                sort("bit 4 alone", 300),
-                sort("a bit above 4", 1_000),
-                sort("one beside bit 3", 500),
+                sort("bit 4 alone", 450),
+                sort("a bit above 4", 1_400),
+                sort("one beside bit 3", 1_000),
             ],
         }
     }
@@ -308,7 +308,7 @@ mod tests {
         assert_eq!(of(8, 6, 0), [1, 0, 0, 0, 0]);
         assert_eq!(of(8, 7, 0), [1, 0, 0, 0, 1]);
         assert_eq!(of(8, 7, 1), [0, 1, 0, 0, 0]);
-        assert_eq!(of(8, 1, 1), [0, 1, 0, 1, 0]);
+        assert_eq!(of(8, 1, 1), [0, 1, 0, 0, 0]);
         assert_eq!(of(8, 3, 2), [0, 0, 1, 0, 0]);
         assert_eq!(of(8, 8, 8), [0, 0, 1, 1, 0]);
     }

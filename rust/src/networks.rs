@@ -65,6 +65,9 @@ const LEAST_HOLDS: [&[LeastHolds]; 8] = [
     ],
 ];
 
+/// The same without any of 0.
+const LONG_HOLDS: &[LeastHolds] = &[LeastHolds::Absent, LeastHolds::Longer, LeastHolds::Range];
+
 /// A network whose links have up to `most_frames` frames.
 pub fn network(random: &mut Random, most_frames: u32) -> Network {
     let ticks = cycle(random);
@@ -114,21 +117,42 @@ fn links(random: &mut Random, rates: &[u32], ranges: Ranges, closings: &[Closing
 /// Gives the links of a network other least holds.
 pub fn draw_least_holds(random: &mut Random, links: &mut [Link]) {
     let sorts = random.pick(&LEAST_HOLDS);
+    draw_from(random, links, sorts);
+}
+
+/// The same with least holds of 0 and 1 alone.
+pub fn draw_short_holds(random: &mut Random, links: &mut [Link]) {
+    let sorts = random.pick(&[LEAST_HOLDS[0], LEAST_HOLDS[3], LEAST_HOLDS[5]]);
+    draw_from(random, links, sorts);
+}
+
+/// The same with least holds of 1 and more.
+pub fn draw_long_holds(random: &mut Random, links: &mut [Link]) {
+    let sorts = random.pick(&[LEAST_HOLDS[0], LEAST_HOLDS[0], LONG_HOLDS]);
+    draw_from(random, links, sorts);
+}
+
+/// Gives each link a least hold of one of the sorts.
+fn draw_from(random: &mut Random, links: &mut [Link], sorts: &[LeastHolds]) {
     for link in links {
         let sort = random.pick(sorts);
         set_least_hold(random, link, sort);
     }
 }
 
-/// Gives a link a least hold of a sort. A link without one has a range below K; with a single frame it has a hold of 1.
+/// Gives a link a least hold of a sort. A link with a least hold of 0 gets a range below K, and a link with a single frame none but
+/// 1; for one of two frames and more the range is now and then made longer.
 fn set_least_hold(random: &mut Random, link: &mut Link, sort: LeastHolds) {
+    if let (LeastHolds::Longer, true) = (sort, random.chance(50)) {
+        link.range = random.between(link.range as usize, link.frames as usize) as u32;
+    }
+    let from_two = random.between(2, link.range.max(2) as usize) as u32;
     link.least = match sort {
         LeastHolds::None if link.frames > 1 => 0,
         LeastHolds::Absent | LeastHolds::None => ABSENT.least,
-        LeastHolds::Longer => random.between(2, link.range.max(2) as usize) as u32,
+        LeastHolds::Longer => from_two.min(link.range),
         LeastHolds::Range => link.range,
     };
-    link.least = link.least.min(link.range);
     if link.least == 0 {
         link.range = link.range.min(link.frames - 1);
     }
@@ -319,7 +343,7 @@ pub fn damaged(random: &mut Random, network: &Network) -> Vec<u8> {
     if random.chance(30) {
         spoil_draft(random, &mut draft, network);
     }
-    if random.chance(25) {
+    if random.chance(40) {
         spoil_least(random, &mut draft, network);
     }
     let mut bytes = draft.bytes();
@@ -362,13 +386,15 @@ fn spoil_absent(random: &mut Random, record: &mut Record) {
     }
 }
 
-/// A fault of a least hold, or a value beside one; now and then with a fault that is checked before it or after it, or in the last
-/// record without its last byte.
+/// A least hold with a fault, or beside one; now and then with a fault that is checked before it or after it, or with no other
+/// field. The last record, in which bytes are cut off, comes more often.
 fn spoil_least(random: &mut Random, draft: &mut Draft, network: &Network) {
-    let at = random.below(network.links.len());
+    let last = network.links.len() - 1;
+    let any = random.below(last + 1);
+    let at = random.pick(&[any, any, last]);
     let link = &network.links[at];
     let record = &mut draft.records[at];
-    let (frames, range, any) = (link.frames as u8, link.range as u8, random.byte());
+    let (frames, range, byte) = (link.frames as u8, link.range as u8, random.byte());
     match random.below(5) {
         0 => {
             record.range = Some(frames);
@@ -378,14 +404,15 @@ fn spoil_least(random: &mut Random, draft: &mut Draft, network: &Network) {
             record.range = Some(frames.max(2) - 1);
             record.least = Some(0);
         }
-        2 => record.least = Some(random.pick(&[1, range, any])),
+        2 => record.least = Some(random.pick(&[1, range, byte])),
         _ => record.least = Some(random.pick(&[range + 1, range + 1, range + 2, 255])),
     }
-    match random.below(8) {
+    match random.below(10) {
         0 | 1 if frames < 64 => record.closed = Some(1 << frames | link.closed),
         2 => record.range = Some(random.pick(&[0, frames + 1])),
         3 => record.frames = Some(random.pick(&[0, 65, frames.max(3) - 1])),
         4 => record.stray = 16 << random.below(4),
+        5 | 6 => (record.frames, record.range, record.closed) = (None, None, None),
         _ => {}
     }
 }

@@ -2,7 +2,7 @@
 //! that rise and fall, ranges, least holds and free frames by which ways tie and windows pass the cycle's end.
 
 use crate::network_file::{Link, Network, ABSENT};
-use crate::networks::{draw_least_holds, fit};
+use crate::networks::{draw_least_holds, draw_long_holds, draw_short_holds, fit};
 use crate::random::Random;
 use crate::route::{ones, MAX_HOPS};
 
@@ -11,7 +11,7 @@ const MOST_TICKS: u32 = 960;
 
 /// A network whose links make a route. Half of the routes have 8 hops.
 pub fn network(random: &mut Random) -> Network {
-    match random.below(40) {
+    match random.below(30) {
         0 => tied_network(random),
         _ => any_network(random),
     }
@@ -34,7 +34,7 @@ fn any_network(random: &mut Random) -> Network {
         least: ABSENT.least,
     });
     let mut links: Vec<Link> = links.collect();
-    draw_least_holds(random, &mut links);
+    words.draw_least_holds(random, &mut links);
     Network { ticks, links }
 }
 
@@ -59,7 +59,7 @@ fn tied_network(random: &mut Random) -> Network {
         }
     });
     let mut links: Vec<Link> = links.collect();
-    draw_least_holds(random, &mut links);
+    draw_short_holds(random, &mut links);
     Network { ticks, links }
 }
 
@@ -236,11 +236,19 @@ impl Words {
         }
     }
 
-    /// The range of a link. Only the whole cycle leads back to the same frame.
+    /// The range of a link. Only no hold and the whole cycle lead back to the same frame.
     fn range(self, random: &mut Random, frames: u32) -> u32 {
         match self {
             Words::SameFrame => frames,
             _ => range(random, frames),
+        }
+    }
+
+    /// The least holds of the links. Three of four times the whole cycle leads back to the same frame.
+    fn draw_least_holds(self, random: &mut Random, links: &mut [Link]) {
+        match self {
+            Words::SameFrame if random.chance(75) => draw_long_holds(random, links),
+            _ => draw_least_holds(random, links),
         }
     }
 }

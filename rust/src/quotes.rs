@@ -59,7 +59,7 @@ pub struct Quotes {
 struct Entered {
     ties: [Sort; 3],
     windows: [Sort; 2],
-    /// Z above 1 that doesn't divide K; and of these by the blocks of Z frames.
+    /// Z - Y + 1 above 1 that doesn't divide K; and of these by the blocks of so many frames.
     blocks: [Sort; 4],
     unreached: [Sort; 1],
     /// By Y; ties where Y is 0 or above 1, and those where the hold is 0; ways that pass the cycle's end where Y isn't 1.
@@ -109,9 +109,9 @@ impl Quotes {
                 sort("preceding frame", 2_500),
                 sort("each", 1_500),
             ],
-            least_holds: sorts_of_routes([20_000, 20_000, 20_000, 20_000, 5_000]),
-            least_holds_at_bound: sorts_of_routes([1_000, 1_000, 1_000, 500, 100]),
-            zeros: sorts_of_zeros([20_000, 5_000, 5_000, 5_000]),
+            least_holds: sorts_of_routes([20_000, 20_000, 15_000, 25_000, 6_000]),
+            least_holds_at_bound: sorts_of_routes([3_000, 2_500, 1_500, 2_500, 500]),
+            zeros: sorts_of_zeros([20_000, 10_000, 4_500, 4_000]),
             entered: Entered::new(),
             wrong: Tried::new("search", wrong_windows::all()),
         }
@@ -260,7 +260,7 @@ impl Entered {
             ],
             windows: [sort("window", 200_000), sort("way itself", 30_000)],
             blocks: [
-                sort("Z above 1 and no divisor of K", 200_000),
+                sort("Z - Y + 1 above 1 and no divisor of K", 200_000),
                 sort("then in the block that is cut off", 40_000),
                 sort("from before the block", 10_000),
                 sort("both", 3_500),
@@ -269,15 +269,15 @@ impl Entered {
                 "after a hop with a free frame that nothing reaches",
                 50_000,
             )],
-            least_holds: sorts_of_passed([50_000, 100_000, 50_000, 20_000, 10_000]),
+            least_holds: sorts_of_passed([70_000, 160_000, 45_000, 15_000, 28_000]),
             ties_by_least_hold: [
-                sort("Y 0: decided by hold", 5_000),
-                sort("by preceding frame", 5_000),
-                sort("Y above 1: decided by hold", 5_000),
-                sort("by preceding frame", 5_000),
+                sort("Y 0: decided by hold", 9_000),
+                sort("by preceding frame", 6_000),
+                sort("Y above 1: decided by hold", 3_500),
+                sort("by preceding frame", 2_500),
             ],
-            ties_of_zeros: [sort("hold", 5_000), sort("preceding frame", 5_000)],
-            ways_by_least_hold: [sort("Y 0:", 1_000), sort("Y above 1:", 1_000)],
+            ties_of_zeros: [sort("hold", 7_000), sort("preceding frame", 6_000)],
+            ways_by_least_hold: [sort("Y 0:", 3_000), sort("Y above 1:", 2_000)],
             ranges: pairs(),
             rates: pairs(),
             least: pairs(),

@@ -72,7 +72,7 @@ impl StateCalls {
             ],
             hops: sorts_of_hops([30_000, 10_000, 10_000, 8_000, 4_000, 3_000, 2_000, 1_500]),
             last_cycles: sorts_of_cycles([60_000, 20_000, 12_000]),
-            no_delay: [sort("delay 0 over two hops or more", 2_000)],
+            no_delay: [sort("delay 0 over two hops or more", 4_500)],
             numbers_shown: sorts_of_numbers([23_000, 44_000]),
             not_live: [
                 sort("in the call records", 100_000),

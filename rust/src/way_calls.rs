@@ -100,8 +100,8 @@ impl WayCalls {
                 sort("to a slower link", 10_000),
                 sort("both", 5_000),
             ],
-            least_holds: sorts_of_routes([10_000, 10_000, 5_000, 10_000, 2_000]),
-            least_holds_of_open: sorts_of_routes([1_000, 1_000, 1_000, 500, 100]),
+            least_holds: sorts_of_routes([20_000, 15_000, 10_000, 12_000, 1_800]),
+            least_holds_of_open: sorts_of_routes([4_000, 1_800, 1_300, 1_800, 250]),
             wrong: Tried::new("ways", wrong_ways::all()),
         }
     }

@@ -1,5 +1,6 @@
 //! Wrong models of the least hold (W-206): of the search, of check 21, and of Y's byte in the network file.
 
+use crate::call_records::{read_call, Read};
 use crate::dijkstra;
 use crate::model::Rules;
 use crate::network_file::{check_closed, check_frames, check_least, check_link, check_range};
@@ -8,6 +9,7 @@ use crate::network_file::{Link, Network, Refusal, ABSENT};
 use crate::route::{self, Answer, Hop};
 use crate::tried::Wrong;
 use crate::wrong::{by_rules, read_by, Counting, Student, Text, RIGHT};
+use std::cell::Cell;
 
 /// All wrong models of the least hold but for the searches.
 pub fn files() -> Vec<Wrong<Text>> {
@@ -21,6 +23,7 @@ pub fn files() -> Vec<Wrong<Text>> {
 pub(crate) fn searches() -> Vec<Wrong<Text>> {
     let mut all = wrong_holds();
     all.extend(wrong_zeros());
+    all.extend(wrong_rivals());
     all
 }
 
@@ -150,6 +153,63 @@ fn wrong_zeros() -> Vec<Wrong<Text>> {
                 ..RIGHT
             },
         ),
+    ]
+}
+
+/// The right answer, but 18 where a schedule that breaks Y comes before it.
+struct AnyRival;
+
+impl Rules for AnyRival {
+    fn least(&self, ticks: u32, hops: &[Hop]) -> Answer {
+        let answer = dijkstra::least(ticks, hops);
+        let (Answer::Found { count, .. } | Answer::Blocked { count }) = answer;
+        let rival = Student {
+            hold: |reference, frame, _, here| hold_within(reference, frame, here, 0, here.range),
+            ..RIGHT
+        };
+        match (&answer, rival.least(ticks, hops)) {
+            (Answer::Found { frames, .. }, Answer::Found { frames: before, .. })
+                if *frames == before =>
+            {
+                answer
+            }
+            _ => Answer::Blocked { count },
+        }
+    }
+}
+
+/// Y ignored in the calls of some kinds alone.
+struct IgnoredIn {
+    kinds: &'static [u8],
+    /// The kind of the record that was read last.
+    kind: Cell<u8>,
+}
+
+impl Rules for IgnoredIn {
+    fn least(&self, ticks: u32, hops: &[Hop]) -> Answer {
+        if self.kinds.contains(&self.kind.get()) {
+            LEAST_IGNORED.least(ticks, hops)
+        } else {
+            dijkstra::least(ticks, hops)
+        }
+    }
+
+    fn read_call<'a>(&self, bytes: &'a [u8]) -> Read<'a> {
+        self.kind.set(bytes[0]);
+        read_call(bytes)
+    }
+}
+
+/// Mistakes with what an answer is compared with, and with the calls in which Y counts.
+fn wrong_rivals() -> Vec<Wrong<Text>> {
+    let ignored = |name, kinds| {
+        let kind = Cell::default();
+        by_rules(name, IgnoredIn { kinds, kind })
+    };
+    vec![
+        by_rules("18 where a schedule that breaks Y is quicker", AnyRival),
+        ignored("Y ignored in quotes alone", &[2]),
+        ignored("Y ignored at set-ups alone", &[1, 4]),
     ]
 }
 
