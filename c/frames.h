@@ -38,22 +38,23 @@ extern "C" {
 
 /* Numbers that serve for every session, and bytes that serve for every network file. */
 #define FRAMES_SESSION_MOST 26
-#define FRAMES_IMAGE_MOST 355
+#define FRAMES_IMAGE_MOST 387
 
-/* The largest number of schedules, 64 to the power 8: over 8 links of K 64 and Z 64 with all frames free. */
+/* The largest number of schedules, 64 to the power 8: over 8 links of K 64 and Z 64 with all frames free, where each Y is 1. */
 #define FRAMES_WAYS_MOST UINT64_C(281474976710656)
 
 /*
- * Refusals of a network file, in the order in which they are checked; 4 to 9 for one record before the next:
+ * Refusals of a network file, in the order in which they are checked; 4 to 9 and 21 for one record before the next:
  *
  *      1  fewer than three bytes
  *      2  the number of links is 0 or above 32
  *      3  T is 0 or above 960
- *      4  no map byte is left, or fewer bytes than its bits 0 to 2 need
- *      5  a map byte has a bit above bit 2
+ *      4  no map byte is left, or fewer bytes than its bits 0 to 3 need
+ *      5  a map byte has a bit above bit 3
  *      6  a written field equals its absent value
  *      7  K is 0, above 64 or no divisor of T
  *      8  Z is 0 or above K
+ *     21  Y, the least hold, is above Z, or Y is 0 and Z equals K
  *      9  a closed bit stands at K or above
  *     10  bytes follow the last record
  */
@@ -84,9 +85,9 @@ uint64_t frames_report(const uint8_t *file, size_t file_len, const uint8_t *call
  *
  * Answers how many numbers it put into `out`. Refusals, in this order:
  *
- *     1 to 10  of the file
- *     19       the number isn't live after the calls
- *     20       out_len is below 2 + 3 * hops
+ *     1 to 10, 21  of the file
+ *     19           the number isn't live after the calls
+ *     20           out_len is below 2 + 3 * hops
  */
 uint64_t frames_lookup(const uint8_t *file, size_t file_len, const uint8_t *calls, size_t calls_len, uint32_t number,
                        uint16_t *out, size_t out_len);
@@ -100,8 +101,8 @@ uint64_t frames_lookup(const uint8_t *file, size_t file_len, const uint8_t *call
  *
  * Answers how many there are, 0 to 64. Refusals, in this order:
  *
- *     1 to 10  of the file
- *     13       the link's number isn't below the number of links
+ *     1 to 10, 21  of the file
+ *     13           the link's number isn't below the number of links
  */
 uint64_t frames_free_frames(const uint8_t *file, size_t file_len, const uint8_t *calls, size_t calls_len, uint8_t link);
 
@@ -117,12 +118,12 @@ uint64_t frames_free_frames(const uint8_t *file, size_t file_len, const uint8_t 
  * Answers 1, which is how many numbers it put into `out`. Nothing is held. Refusals, in this order, each for the whole route
  * before the next:
  *
- *     1 to 10  of the file
- *     12       the route is empty or has over 8 links
- *     13       a link number isn't below the number of links
- *     14       a link appears twice in the route
- *     15       of two adjacent links neither K divides the other
- *     20       out_len is 0
+ *     1 to 10, 21  of the file
+ *     12           the route is empty or has over 8 links
+ *     13           a link number isn't below the number of links
+ *     14           a link appears twice in the route
+ *     15           of two adjacent links neither K divides the other
+ *     20           out_len is 0
  */
 uint64_t frames_ways(const uint8_t *file, size_t file_len, const uint8_t *calls, size_t calls_len, const uint8_t *route,
                      size_t route_len, uint64_t *out, size_t out_len);
@@ -135,29 +136,31 @@ uint64_t frames_ways(const uint8_t *file, size_t file_len, const uint8_t *calls,
  *
  * Answers the length of the file in bytes. Refusals, in this order:
  *
- *     1 to 10  of the file
- *     20       out_len is below file_len
+ *     1 to 10, 21  of the file
+ *     20           out_len is below file_len
  */
 uint64_t frames_image(const uint8_t *file, size_t file_len, uint8_t *out, size_t out_len);
 
 /*
- * The file of a network given as values. There are as many links as the shortest of the three slices has numbers.
+ * The file of a network given as values. There are as many links as the shortest of the four slices has numbers.
  *
  *     ticks               T
  *     frames, frames_len  K of each link
  *     range, range_len    Z of each link
  *     closed, closed_len  the closed frames of each link, bit i for frame i
+ *     least, least_len    Y of each link, its least hold; 1 is the value that a file leaves out
  *     out, out_len        room for the file
  *
  * Answers the length of the file in bytes. Refusals, in this order:
  *
- *     2        the number of links is 0 or above 32
- *     3        T is 0 or above 960
- *     7, 8, 9  as of a file, for one link before the next
- *     20       out_len is below the length of the file
+ *     2            the number of links is 0 or above 32
+ *     3            T is 0 or above 960
+ *     7, 8, 21, 9  as of a file, for one link before the next
+ *     20           out_len is below the length of the file
  */
 uint64_t frames_write(uint16_t ticks, const uint16_t *frames, size_t frames_len, const uint16_t *range, size_t range_len,
-                      const uint64_t *closed, size_t closed_len, uint8_t *out, size_t out_len);
+                      const uint64_t *closed, size_t closed_len, const uint16_t *least, size_t least_len, uint8_t *out,
+                      size_t out_len);
 
 #ifdef __cplusplus
 }

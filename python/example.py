@@ -21,6 +21,10 @@ BOTH = HELD + bytes.fromhex("04 05 00 01 00 02 00 01")    # set-up 65,541 over 0
 ONE = BOTH + bytes.fromhex("05 05 00 00 00 03 05 00")     # release 5; release 5: refused with 19, since 65,541 is another number
 MIXED = ONE + bytes.fromhex("05 05 00 01 00")             # release 65,541
 
+# NET, but that link 1 has a least hold Y of 0: its switch needs no frame to turn round; and a link of K 16 and Z 4 with Y 5
+NO_HOLD = bytes.fromhex("30 00 02 03 08 02 0b 08 02 00")
+ABOVE_RANGE = bytes.fromhex("30 00 01 08 05")
+
 # links of K 8 and Z 2 on which frames 3 and 6 alone are free; links of K 4 and K 6; eight links of K 64 and Z 64 in a cycle of 64 ticks
 BLOCKED = bytes.fromhex("30 00 02 07 08 02 f7 00 00 00 00 00 00 00 07 08 02 bf 00 00 00 00 00 00 00")
 UNFIT = bytes.fromhex("30 00 02 03 04 02 03 06 02")
@@ -74,7 +78,7 @@ def plain_calls(library):
     count = library.free_frames(NET, HELD, 0)
     ways = library.ways(NET, HELD, [0, 1])
     image = library.image(NET)
-    file = library.write(48, [(16, 4, 0), (8, 2, 0)])
+    file = library.write(48, [(16, 4, 0, 1), (8, 2, 0, 1)])
     demand("text", text, TEXT)
     demand("session", (session.delay, session.links, session.frames, session.cycles), (6, [0, 1], [7, 0], [0, 1]))
     demand("count", count, 7)
@@ -93,12 +97,15 @@ def main():
         (NET, MIXED, MIXED_TEXT),
         (NET, BOTH[:13], "1 S ok 6 16 7 0 / 0 1\n2 ? no 11\nlive 1\n"),         # here in its route
         (NET, b"", "live 0\n"),
+        (NO_HOLD, HELD, "1 S ok 0 24 0 0 / 0 0\nlive 1\n"),                     # from each of 8 frames the holds 0, 1 and 2
+        (ABOVE_RANGE, HELD, "net no 21\n"),
         (b"", CALLS, "net no 1\n"),
         (NET, bytes(65537), "1 ? no 11\nlive 0\n"),                             # no record is of kind 0
     ])
     # of 5, reference frame 7 and hold 1 make 8, which isn't below K 8: the next cycle; of 6, 0 and 1 make 1
     session = frames.Session(delay=6, links=[0, 1], frames=[7, 0], cycles=[0, 1])
     beside = frames.Session(delay=6, links=[0, 1], frames=[0, 1], cycles=[0, 0])
+    at_once = frames.Session(delay=0, links=[0, 1], frames=[0, 0], cycles=[0, 0])
     compare(library.lookup, [
         (NET, HELD, 5, session),
         (NET, HELD_STILL, 5, session),
@@ -114,6 +121,8 @@ def main():
         (NET, ONE, 65536 + 5, beside),
         (NET, MIXED, 65536 + 5, ("refused", 19)),
         (NET, HELD, 2 ** 32 + 5, ("too large",)),
+        (NO_HOLD, HELD, 5, at_once),
+        (ABOVE_RANGE, HELD, 5, ("refused", 21)),
     ])
     compare(library.free_frames, [
         (NET, HELD, 0, 7),         # frame 7 of link 0 is held
@@ -121,6 +130,7 @@ def main():
         (NET, RELEASED, 0, 8),
         (NET, HELD, 2, ("refused", 13)),
         (NET[:2], HELD, 0, ("refused", 1)),
+        (ABOVE_RANGE, HELD, 0, ("refused", 21)),
         (NET, HELD, 256, ("too large",)),
     ])
     # without frame 7 of link 0 and frame 0 of link 1: from each of the frames 0 to 5 two holds, from frame 6 one
@@ -132,6 +142,8 @@ def main():
         (NET, TWO, [0, 1], 6 * 2 - 1),         # frames 1 to 6 into frames 2 to 7
         (NET, HELD, b"\0", 7),
         (BLOCKED, b"", [0, 1], 0),
+        (NO_HOLD, b"", [0, 1], 8 * 3),         # K of link 0 times Z - Y + 1 of link 1
+        (NO_HOLD, b"", [1, 0], 8 * 2),
         (LARGEST, b"", range(8), 64 ** 8),
         (NET, HELD, [], ("refused", 12)),
         (NET, HELD, range(9), ("refused", 12)),
@@ -139,24 +151,36 @@ def main():
         (NET, HELD, [0, 0], ("refused", 14)),
         (UNFIT, b"", [0, 1], ("refused", 15)),
         (NET[:2], HELD, [], ("refused", 1)),
+        (ABOVE_RANGE, HELD, [], ("refused", 21)),
         (NET, HELD, [256], ("too large",)),
     ])
     compare(library.image, [
         (NET, NET),
         (NET[:8], ("refused", 4)),             # the last record has no Z
         (NET + bytes(1), ("refused", 10)),
+        (NO_HOLD, NO_HOLD),
+        (NO_HOLD[:9], ("refused", 4)),         # the last record has no Y
+        (ABOVE_RANGE, ("refused", 21)),
+        (bytes.fromhex("30 00 01 08 01"), ("refused", 6)),    # Y 1 is not written
     ])
-    # link 0 has the absent values alone, K 16 and Z 4; link 1 has K 8 and Z 2
+    # link 0 has the absent values alone, K 16, Z 4 and Y 1; link 1 has K 8 and Z 2
     compare(library.write, [
-        (48, [(16, 4, 0), (8, 2, 0)], bytes.fromhex("30 00 02 00 03 08 02")),
-        (48, [(8, 2, 1 << 3)], bytes.fromhex("30 00 01 07 08 02 08 00 00 00 00 00 00 00")),
+        (48, [(16, 4, 0, 1), (8, 2, 0, 1)], bytes.fromhex("30 00 02 00 03 08 02")),
+        (48, [(8, 2, 0, 1), (8, 2, 0, 0)], NO_HOLD),
+        (48, [(8, 2, 1 << 3, 1)], bytes.fromhex("30 00 01 07 08 02 08 00 00 00 00 00 00 00")),
+        (48, [(8, 2, 1 << 3, 2)], bytes.fromhex("30 00 01 0f 08 02 08 00 00 00 00 00 00 00 02")),
+        (960, [(64, 63, 1, 0)] * 32, bytes.fromhex("c0 03 20" + 32 * "0f 40 3f 01 00 00 00 00 00 00 00 00")),    # 387 bytes
         (48, [], ("refused", 2)),
-        (48, [(8, 2, 0)] * 33, ("refused", 2)),
-        (961, [(8, 2, 0)], ("refused", 3)),
-        (48, [(5, 2, 0)], ("refused", 7)),
-        (48, [(8, 9, 0)], ("refused", 8)),
-        (48, [(8, 2, 1 << 8)], ("refused", 9)),
-        (48, [(65536 + 8, 2, 0)], ("too large",)),
+        (48, [(8, 2, 0, 1)] * 33, ("refused", 2)),
+        (961, [(8, 2, 0, 1)], ("refused", 3)),
+        (48, [(5, 2, 0, 1)], ("refused", 7)),
+        (48, [(8, 9, 0, 1)], ("refused", 8)),
+        (48, [(8, 2, 0, 3)], ("refused", 21)),         # Y above Z
+        (48, [(8, 8, 0, 0)], ("refused", 21)),         # Y 0 and Z K
+        (48, [(8, 2, 1 << 8, 3)], ("refused", 21)),    # and frame 8 closed
+        (48, [(8, 2, 1 << 8, 1)], ("refused", 9)),
+        (48, [(65536 + 8, 2, 0, 1)], ("too large",)),
+        (48, [(8, 2, 0, 65536)], ("too large",)),
     ])
 
 

@@ -15,7 +15,7 @@ from typing import NamedTuple
 REFUSED = 1000000     # an answer from here on is a refusal: this and the refusal's number
 CALLS_MOST = 65536    # call bytes that count
 SESSION_MOST = 26     # numbers that serve for every session
-IMAGE_MOST = 355      # bytes that serve for every network file
+IMAGE_MOST = 387      # bytes that serve for every network file
 
 # a slice is a pointer and then a length
 BYTES = [ctypes.c_char_p, ctypes.c_size_t]
@@ -29,7 +29,7 @@ ARGUMENTS = {
     "frames_free_frames": BYTES + BYTES + [ctypes.c_uint8],
     "frames_ways": BYTES + BYTES + BYTES + NUMBERS_64,
     "frames_image": BYTES + BYTES_OUT,
-    "frames_write": [ctypes.c_uint16] + NUMBERS_16 + NUMBERS_16 + NUMBERS_64 + BYTES_OUT,
+    "frames_write": [ctypes.c_uint16] + NUMBERS_16 + NUMBERS_16 + NUMBERS_64 + NUMBERS_16 + BYTES_OUT,
 }
 
 
@@ -93,14 +93,17 @@ class Library:
         return ctypes.string_at(out, length)
 
     def write(self, ticks, links):
-        """The bytes of the file of a network: T, and for each link its K, its Z and the word of its closed frames."""
+        """The bytes of the file of a network: T, and for each link its K, its Z, the word of its closed frames and its Y, the least
+        hold."""
         count = len(links)
-        frames = (ctypes.c_uint16 * count)(*(fitting(k, 16) for k, z, closed in links))
-        ranges = (ctypes.c_uint16 * count)(*(fitting(z, 16) for k, z, closed in links))
-        closings = (ctypes.c_uint64 * count)(*(fitting(closed, 64) for k, z, closed in links))
+        frames = (ctypes.c_uint16 * count)(*(fitting(k, 16) for k, z, closed, y in links))
+        ranges = (ctypes.c_uint16 * count)(*(fitting(z, 16) for k, z, closed, y in links))
+        closings = (ctypes.c_uint64 * count)(*(fitting(closed, 64) for k, z, closed, y in links))
+        least = (ctypes.c_uint16 * count)(*(fitting(y, 16) for k, z, closed, y in links))
         out = (ctypes.c_uint8 * IMAGE_MOST)()
         ticks = fitting(ticks, 16)
-        length = given(self.functions.frames_write(ticks, frames, count, ranges, count, closings, count, out, len(out)))
+        slices = (frames, count, ranges, count, closings, count, least, count)
+        length = given(self.functions.frames_write(ticks, *slices, out, len(out)))
         return ctypes.string_at(out, length)
 
 

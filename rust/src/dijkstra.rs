@@ -195,3 +195,43 @@ fn frames_of(mut word: u64) -> impl Iterator<Item = u32> {
         Some(frame)
     })
 }
+
+#[cfg(test)]
+mod tests {
+    use super::*;
+    use crate::listing::{self, MOST_PATHS};
+    use crate::model::{hops_of, Ledger};
+    use crate::network_file::Network;
+    use crate::random::Random;
+    use crate::{networks, quoted_routes, survivors};
+
+    /// The hops of the route over all links, or over the first eight.
+    fn hops_over(network: &Network) -> Vec<Hop> {
+        let links = network.links.len().min(MAX_HOPS);
+        let route: Vec<u8> = (0..links as u8).collect();
+        hops_of(network, &Ledger::new(network), &route)[..links].to_vec()
+    }
+
+    /// On routes with transitions that cost nothing too.
+    #[test]
+    fn dijkstra_survivors_and_the_listing_agree() {
+        let mut random = Random::new(35);
+        let mut listed = 0;
+        for _ in 0..4_000 {
+            let networks = [
+                quoted_routes::network(&mut random),
+                networks::listed_network(&mut random),
+            ];
+            for network in networks {
+                let (ticks, hops) = (network.ticks, hops_over(&network));
+                let found = least(ticks, &hops);
+                assert_eq!(found, survivors::least(ticks, &hops), "{hops:?}");
+                if listing::paths(hops.iter().map(|hop| hop.frames)) <= MOST_PATHS {
+                    assert_eq!(found, listing::least(ticks, &hops), "{hops:?}");
+                    listed += usize::from(hops.iter().any(|hop| hop.least == 0));
+                }
+            }
+        }
+        assert!(listed > 1_000, "{listed}");
+    }
+}

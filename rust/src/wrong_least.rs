@@ -23,6 +23,7 @@ pub fn files() -> Vec<Wrong<Text>> {
 pub(crate) fn searches() -> Vec<Wrong<Text>> {
     let mut all = wrong_holds();
     all.extend(wrong_zeros());
+    all.extend(wrong_cycles());
     all.extend(wrong_rivals());
     all
 }
@@ -98,7 +99,7 @@ fn wrong_holds() -> Vec<Wrong<Text>> {
     ]
 }
 
-/// A cycle later by a hold of 0.
+/// A hold of 0 leads into the next cycle.
 pub(crate) const NEXT_CYCLE_WITHOUT_HOLD: Student = Student {
     next_cycle: |step| match step.hold {
         0 => step.cycle + 1,
@@ -128,17 +129,6 @@ fn wrong_zeros() -> Vec<Wrong<Text>> {
                 ..RIGHT
             },
         ),
-        student("a hold of 0 into the next cycle", NEXT_CYCLE_WITHOUT_HOLD),
-        student(
-            "a hold of 0 in a cycle's last frame into the next cycle",
-            Student {
-                next_cycle: |step| {
-                    let hold = step.hold.max(1);
-                    route::next_cycle(step.cycle, step.reference, hold, step.here)
-                },
-                ..RIGHT
-            },
-        ),
         student(
             "a hold of 0 after all others of equals",
             Student {
@@ -150,6 +140,23 @@ fn wrong_zeros() -> Vec<Wrong<Text>> {
             "transitions without a hold not counted",
             Student {
                 counting: Counting::WithoutHoldsOfZero,
+                ..RIGHT
+            },
+        ),
+    ]
+}
+
+/// Mistakes with the cycle after a hold of 0.
+fn wrong_cycles() -> Vec<Wrong<Text>> {
+    vec![
+        by_rules("a hold of 0 into the next cycle", NEXT_CYCLE_WITHOUT_HOLD),
+        by_rules(
+            "a hold of 0 in a cycle's last frame into the next cycle",
+            Student {
+                next_cycle: |step| {
+                    let hold = step.hold.max(1);
+                    route::next_cycle(step.cycle, step.reference, hold, step.here)
+                },
                 ..RIGHT
             },
         ),

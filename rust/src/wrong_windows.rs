@@ -10,6 +10,7 @@ pub fn all() -> Vec<Wrong<Method>> {
     all.extend(wrong_blocks());
     all.extend(wrong_gathering());
     all.extend(wrong_least_holds());
+    all.extend(wrong_numbers_of_holds());
     all.extend(wrong_costs());
     all.extend(wrong_ties());
     all.extend(wrong_counts());
@@ -144,7 +145,7 @@ fn wrong_gathering() -> Vec<Wrong<Method>> {
     ]
 }
 
-/// Mistakes with where a least hold leads to, and with how many holds there are from it on.
+/// Mistakes with where a least hold leads to.
 fn wrong_least_holds() -> Vec<Wrong<Method>> {
     vec![
         wrong(
@@ -171,6 +172,12 @@ fn wrong_least_holds() -> Vec<Wrong<Method>> {
                 ..RIGHT
             },
         ),
+    ]
+}
+
+/// Mistakes with how many holds there are from the least one on.
+fn wrong_numbers_of_holds() -> Vec<Wrong<Method>> {
+    vec![
         wrong(
             "window of Z frames",
             Method {

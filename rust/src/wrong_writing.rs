@@ -12,43 +12,55 @@ use crate::wrong_least::{check_with, CHECKS};
 
 /// All wrong images.
 pub fn images() -> Vec<Wrong<Box<Image>>> {
-    fn wrong(
-        name: &'static str,
-        does: impl Fn(&[u8], &mut [u8]) -> Result<usize, u64> + 'static,
-    ) -> Wrong<Box<Image>> {
-        let does = Box::new(does);
-        Wrong { name, does }
-    }
+    let mut all = wrong_images();
+    all.extend(wrong_least_images());
+    all
+}
+
+fn wrong_image(
+    name: &'static str,
+    does: impl Fn(&[u8], &mut [u8]) -> Result<usize, u64> + 'static,
+) -> Wrong<Box<Image>> {
+    let does = Box::new(does);
+    Wrong { name, does }
+}
+
+fn wrong_images() -> Vec<Wrong<Box<Image>>> {
     vec![
-        wrong("a byte after the image changed", |file, out| {
+        wrong_image("a byte after the image changed", |file, out| {
             let length = stand_in::image(file, out)?;
             change(out, length);
             Ok(length)
         }),
-        wrong("short buffer filled before it is refused", |file, out| {
+        wrong_image("short buffer filled before it is refused", |file, out| {
             put_what_fits(&write_again(file, usize::MAX)?, out);
             stand_in::image(file, out)
         }),
-        wrong("20 before the refusal of the file", |file, out| {
+        wrong_image("20 before the refusal of the file", |file, out| {
             if out.len() < file.len() {
                 return Err(20);
             }
             stand_in::image(file, out)
         }),
-        wrong("closed frames of no link written", |file, out| {
+        wrong_image("closed frames of no link written", |file, out| {
             let mut network = read_network(file)?;
             network.links.iter_mut().for_each(|link| link.closed = 0);
             stand_in::image(file, out)?;
             put(&image(&network), out)
         }),
-        wrong("Y of no link written", |file, out| {
+    ]
+}
+
+fn wrong_least_images() -> Vec<Wrong<Box<Image>>> {
+    vec![
+        wrong_image("Y of no link written", |file, out| {
             let mut network = read_network(file)?;
             let links = network.links.iter_mut();
             links.for_each(|link| link.least = ABSENT.least);
             stand_in::image(file, out)?;
             put(&image(&network), out)
         }),
-        wrong("8 for 21", |file, out| {
+        wrong_image("8 for 21", |file, out| {
             stand_in::image(file, out).map_err(|refusal| match refusal {
                 21 => 8,
                 other => other,
@@ -260,19 +272,6 @@ fn wrong_networks() -> Vec<Wrong<Box<Write>>> {
             network.links.iter_mut().for_each(|link| link.range %= 256);
             network
         }),
-        means("Y cut to a byte", |values| {
-            let mut network = values.network();
-            network.links.iter_mut().for_each(|link| link.least %= 256);
-            network
-        }),
-        means("links without a Y taken for ones of Y 1", |values| {
-            let mut values = values.clone();
-            if values.least.len() < values.frames.len() {
-                let links = values.frames.len();
-                values.least.resize(links, ABSENT.least as u16);
-            }
-            values.network()
-        }),
     ]
 }
 
@@ -321,6 +320,19 @@ fn image_with_least_first(network: &Network) -> Vec<u8> {
 
 fn wrong_least_holds() -> Vec<Wrong<Box<Write>>> {
     vec![
+        means("Y cut to a byte", |values| {
+            let mut network = values.network();
+            network.links.iter_mut().for_each(|link| link.least %= 256);
+            network
+        }),
+        means("links without a Y taken for ones of Y 1", |values| {
+            let mut values = values.clone();
+            if values.least.len() < values.frames.len() {
+                let links = values.frames.len();
+                values.least.resize(links, ABSENT.least as u16);
+            }
+            values.network()
+        }),
         records("absent Y written", |record| {
             record.least.get_or_insert(ABSENT.least as u8);
         }),
