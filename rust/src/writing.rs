@@ -2,7 +2,7 @@
 
 use crate::least_holds::{self, sorts_of_passed, sorts_of_refused, sorts_of_several};
 use crate::lent::Lent;
-use crate::network_file::{check_link, write_again, write_network};
+use crate::network_file::{check_link, image, write_again, write_network};
 use crate::network_file::{Link, Network, Refusal, Values};
 use crate::networks;
 use crate::random::{enough_room, too_little_room, Random};
@@ -33,6 +33,8 @@ pub struct Writing {
     least_refused: [Sort; 4],
     past_a_byte: [Sort; 1],
     several: [Sort; 3],
+    /// Each K with each Z and Y, on both sides of the edges: written and read again, and refused with 8, 21 and 9.
+    every_link: [Sort; 4],
     pub wrong_images: Tried<Box<Image>>,
     pub wrong_writers: Tried<Box<Write>>,
 }
@@ -89,6 +91,12 @@ impl Writing {
             least_refused: sorts_of_refused([4_500, 7_000, 4_500, 1_000]),
             past_a_byte: [sort("256 or more:", 3_500)],
             several: sorts_of_several([2_500, 4_000, 3_800]),
+            every_link: [
+                sort("written", 47_776),
+                sort("refused with 8:", 8_954),
+                sort("with 21:", 93_663),
+                sort("with 9:", 45_633),
+            ],
             wrong_images: Tried::new("image", wrong_writing::images()),
             wrong_writers: Tried::new("writer", wrong_writing::writers()),
         }
@@ -131,6 +139,47 @@ impl Writing {
                 .try_on(inputs, |wrong| fault(wrong).is_some());
             self.tally_values(&values, &network, &expected);
         }
+        Ok(())
+    }
+
+    /// Compares what is written of a link of each K, each Z up to K + 1 and each Y up to K + 2, with no frame closed and with
+    /// frame K, given as values and in a file; what differs, in words.
+    pub fn compare_every_link(&mut self) -> Result<(), String> {
+        for frames in 1..=64 {
+            for range in 0..=frames + 1 {
+                for least in 0..=frames + 2 {
+                    for closed in [Some(0), 1u64.checked_shl(frames)].into_iter().flatten() {
+                        self.compare_link(Link {
+                            frames,
+                            range,
+                            closed,
+                            least,
+                        })?;
+                    }
+                }
+            }
+        }
+        Ok(())
+    }
+
+    fn compare_link(&mut self, link: Link) -> Result<(), String> {
+        let ticks = link.frames * 960u32.div_euclid(link.frames);
+        let links = vec![link];
+        let network = Network { ticks, links };
+        let (values, file) = (Values::of(&network), image(&network));
+        let expected = write_network(&network, file.len());
+        let right = expected.as_deref().map_err(Refusal::clone);
+        let (write, read) = (&self.write, &self.image);
+        let calls: [&dyn Fn(&mut [u8]) -> Result<usize, u64>; 2] =
+            [&|out| write(&values, out), &|out| read(&file, out)];
+        for call in calls {
+            if let Some(fault) = self.lent.fault(file.len(), right, call) {
+                return Err(format!("{network:?}: {fault}\nmodel: {expected:x?}"));
+            }
+        }
+        let outcome = expected.map_or_else(|refusal| refusal, |_| 0);
+        let is_of = [0, 8, 21, 9].map(|of| outcome == of);
+        add_each(&mut self.every_link, &is_of);
         Ok(())
     }
 
@@ -194,6 +243,9 @@ impl Writing {
         print_lines(&[("", &self.images)]);
         println!("networks given as values: {values} compared, 0 differed");
         print_lines(&self.lines());
+        let links = total(&self.every_link);
+        println!("links of each K with each Z and Y: {links} compared, 0 differed");
+        print_lines(&[("", &self.every_link)]);
     }
 
     /// The first sort of which too few were seen, in words.
@@ -202,7 +254,11 @@ impl Writing {
         let images = images.map(|few| format!("files read and written again: {few}"));
         let values =
             || too_few_in(&self.lines()).map(|few| format!("networks given as values: {few}"));
-        images.or_else(values)
+        let links = || {
+            let few = too_few_in(&[("", &self.every_link)]);
+            few.map(|few| format!("links of each K with each Z and Y: {few}"))
+        };
+        images.or_else(values).or_else(links)
     }
 }
 
@@ -289,6 +345,49 @@ mod tests {
             let found = compared(Box::new(stand_in::image), wrong.does).err();
             assert!(found.is_some_and(|words| words.starts_with("Values ")));
         }
+    }
+
+    #[test]
+    fn every_link_is_written_or_refused() {
+        let mut writing = Writing::new(Box::new(stand_in::image), Box::new(stand_in::write), 36);
+        assert_eq!(writing.compare_every_link(), Ok(()));
+        // Each K has K * (K + 1) / 2 + K - 1 pairs of Z and Y that pass: Z + 1 for each Z, but one fewer for Z K.
+        let pairs = |frames: usize| frames * (frames + 1) / 2 + frames - 1;
+        let [written, _, _, closed] = writing.every_link.each_ref().map(|sort| sort.seen);
+        assert_eq!(written, (1..=64).map(pairs).sum());
+        assert_eq!(closed, (1..=63).map(pairs).sum());
+        // Each K has (K + 2) * (K + 3) pairs of Z and Y, with frame K closed as well but for K 64.
+        let tried = |frames: usize| (frames + 2) * (frames + 3);
+        let all: usize = (1..=64).map(tried).sum();
+        assert_eq!(total(&writing.every_link), 2 * all - tried(64));
+        let too_few = writing.every_link.iter().find_map(Sort::too_few);
+        assert_eq!(too_few, None);
+    }
+
+    #[test]
+    fn a_wrong_edge_of_a_link_is_found() {
+        let wrong: [Box<Write>; 2] = [
+            Box::new(|values, out| match stand_in::write(values, out) {
+                Err(21) if values.frames[0] == 61 && values.least[0] == 0 => Err(9),
+                answer => answer,
+            }),
+            Box::new(|values, out| {
+                if (values.range[0], values.least[0]) == (59, 59) {
+                    return Err(21);
+                }
+                stand_in::write(values, out)
+            }),
+        ];
+        for write in wrong {
+            let mut writing = Writing::new(Box::new(stand_in::image), write, 36);
+            assert!(writing.compare_every_link().is_err());
+        }
+        let image: Box<Image> = Box::new(|file, out| match stand_in::image(file, out) {
+            Err(21) => Err(8),
+            answer => answer,
+        });
+        let mut writing = Writing::new(image, Box::new(stand_in::write), 36);
+        assert!(writing.compare_every_link().is_err());
     }
 
     fn network(ticks: u32, links: &[(u32, u32, u64)]) -> Network {

@@ -40,6 +40,7 @@ fn main() {
     for _ in 0..INPUTS {
         check.one_input(&mut random);
     }
+    check.compare_every_link();
     check.compare_quotes();
     check.print_counts();
     check.print_times(start.elapsed());
@@ -356,6 +357,15 @@ impl Check {
         if let Err(fault) = file.and_then(|()| writing.compare_values(*inputs)) {
             println!("net.bin: {}", hex(&input.file));
             fail(&format!("input {}: {fault}", self.inputs));
+        }
+    }
+
+    /// Compares what is written of a link of each K, Z and Y.
+    fn compare_every_link(&mut self) {
+        let Check { writing, times, .. } = self;
+        let compared = timed(&mut times.writing, || writing.compare_every_link());
+        if let Err(fault) = compared {
+            fail(&fault);
         }
     }
 
