@@ -46,14 +46,8 @@ pub(crate) fn hold_within(
     route::hold(reference, frame, &hop)
 }
 
-/// Every hold from 1 on.
-pub(crate) const LEAST_IGNORED: Student = Student {
-    hold: |reference, frame, _, here| hold_within(reference, frame, here, 1, here.range),
-    ..RIGHT
-};
-
 /// The right rules over other hops.
-struct Over(fn(&[Hop]) -> Vec<Hop>);
+pub(crate) struct Over(fn(&[Hop]) -> Vec<Hop>);
 
 impl Rules for Over {
     fn least(&self, ticks: u32, hops: &[Hop]) -> Answer {
@@ -61,11 +55,13 @@ impl Rules for Over {
     }
 }
 
-/// The hops with the Y of the first one.
-fn with_least_of_first(hops: &[Hop]) -> Vec<Hop> {
-    let least = hops[0].least;
+/// The hops with one Y for all.
+fn with_least(hops: &[Hop], least: u32) -> Vec<Hop> {
     hops.iter().map(|&hop| Hop { least, ..hop }).collect()
 }
+
+/// Every hold from 1 on.
+pub(crate) const LEAST_IGNORED: Over = Over(|hops| with_least(hops, 1));
 
 fn wrong_holds() -> Vec<Wrong<Text>> {
     let holds = |name, hold| by_rules(name, Student { hold, ..RIGHT });
@@ -95,18 +91,12 @@ fn wrong_holds() -> Vec<Wrong<Text>> {
         holds("Y of the link before", |reference, frame, before, here| {
             hold_within(reference, frame, here, before.least, here.range)
         }),
-        by_rules("Y of the route's first link", Over(with_least_of_first)),
+        by_rules(
+            "Y of the route's first link",
+            Over(|hops| with_least(hops, hops[0].least)),
+        ),
     ]
 }
-
-/// A hold of 0 leads into the next cycle.
-pub(crate) const NEXT_CYCLE_WITHOUT_HOLD: Student = Student {
-    next_cycle: |step| match step.hold {
-        0 => step.cycle + 1,
-        hold => route::next_cycle(step.cycle, step.reference, hold, step.here),
-    },
-    ..RIGHT
-};
 
 /// Mistakes with a hold of 0.
 fn wrong_zeros() -> Vec<Wrong<Text>> {
@@ -146,10 +136,26 @@ fn wrong_zeros() -> Vec<Wrong<Text>> {
     ]
 }
 
+/// A hold of 0 leads into the next cycle.
+pub(crate) struct NextCycleWithoutHold;
+
+impl Rules for NextCycleWithoutHold {
+    fn least(&self, ticks: u32, hops: &[Hop]) -> Answer {
+        let mut answer = dijkstra::least(ticks, hops);
+        if let Answer::Found { frames, cycles, .. } = &mut answer {
+            for (place, hold) in route::holds(hops, frames).into_iter().enumerate() {
+                let later = cycles[place + 1..].iter_mut();
+                later.for_each(|cycle| *cycle += u8::from(hold == 0));
+            }
+        }
+        answer
+    }
+}
+
 /// Mistakes with the cycle after a hold of 0.
 fn wrong_cycles() -> Vec<Wrong<Text>> {
     vec![
-        by_rules("a hold of 0 into the next cycle", NEXT_CYCLE_WITHOUT_HOLD),
+        by_rules("a hold of 0 into the next cycle", NextCycleWithoutHold),
         by_rules(
             "a hold of 0 in a cycle's last frame into the next cycle",
             Student {
@@ -439,16 +445,30 @@ fn wrongly_mapped() -> Vec<Wrong<Text>> {
 mod tests {
     use super::*;
     use crate::random::Random;
-    use crate::{inputs, model, networks};
+    use crate::{by_holds, inputs, model, networks, survivors, windows};
 
-    /// Where every Y is 1, the search as before W-206 is right.
+    /// The search of document 01, whose hold is the only number from 1 to K that fits, and which knows of no Y.
+    const BEFORE: Student = Student {
+        hold: |reference, frame, _, here| {
+            let ahead = (frame + here.frames - reference) % here.frames;
+            let hold = if ahead == 0 { here.frames } else { ahead };
+            (hold <= here.range).then_some(hold)
+        },
+        ..RIGHT
+    };
+
+    /// Where every Y is 1, all searches give the answers that they gave before W-206.
     #[test]
-    fn without_other_least_holds_y_can_be_ignored() {
+    fn with_y_1_everywhere_answers_are_as_before() {
         let mut random = Random::new(32);
-        for _ in 0..2_000 {
+        for _ in 0..3_000 {
             let (ticks, mut hops) = inputs::some_ticks_and_hops(&mut random);
             hops.iter_mut().for_each(|hop| hop.least = 1);
-            let answer = dijkstra::least(ticks, &hops);
+            let answer = BEFORE.least(ticks, &hops);
+            assert_eq!(dijkstra::least(ticks, &hops), answer);
+            assert_eq!(survivors::least(ticks, &hops), answer);
+            assert_eq!(by_holds::least(ticks, &hops), answer);
+            assert_eq!(windows::least(ticks, &hops), answer);
             assert_eq!(LEAST_IGNORED.least(ticks, &hops), answer);
         }
     }

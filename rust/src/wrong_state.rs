@@ -8,7 +8,7 @@ use crate::stand_in::{change, free_frames, look_up, lookup, put, put_what_fits, 
 use crate::stand_in::{FreeFrames, Lookup};
 use crate::tried::Wrong;
 use crate::wrong::{FreeNothing, FreeOnEveryLink, GoesOn, NoLimit, NoMistake, QuoteHolds};
-use crate::wrong_least::{LEAST_IGNORED, NEXT_CYCLE_WITHOUT_HOLD};
+use crate::wrong_least::{NextCycleWithoutHold, LEAST_IGNORED};
 use crate::wrong_numbers::{ReleasedByLowBits, StoredIn16Bits, HIGH_BYTE_FIRST, THREE_KINDS};
 use std::cell::RefCell;
 
@@ -180,7 +180,7 @@ fn wrongly_found() -> Vec<Wrong<Box<Lookup>>> {
         looks_up_by("four bytes of a number high byte first", HIGH_BYTE_FIRST),
         looks_up_by("numbers stored in 16 bits", StoredIn16Bits),
         looks_up_by("Y ignored at set-up, as before W-206", LEAST_IGNORED),
-        looks_up_by("a hold of 0 into the next cycle", NEXT_CYCLE_WITHOUT_HOLD),
+        looks_up_by("a hold of 0 into the next cycle", NextCycleWithoutHold),
         wrong_lookup("last call byte not read", |file, calls, number, out| {
             let read = &calls[..calls.len().saturating_sub(1)];
             lookup(file, read, number, out)
