@@ -354,7 +354,7 @@ impl Entered {
                 let seen = self.least[frames][..=frames].iter().copied().min();
                 seen.filter(|_| frames > 1)
             }),
-            least("K and Z - Y + 1 but for Y 1", 5, &|frames| {
+            least("K and Z - Y + 1 but for Y 1", 3, &|frames| {
                 let seen = self.holds[frames][1..=frames].iter().copied().min();
                 seen.filter(|_| frames > 1)
             }),
