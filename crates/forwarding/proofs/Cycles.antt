@@ -11,7 +11,7 @@ use lib.ListN.{length, getD}
 use borrow.Author.Tests.{lt-ltb, le-ltb}
 use Rattle.lists.proofs.Count.{and-both}
 use Rattle.forwarding.specs.declared.Hop.{Hop}
-use Rattle.forwarding.specs.Forwarding.{leastHold, referenceInto, hold, holdInto, isFree, mayHold, isAllowed, frameTime}
+use Rattle.forwarding.specs.Forwarding.{leastHold, referenceInto, holdInto, isFree, mayHold, isAllowed, frameTime}
 use Rattle.forwarding.specs.Hops.{noHop, HopReady, AllReady}
 use Rattle.forwarding.specs.Schedule.{GoesOn, IsSchedule}
 use Rattle.forwarding.specs.Cycles.{nextCycle, NoneStays, onwardCycles, scheduleCycles, CyclePerHop, LaterHop, Keeps, SchedulesKeep, Lies, CyclesLie, beginsAt, Follows, CyclesFollow, NotBelow, CyclesNeverFall, CyclesBounded}
@@ -50,7 +50,7 @@ module _ (g h : Hop) (k i c : ℕ) where
 
     meets : (referenceInto g h k + holdInto g h k i) % h .frames ≡ i
     unfolding holdInto
-    meets = hold-fits (leastHold h) (h .frames) (referenceInto g h k) i l .meets
+    meets = hold-fits (leastHold h) (h .frames) (referenceInto g h k) i l .fits
 
     -- a hold of at most a cycle
     lies : holdInto g h k i ≤ h .frames → Lies g h k i c (nextCycle g h k i c)
@@ -77,13 +77,13 @@ begins-split T h c i p =
     ∙ ap (λ (x : ℕ). x + i * frameTime T (h .frames))
     (mul-assoc c (h .frames) (frameTime T (h .frames)) ∙ ap (λ (x : ℕ). c * x) (mul-comm (h .frames) (frameTime T (h .frames)) ∙ cycle-frames T (h .frames) (p .divides)))
 
--- a frame that lies in its cycle ends so much after the one before
+-- a frame that lies in its cycle comes its hold after the one before
 follows : (T : ℕ) (g h : Hop) (k i c d : ℕ) → HopReady T g → HopReady T h → Lies g h k i c d → Follows T g h k i c d
 follows T g h k i c d pg ph e =
     let x : ℕ = referenceInto g h k + holdInto g h k i in
     let after : d * h .frames + (i + 1) ≡ c * h .frames + (x + 1) = omega (arith, e) in
     let there : beginsAt T h d (i + 1) ≡ beginsAt T h c (x + 1) = ap (λ (y : ℕ). y * frameTime T (h .frames)) after in
-    omega (arith, there, begins-split T g c (k + 1) pg, begins-split T h c (x + 1) ph, turns-round T g h k pg ph i)
+    omega (arith, there, begins-split T g c (k + 1) pg, begins-split T h c (x + 1) ph, turns-round T g h k pg ph i .1)
 
 -- something holds of every hop: of ready ones that they are, and of any nothing
 abbrev Every : (Hop → Type 0) → List Hop → Type 0
@@ -135,7 +135,7 @@ allowed-lies T g h k i c pg ph p l a =
 pub cycles-lie : CyclesLie
 cycles-lie T hops fs ps = later-each (HopReady T) Lies (allowed-lies T) hops fs (every-ready T hops ps)
 
--- THE FRAMES IN THEIR CYCLES COME ONE AFTER THE OTHER
+-- EACH FRAME IN ITS CYCLE COMES ITS HOLD AFTER THE ONE BEFORE
 pub cycles-follow : CyclesFollow
 cycles-follow T hops fs ps =
     later-each (HopReady T) (Follows T) (λ g h k i c pg ph p l a. follows T g h k i c (nextCycle g h k i c) pg ph (allowed-lies T g h k i c pg ph p l a)) hops fs (every-ready T hops ps)

@@ -18,7 +18,7 @@ use Rattle.forwarding.specs.Hops.{HopReady}
 pub record FitsFrom (Y K r i D : ℕ) : Type 0 where
   pub least : Y ≤ D
   pub most : D < Y + K
-  pub meets : (r + D) % K ≡ i
+  pub fits : (r + D) % K ≡ i
 
 pub mod-once : (K n : ℕ) → K ≤ n → n < K + K → n % K ≡ n - K
 mod-once K n h l = mod-eq-sub-mod h ∙ mod-eq-of-lt (omega arith)
@@ -65,7 +65,7 @@ hold-fits Y K r i l =
     record {
       least = omega arith;
       most = omega (arith, gap-lt K a i p);
-      meets = ap (λ (x : ℕ). x % K) (sym (add-assoc r Y (gap K a i))) ∙ sym (mod-add-mod (r + Y) K (gap K a i)) ∙ gap-meets K a i p l;
+      fits = ap (λ (x : ℕ). x % K) (sym (add-assoc r Y (gap K a i))) ∙ sym (mod-add-mod (r + Y) K (gap K a i)) ∙ gap-meets K a i p l;
     }
 
 pub hold-fitting : (Y K r i D : ℕ) → FitsFrom Y K r i D → D ≡ hold Y K r i
@@ -77,7 +77,7 @@ hold-fitting Y K r i D d =
     omega (
       arith,
       d .least,
-      gap-only K a i (D - Y) p (omega (arith, d .least, d .most)) (mod-add-mod (r + Y) K (D - Y) ∙ ap (λ (x : ℕ). x % K) s ∙ d .meets),
+      gap-only K a i (D - Y) p (omega (arith, d .least, d .most)) (mod-add-mod (r + Y) K (D - Y) ∙ ap (λ (x : ℕ). x % K) s ∙ d .fits),
     )
 
 -- the hold of a transition lies so far after the frame that the least hold leads to

@@ -4,7 +4,7 @@ use Prim.Native.Nat.{ℕ, _+_, _-_, _*_, _/_, _<_, _≤_}
 use native.Mathlib.Nat.{add-zero, mod-eq-of-lt, zero-div, div-eq-of-lt-le, div-div-eq-div-mul, div-mul-le-self, lt-div-mul-add, le-div-iff-mul-le, mul-assoc, mul-comm, mul-right-comm, add-mul, zero-mul, one-mul, mul-le-mul-right, mul-lt-mul-of-pos-right, le-of-mul-le-mul-right, lt-of-mul-lt-mul-right}
 use native.Mathlib.Omega.{arith}
 use Rattle.forwarding.specs.declared.Hop.{Hop}
-use Rattle.forwarding.specs.Forwarding.{reference, referenceInto, leastHold, holdInto, frameTime, delay}
+use Rattle.forwarding.specs.Forwarding.{reference, referenceInto, holdInto, frameTime, delay}
 use Rattle.forwarding.specs.Hops.{HopReady}
 use Rattle.forwarding.specs.Rates.{SameRate, ToFaster, ToSlower, ToFasterLater, NeverEarlier, WholeFrame, NotYetWhole, TurnsRound, SameFrame}
 use Rattle.forwarding.proofs.Holds.{hold-fitting, into-gap}
@@ -68,10 +68,10 @@ module _ (T : ℕ) (g h : Hop) (k : ℕ) (pg : HopReady T g) (ph : HopReady T h)
       (omega (arith, mul-le-mul-right time whole, y-cycles (r + 1), mul-right-comm (k + 1) (h .frames) time))
       (ph .some-frame)
 
-  ends-after : (i : ℕ) → (k + 1) * time + leastHold h * frameTime T (h .frames) ≤ (r + holdInto g h k i + 1) * frameTime T (h .frames)
-  ends-after i =
-      let held : r + 1 + leastHold h ≤ r + holdInto g h k i + 1 = omega (arith, into-gap g h k i) in
-      omega (arith, arrived, mul-le-mul-right (frameTime T (h .frames)) held, add-mul (r + 1) (leastHold h) (frameTime T (h .frames)))
+  ends-after : (D : ℕ) → (k + 1) * time + D * frameTime T (h .frames) ≤ (r + D + 1) * frameTime T (h .frames)
+  ends-after D =
+      let same : r + 1 + D ≡ r + D + 1 = omega arith in
+      omega (arith, arrived, add-mul (r + 1) D (frameTime T (h .frames)), ap (λ (x : ℕ). x * frameTime T (h .frames)) same)
 
   begins-before : 0 < T → r * frameTime T (h .frames) < (k + 1) * time
   unfolding reference referenceInto
@@ -83,14 +83,15 @@ module _ (T : ℕ) (g h : Hop) (k : ℕ) (pg : HopReady T g) (ph : HopReady T h)
 
 -- "Some switches need two frames to turn round, those of source document 000 none"
 pub turns-round : TurnsRound
-turns-round T g h k pg ph i = ends-after T g h k pg ph i
+turns-round T g h k pg ph i = (omega (arith, into-gap g h k i), ends-after T g h k pg ph (holdInto g h k i))
 
 -- "The new switches send nothing of a frame before its last bit has arrived"
 pub whole-frame : WholeFrame
-whole-frame T g h k pg ph some i =
+whole-frame T g h k pg ph i some =
     let time : ℕ = frameTime T (h .frames) in
-    let one : 1 * time ≤ leastHold h * time = mul-le-mul-right time some in
-    omega (arith, one, one-mul time, turns-round T g h k pg ph i, next-mul (referenceInto g h k + holdInto g h k i) time)
+    let D : ℕ = holdInto g h k i in
+    let one : 1 * time ≤ D * time = mul-le-mul-right time some in
+    omega (arith, one, one-mul time, turns-round T g h k pg ph i .1, next-mul (referenceInto g h k + D) time)
 
 -- and it waits no longer than it must
 pub not-yet-whole : NotYetWhole
@@ -105,4 +106,4 @@ same-frame T g h k p e l y = (none, rw none (unfold delay in rw zero-mul (zero-d
     there = unfold referenceInto in rw e (same-rate k (h .frames) (p .some-frame))
 
     none : holdInto g h k k ≡ 0
-    none = rw (y, there) (sym (hold-fitting 0 (h .frames) k k 0 (record { least = omega arith; most = omega arith; meets = rw add-zero (mod-eq-of-lt l) })))
+    none = rw (y, there) (sym (hold-fitting 0 (h .frames) k k 0 (record { least = omega arith; most = omega arith; fits = rw add-zero (mod-eq-of-lt l) })))

@@ -9,7 +9,7 @@ use borrow.Author.Tests.{leb-true, leb-false, le-leb, lt-ltb, le-ltb}
 use Rattle.lists.specs.Count.{oneIf, countBelow}
 use Rattle.lists.proofs.Count.{sum-le, and-both, both-and, and-left-le}
 use Rattle.forwarding.specs.declared.Hop.{Hop}
-use Rattle.forwarding.specs.Forwarding.{referenceInto, leastHold, isFree, mayHold, hold, holdInto, isAllowed, HoldOnly, TwoFit, AllowedWhere, choices, delay, frameTime, IsDelay}
+use Rattle.forwarding.specs.Forwarding.{referenceInto, leastHold, isFree, mayHold, holdInto, isAllowed, HoldOnly, TwoFit, AllowedWhere, choices, delay, frameTime, IsDelay}
 use Rattle.forwarding.specs.Hops.{HopReady}
 use Rattle.forwarding.proofs.Holds.{hold-fits, hold-fitting, choices-range, choices-in, count-holds}
 
@@ -61,10 +61,10 @@ pub hold-only : HoldOnly
 unfolding leastHold
 hold-only T h r i p l D = (
   λ d. (
-    hold-fitting (leastHold h) (h .frames) r i D (record { least = d .least; most = omega (arith, d .most, p .narrow); meets = d .fits }),
+    hold-fitting (leastHold h) (h .frames) r i D (record { least = d .least; most = omega (arith, d .most, p .narrow); fits = d .fits }),
     hold-may h D (d .most),
   ),
-  λ (e, m). let f = hold-fits (leastHold h) (h .frames) r i l in rw e (record { least = f .least; most = rw e at (may-hold h D m); fits = f .meets }),
+  λ (e, m). let f = hold-fits (leastHold h) (h .frames) r i l in rw e (record { least = f .least; most = rw e at (may-hold h D m); fits = f .fits }),
 )
 
 -- WITH Y 0 AND Z EQUAL TO K both 0 and K fit

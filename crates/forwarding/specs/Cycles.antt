@@ -6,7 +6,7 @@ use Prim.Native.Nat.{ℕ, suc, _+_, _*_, _<_, _≤_}
 use lib.Dec.{ltb}
 use lib.ListN.{length, getD}
 use Rattle.forwarding.specs.declared.Hop.{Hop}
-use Rattle.forwarding.specs.Forwarding.{referenceInto, leastHold, IsHold, holdInto, frameTime}
+use Rattle.forwarding.specs.Forwarding.{referenceInto, IsHold, holdInto, frameTime}
 use Rattle.forwarding.specs.Hops.{noHop, AllReady}
 use Rattle.forwarding.specs.Schedule.{IsSchedule}
 
@@ -59,11 +59,11 @@ CyclesLie = (T : ℕ) (hops : List Hop) (fs : List ℕ) → AllReady T hops → 
 abbrev pub beginsAt : ℕ → Hop → ℕ → ℕ → ℕ
 beginsAt T h c i = (c * h .frames + i) * frameTime T (h .frames)
 
--- a frame in its cycle ends Y of its frames, or more, after the one on the hop before has ended; so where Y is 1 or more it begins no earlier than that
+-- a frame in its cycle ends as many of its frames as its hold has, or more, after the one on the hop before has ended; so after a hold of 1 or more it begins no earlier than that
 abbrev pub Follows : ℕ → Hop → Hop → ℕ → ℕ → ℕ → ℕ → Type 0
-Follows T g h k i c d = beginsAt T g c (k + 1) + leastHold h * frameTime T (h .frames) ≤ beginsAt T h d (i + 1)
+Follows T g h k i c d = beginsAt T g c (k + 1) + holdInto g h k i * frameTime T (h .frames) ≤ beginsAt T h d (i + 1)
 
--- THE FRAMES IN THEIR CYCLES COME ONE AFTER THE OTHER: "send nothing of a frame before its last bit has arrived" (W-201), and need Y frames "to turn round" (W-206), over all cycles
+-- EACH FRAME IN ITS CYCLE COMES ITS HOLD AFTER THE ONE BEFORE: "send nothing of a frame before its last bit has arrived" (W-201) and "need two frames to turn round" (W-206), over all cycles
 abbrev pub CyclesFollow : Type 0
 CyclesFollow = (T : ℕ) (hops : List Hop) (fs : List ℕ) → AllReady T hops → IsSchedule hops fs → LaterHop (Follows T) hops fs (scheduleCycles hops fs)
 

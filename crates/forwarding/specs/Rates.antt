@@ -26,21 +26,22 @@ abbrev pub NeverEarlier : Type 0
 NeverEarlier = (k K K′ : ℕ) → 0 < K → 0 < K′ → k * K / K′ ≤ reference k K K′
 
 -- "The new switches send nothing of a frame before its last bit has arrived": frame k of the hop g ends at tick (k + 1) × T / K', and
--- whatever frame i of the hop h after it the hold leads to begins no earlier; where Y is 0 (W-206), a hold of 0 sends the frame on while it arrives
+-- whatever frame i of the hop h after it a hold leads to begins no earlier; but a hold of 0 (W-206) leads to a frame that has begun before
 abbrev pub WholeFrame : Type 0
-WholeFrame = (T : ℕ) (g h : Hop) (k : ℕ) → HopReady T g → HopReady T h → 0 < leastHold h → (i : ℕ)
+WholeFrame = (T : ℕ) (g h : Hop) (k : ℕ) → HopReady T g → HopReady T h → (i : ℕ) → 0 < holdInto g h k i
     → (k + 1) * frameTime T (g .frames) ≤ (referenceInto g h k + holdInto g h k i) * frameTime T (h .frames)
 
--- and it waits no longer than it must: when the reference frame begins the last bit has not arrived, so that the frame after it is the first that will do
+-- and it waits no longer than it must: when the reference frame begins the last bit has not arrived, so that the frame after it is the first that begins no earlier than that
 abbrev pub NotYetWhole : Type 0
 NotYetWhole = (T : ℕ) (g h : Hop) (k : ℕ) → HopReady T g → HopReady T h → 0 < T
     → referenceInto g h k * frameTime T (h .frames) < (k + 1) * frameTime T (g .frames)
 
--- "Some switches need two frames to turn round, those of source document 000 none" (W-206): whatever Y is, the frame that the hold leads to ends Y of its frames, or more, after frame k of
--- the hop before has ended
+-- "Some switches need two frames to turn round, those of source document 000 none" (W-206): a hold has Y frames at least, and the frame that it leads to ends as many of its frames, or more,
+-- after frame k of the hop before has ended
 abbrev pub TurnsRound : Type 0
 TurnsRound = (T : ℕ) (g h : Hop) (k : ℕ) → HopReady T g → HopReady T h → (i : ℕ)
-    → (k + 1) * frameTime T (g .frames) + leastHold h * frameTime T (h .frames) ≤ (referenceInto g h k + holdInto g h k i + 1) * frameTime T (h .frames)
+    → (leastHold h ≤ holdInto g h k i)
+    × ((k + 1) * frameTime T (g .frames) + holdInto g h k i * frameTime T (h .frames) ≤ (referenceInto g h k + holdInto g h k i + 1) * frameTime T (h .frames))
 
 -- WITH Y 0 THE SAME FRAME NUMBER, between links of one rate, IS A HOLD OF 0 AND A DELAY OF 0, allowed where the frame is free
 abbrev pub SameFrame : Type 0

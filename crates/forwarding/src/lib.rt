@@ -99,7 +99,7 @@ pub fn frame_time(t: u16, frames: u16) -> Delay
 }
 
 // The delay of a hold on a link whose frame lasts so long: the one place where a hold becomes a delay.
-// Checks 3, 7 and 8: a hold is at most Z, Z at most K, and K frames last T ticks, at most 960.
+// Checks 3, 7, 8 and 21: a hold, also the least, is at most Z, Z at most K, and K frames last T ticks, at most 960.
 pub fn delay_of(hold: Hold, frame: Delay) -> Delay
     requires { ⌜ hold .0 * frame .0 ≤ 960 ⌝ }
     ensures { λ r. ⌜ IsDelay (hold .0) (frame .0) (r .0) ⌝ }

@@ -58,7 +58,7 @@ arrangement-free st other e =
           (subst (λ (v : View). Runs v others (viewOf end)) (sym e) (stored-by-rules other end others b));
     }
 
--- A QUOTE DEPENDS ON T, THE ROUTE AND THOSE LINKS' K, Z AND FREE FRAMES ALONE, at the call
+-- A QUOTE DEPENDS ON T, THE ROUTE AND THOSE LINKS' K, Z, Y AND FREE FRAMES ALONE, at the call
 pub stored-quote-depends : StoredQuoteDepends
 stored-quote-depends st other route r q a b r0 q0 r13 q13 ticks hops =
     let x = quotes-back (viewOf st) (Quote route) (r .answer) (a .answer) in

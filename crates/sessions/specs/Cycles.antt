@@ -17,7 +17,7 @@ use Rattle.sessions.specs.declared.Looked.{Looked}
 use Rattle.sessions.specs.Calls.{Looks}
 
 -- beside the frames of a route's links stand their cycles, "unused hop and link places hold 0"; each frame is led to by a number from Y up to Z that fits, lies in its cycle,
--- and ends Y of its frames, or more, after the one on the hop before has ended; cycles never fall, and hop j's is at most j
+-- and ends as many of its frames as its hold has, or more, after the one on the hop before has ended; cycles never fall, and hop j's is at most j
 pub record CyclesBeside (net : Topology) (route : List ℕ) (h : Held) : Type 0 where
   pub cycles : h .cycles ≡ firsts 8 (scheduleCycles (hopsOf net [] route) (firsts (length route) (h .frames) 0)) 0
   pub keep : LaterHop Keeps (hopsOf net [] route) (h .frames) (h .cycles)
