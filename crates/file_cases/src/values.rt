@@ -76,8 +76,8 @@ fn check_and_write(network: Network, room: usize)
     show_written(&buffer, written);
 }
 
-// A network whose values are written in text, but for Y of link 0 and of every other link.
-fn network(text: &[u8], first: u16, others: u16) {
+// A network whose values are written in text, with these Y of link 0 and of every other link.
+fn given(text: &[u8], first: u16, others: u16) {
     let mut links = [link(text, 7, others); 32];
     links[0] = link(text, 4, first);
     let network = Network {
@@ -93,10 +93,10 @@ fn network(text: &[u8], first: u16, others: u16) {
 
 // One whose every Y is 1.
 pub(super) fn value(text: &[u8]) {
-    network(text, 1, 1);
+    given(text, 1, 1);
 }
 
 // One whose Y are written in text, after the other values.
 pub(super) fn least(text: &[u8]) {
-    network(text, short(text, 10), short(text, 11));
+    given(text, short(text, 10), short(text, 11));
 }
