@@ -115,14 +115,14 @@ unfolding freeCount freeFrames
 free-few v link n i e = go (brokenCheck v) (unknown (length (v .network .links)) link) refl e
   where
     go : (r : Ruling) (b : Bool) → unknown (length (v .network .links)) link ≡ b
-        → refusedOr r (refusedOr (refuseIf b 13) (given (countBelow (linkAt (v .network) link .frames) (bitOf (freeOf (v .network) (v .live) link))))) ≡ given n → n ≤ 64
+        → refusedOr r (refusedOr (refuseIf b 13) (given (countBelow (linkAt (v .network) link .frames) (bitOf (freeOf (v .network) (v .live) link 0))))) ≡ given n → n ≤ 64
     go (refused k) b q f = let z : _≡_ {A = ℕ} 0 1 = cc in omega arith
     go (given pass) true q f = let z : _≡_ {A = ℕ} 0 1 = cc in omega arith
     go (given pass) false q f =
         let frames : ℕ = linkAt (v .network) link .frames in
         let good = link-passed (v .network) link (intact-is v i .network) (known-passed (length (v .network .links)) link q) in
-        let is : countBelow frames (bitOf (freeOf (v .network) (v .live) link)) ≡ n = cc in
-        omega (arith, is, count-le frames (bitOf (freeOf (v .network) (v .live) link)), frames-passed (v .network .ticks) frames (good .frames) .1)
+        let is : countBelow frames (bitOf (freeOf (v .network) (v .live) link 0)) ≡ n = cc in
+        omega (arith, is, count-le frames (bitOf (freeOf (v .network) (v .live) link 0)), frames-passed (v .network .ticks) frames (good .frames) .1)
 
 -- ---- on the state after call records
 module _ (file calls : List ℕ) (bytes : IsBytes file) where

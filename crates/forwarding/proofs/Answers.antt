@@ -5,19 +5,20 @@ use Prim.Native.Nat.{ℕ, _≤_}
 use native.Mathlib.Omega.{arith}
 use Rattle.lists.specs.Order.{Precedes}
 use Rattle.lists.proofs.Order.{precedes-head}
-use Rattle.trellis.specs.Answer.{Answer, found, blocked, answer}
+use Rattle.trellis.specs.Answer.{Answer, found, blocked, renamed, answer}
 use Rattle.trellis.proofs.Forwards.{Says, answer-says, says-only}
 use Rattle.forwarding.specs.declared.Hop.{Hop}
+use Rattle.forwarding.specs.Forwarding.{Spot}
 use Rattle.forwarding.specs.Schedule.{IsSchedule, scheduleDelay, scheduleKey, goingBack, CountOf}
-use Rattle.forwarding.specs.Route.{routeTrellis, transitions, routeAnswer}
+use Rattle.forwarding.specs.Route.{nodesOn, spotsOn, routeTrellis, transitions, routeAnswer}
 use Rattle.forwarding.specs.LeastDelay.{RouteAnswer, AnswerRules, AnswerUnique, FoundGiven, BlockedNone, NoneBlocked}
 use Rattle.forwarding.proofs.Schedules.{schedules-paths}
 use Rattle.forwarding.proofs.Counted.{count-only, transitions-counted}
 
 module _ (T : ℕ) (hops : List Hop) where
   -- what an answer says of the paths of the trellis, and of schedules
-  abbrev Said : Answer → Type 0
-  Said = Says (routeTrellis T hops) (IsSchedule hops) (scheduleDelay T hops) (scheduleKey T hops) (schedules-paths T hops)
+  abbrev Said : Answer Spot → Type 0
+  Said = Says Spot (routeTrellis T hops) (IsSchedule hops) (nodesOn hops) (spotsOn hops) (scheduleDelay T hops) (scheduleKey T hops) (schedules-paths T hops)
 
   counted : (n : ℕ) → n ≡ transitions T hops → CountOf hops n
   counted n e = rw e (transitions-counted T hops)
@@ -25,11 +26,11 @@ module _ (T : ℕ) (hops : List Hop) where
   is-count : (n : ℕ) → CountOf hops n → n ≡ transitions T hops
   is-count n c = count-only hops n (transitions T hops) c (transitions-counted T hops)
 
-  said-answer : (a : Answer) → Said a → RouteAnswer T hops a
+  said-answer : (a : Answer Spot) → Said a → RouteAnswer T hops a
   said-answer (found d n fs) s = (record { schedule = s .0 .0; first = s .0 .1 }, s .1, counted n (s .2))
   said-answer (blocked n) s = (s .0, counted n (s .1))
 
-  answer-said : (a : Answer) → RouteAnswer T hops a → Said a
+  answer-said : (a : Answer Spot) → RouteAnswer T hops a → Said a
   answer-said (found d n fs) r = ((r .0 .schedule, r .0 .first), r .1, is-count n (r .2))
   answer-said (blocked n) r = (r .0, is-count n (r .1))
 
@@ -37,16 +38,16 @@ module _ (T : ℕ) (hops : List Hop) where
 pub answer-rules : AnswerRules
 unfolding routeAnswer
 answer-rules T hops =
-    said-answer T hops (answer (routeTrellis T hops))
-    (answer-says (routeTrellis T hops) (IsSchedule hops) (scheduleDelay T hops) (scheduleKey T hops) (schedules-paths T hops))
+    said-answer T hops (renamed (spotsOn hops) (answer (routeTrellis T hops)))
+    (answer-says Spot (routeTrellis T hops) (IsSchedule hops) (nodesOn hops) (spotsOn hops) (scheduleDelay T hops) (scheduleKey T hops) (schedules-paths T hops))
 
 pub answer-unique : AnswerUnique
 unfolding routeAnswer
 answer-unique T hops a r =
-    says-only (routeTrellis T hops) (IsSchedule hops) (scheduleDelay T hops) (scheduleKey T hops) (schedules-paths T hops) a (answer-said T hops a r)
+    says-only Spot (routeTrellis T hops) (IsSchedule hops) (nodesOn hops) (spotsOn hops) (scheduleDelay T hops) (scheduleKey T hops) (schedules-paths T hops) a (answer-said T hops a r)
 
 -- the first of all has the least delay
-first-delay : (T : ℕ) (hops : List Hop) (fs gs : List ℕ) → IsSchedule hops fs → IsSchedule hops gs → Precedes (scheduleKey T hops fs) (scheduleKey T hops gs)
+first-delay : (T : ℕ) (hops : List Hop) (fs gs : List Spot) → IsSchedule hops fs → IsSchedule hops gs → Precedes (scheduleKey T hops fs) (scheduleKey T hops gs)
     → scheduleDelay T hops fs ≤ scheduleDelay T hops gs
 first-delay T [] fs gs s t p = absurd s
 first-delay T (h ∷ hs) [] gs s t p = absurd s

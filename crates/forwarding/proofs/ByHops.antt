@@ -10,25 +10,25 @@ use Rattle.trellis.proofs.Ladder.{ladder, between, between-tab, grow-tab, ladde
 use Rattle.forwarding.specs.declared.Hop.{Hop}
 use Rattle.forwarding.specs.Hops.{noHop, HopReady, AllReady}
 use Rattle.forwarding.specs.Inner.{hopAt, stageAfter}
-use Rattle.forwarding.specs.Route.{starts, stage, stages, routeTrellis}
+use Rattle.forwarding.specs.Route.{nodes, starts, stage, stages, routeTrellis}
 
 stages-between : (T : ℕ) (h : Hop) (hs : List Hop) → stages T h hs ≡ between (stage T) h hs
 stages-between T h [] = refl
 stages-between T h (g ∷ gs) = ap (λ (x : List Stage). stage T h g ∷ x) (stages-between T g gs)
 
-pub route-ladder : (T : ℕ) (h : Hop) (hs : List Hop) → routeTrellis T (h ∷ hs) ≡ ladder (entry (h .frames) (starts h)) (stageAfter T (h ∷ hs)) (length hs)
+pub route-ladder : (T : ℕ) (h : Hop) (hs : List Hop) → routeTrellis T (h ∷ hs) ≡ ladder (entry (nodes h) (starts h)) (stageAfter T (h ∷ hs)) (length hs)
 route-ladder T h hs =
-    ap (grow (entry (h .frames) (starts h))) (stages-between T h hs ∙ between-tab (stage T) noHop h hs)
-    ∙ grow-tab (entry (h .frames) (starts h)) (stageAfter T (h ∷ hs)) (length hs)
+    ap (grow (entry (nodes h) (starts h))) (stages-between T h hs ∙ between-tab (stage T) noHop h hs)
+    ∙ grow-tab (entry (nodes h) (starts h)) (stageAfter T (h ∷ hs)) (length hs)
 
 -- the trellis of hops 0 to j is that of the first j + 1 hops
 pub first-hops : (T : ℕ) (hops : List Hop) (j : ℕ) → j < length hops
-    → routeTrellis T (take (suc j) hops) ≡ ladder (entry (hopAt hops 0 .frames) (starts (hopAt hops 0))) (stageAfter T hops) j
+    → routeTrellis T (take (suc j) hops) ≡ ladder (entry (nodes (hopAt hops 0)) (starts (hopAt hops 0))) (stageAfter T hops) j
 first-hops T [] j l = absurd (omega arith)
 first-hops T (h ∷ hs) j l = route-ladder T h (take j hs) ∙ ap (ladder start (stageAfter T (h ∷ take j hs))) (length-take-le j hs (omega arith)) ∙ ladder-cong start (stageAfter T (h ∷ take j hs)) (stageAfter T (h ∷ hs)) j same
   where
     start : Trellis
-    start = entry (h .frames) (starts h)
+    start = entry (nodes h) (starts h)
 
     before : (m : ℕ) → m < j → getD (h ∷ take j hs) m noHop ≡ getD (h ∷ hs) m noHop
     before zero n = refl

@@ -9,14 +9,13 @@ use native.Mathlib.Omega.{arith}
 use lib.Dec.{ltb}
 use lib.ListN.{length, getD}
 use borrow.Author.Tests.{lt-ltb, le-ltb}
-use Rattle.lists.proofs.Count.{and-both}
 use Rattle.forwarding.specs.declared.Hop.{Hop}
-use Rattle.forwarding.specs.Forwarding.{leastHold, referenceInto, holdInto, isFree, mayHold, isAllowed, frameTime}
+use Rattle.forwarding.specs.Forwarding.{Spot, leastHold, referenceInto, holdInto, isAllowed, frameTime}
 use Rattle.forwarding.specs.Hops.{noHop, HopReady, AllReady}
-use Rattle.forwarding.specs.Schedule.{GoesOn, IsSchedule}
+use Rattle.forwarding.specs.Schedule.{framesOf, GoesOn, IsSchedule}
 use Rattle.forwarding.specs.Cycles.{nextCycle, NoneStays, onwardCycles, scheduleCycles, CyclePerHop, LaterHop, Keeps, SchedulesKeep, Lies, CyclesLie, beginsAt, Follows, CyclesFollow, NotBelow, CyclesNeverFall, CyclesBounded}
 use Rattle.forwarding.proofs.Holds.{mod-once, hold-fits, reference-in}
-use Rattle.forwarding.proofs.Transitions.{may-hold, hold-only, cycle-frames}
+use Rattle.forwarding.proofs.Transitions.{may-hold, allows, hold-only, cycle-frames}
 use Rattle.forwarding.proofs.Rates.{next-mul, turns-round}
 
 -- ---- one transition
@@ -101,35 +100,35 @@ every-hop (h ∷ hs) = (tt, every-hop hs)
 -- what holds of every transition of a schedule and the cycles of its two hops, where Q holds of both hops, holds of every later hop
 module _ (Q : Hop → Type 0) (P : Hop → Hop → ℕ → ℕ → ℕ → ℕ → Type 0) where
   abbrev Each : Type 0
-  Each = (g h : Hop) (k i c : ℕ) → Q g → Q h → k < g .frames → i < h .frames → isAllowed g h k i ≡ true → P g h k i c (nextCycle g h k i c)
+  Each = (g h : Hop) (x y : Spot) (c : ℕ) → Q g → Q h → x .frame < g .frames → y .frame < h .frames → isAllowed g h x y ≡ true → P g h (x .frame) (y .frame) c (nextCycle g h (x .frame) (y .frame) c)
 
-  on-each : Each → (g : Hop) (k c : ℕ) (hs : List Hop) (is : List ℕ) → Q g → Every Q hs → k < g .frames → GoesOn g k hs is → (j : ℕ) → j < length hs
-      → P (getD (g ∷ hs) j noHop) (getD hs j noHop) (getD (k ∷ is) j 0) (getD is j 0) (getD (c ∷ onwardCycles g k c hs is) j 0) (getD (onwardCycles g k c hs is) j 0)
-  on-each f g k c [] is pg ps l o j q = absurd (not-suc-le-zero q)
-  on-each f g k c (h ∷ hs) [] pg ps l o j q = absurd o
-  on-each f g k c (h ∷ hs) (i ∷ is) pg ps l o zero q = f g h k i c pg (ps .0) l (o .0) (o .1)
-  on-each f g k c (h ∷ hs) (i ∷ is) pg ps l o (suc j) q = on-each f h i (nextCycle g h k i c) hs is (ps .0) (ps .1) (o .0) (o .2) j (le-of-suc-le-suc q)
+  on-each : Each → (g : Hop) (x : Spot) (c : ℕ) (hs : List Hop) (ys : List Spot) → Q g → Every Q hs → x .frame < g .frames → GoesOn g x hs ys → (j : ℕ) → j < length hs
+      → P (getD (g ∷ hs) j noHop) (getD hs j noHop) (getD (x .frame ∷ framesOf ys) j 0) (getD (framesOf ys) j 0) (getD (c ∷ onwardCycles g (x .frame) c hs (framesOf ys)) j 0) (getD (onwardCycles g (x .frame) c hs (framesOf ys)) j 0)
+  on-each f g x c [] ys pg ps l o j q = absurd (not-suc-le-zero q)
+  on-each f g x c (h ∷ hs) [] pg ps l o j q = absurd o
+  on-each f g x c (h ∷ hs) (y ∷ ys) pg ps l o zero q = f g h x y c pg (ps .0) l (o .0 .0) (o .1)
+  on-each f g x c (h ∷ hs) (y ∷ ys) pg ps l o (suc j) q = on-each f h y (nextCycle g h (x .frame) (y .frame) c) hs ys (ps .0) (ps .1) (o .0 .0) (o .2) j (le-of-suc-le-suc q)
 
-  later-each : Each → (hops : List Hop) (fs : List ℕ) → Every Q hops → IsSchedule hops fs → LaterHop P hops fs (scheduleCycles hops fs)
-  later-each f [] fs ps s j q = absurd s
+  later-each : Each → (hops : List Hop) (xs : List Spot) → Every Q hops → IsSchedule hops xs → LaterHop P hops (framesOf xs) (scheduleCycles hops (framesOf xs))
+  later-each f [] xs ps s j q = absurd s
   later-each f (h ∷ hs) [] ps s j q = absurd s
-  later-each f (h ∷ hs) (k ∷ is) ps s j q = on-each f h k 0 hs is (ps .0) (ps .1) (s .0) (s .2) j (le-of-suc-le-suc q)
+  later-each f (h ∷ hs) (x ∷ ys) ps s j q = on-each f h x 0 hs ys (ps .0) (ps .1) (s .0 .0) (s .2) j (le-of-suc-le-suc q)
 
 -- an allowed transition
 allowed-keeps : (T : ℕ) → Each (HopReady T) Keeps
 unfolding holdInto
-allowed-keeps T g h k i c pg ph p l a =
-    hold-only T h (referenceInto g h k) i ph l (holdInto g h k i) .1 (refl, and-both (mayHold h (holdInto g h k i)) (isFree h i) a .0)
+allowed-keeps T g h x y c pg ph p l a =
+    hold-only T h (referenceInto g h (x .frame)) (y .frame) ph l (holdInto g h (x .frame) (y .frame)) .1 (refl, allows g h x y a .holds)
 
 -- EVERY SCHEDULE KEEPS Y, at every later hop
 pub schedules-keep : SchedulesKeep
 schedules-keep T hops fs ps = later-each (HopReady T) Keeps (allowed-keeps T) hops fs (every-ready T hops ps)
 
 allowed-lies : (T : ℕ) → Each (HopReady T) Lies
-allowed-lies T g h k i c pg ph p l a =
-    let D : ℕ = holdInto g h k i in
-    let few : D ≤ h .range = may-hold h D (and-both (mayHold h D) (isFree h i) a .0) in
-    lies g h k i c p l (omega (arith, few, ph .in-cycle))
+allowed-lies T g h x y c pg ph p l a =
+    let D : ℕ = holdInto g h (x .frame) (y .frame) in
+    let few : D ≤ h .range = may-hold h D (allows g h x y a .holds) in
+    lies g h (x .frame) (y .frame) c p l (omega (arith, few, ph .in-cycle))
 
 -- THE CYCLE IS THE ONE IN WHICH THE FRAME LIES
 pub cycles-lie : CyclesLie
@@ -138,17 +137,17 @@ cycles-lie T hops fs ps = later-each (HopReady T) Lies (allowed-lies T) hops fs 
 -- EACH FRAME IN ITS CYCLE COMES ITS HOLD AFTER THE ONE BEFORE
 pub cycles-follow : CyclesFollow
 cycles-follow T hops fs ps =
-    later-each (HopReady T) (Follows T) (λ g h k i c pg ph p l a. follows T g h k i c (nextCycle g h k i c) pg ph (allowed-lies T g h k i c pg ph p l a)) hops fs (every-ready T hops ps)
+    later-each (HopReady T) (Follows T) (λ g h x y c pg ph p l a. follows T g h (x .frame) (y .frame) c (nextCycle g h (x .frame) (y .frame) c) pg ph (allowed-lies T g h x y c pg ph p l a)) hops fs (every-ready T hops ps)
 
 -- CYCLES NEVER FALL along a route
 pub cycles-never-fall : CyclesNeverFall
-cycles-never-fall hops fs = later-each (λ h. Unit {0}) NotBelow (λ g h k i c pg ph p l a. next-or-same g h k i c .0) hops fs (every-hop hops)
+cycles-never-fall hops fs = later-each (λ h. Unit {0}) NotBelow (λ g h x y c pg ph p l a. next-or-same g h (x .frame) (y .frame) c .0) hops fs (every-hop hops)
 
 -- ---- how many they are, and how large
-on-many : (g : Hop) (k c : ℕ) (hs : List Hop) (is : List ℕ) → GoesOn g k hs is → length (onwardCycles g k c hs is) ≡ length hs
-on-many g k c [] is o = refl
-on-many g k c (h ∷ hs) [] o = absurd o
-on-many g k c (h ∷ hs) (i ∷ is) o = ap suc (on-many h i (nextCycle g h k i c) hs is (o .2))
+on-many : (g : Hop) (x : Spot) (c : ℕ) (hs : List Hop) (ys : List Spot) → GoesOn g x hs ys → length (onwardCycles g (x .frame) c hs (framesOf ys)) ≡ length hs
+on-many g x c [] ys o = refl
+on-many g x c (h ∷ hs) [] o = absurd o
+on-many g x c (h ∷ hs) (y ∷ ys) o = ap suc (on-many h y (nextCycle g h (x .frame) (y .frame) c) hs ys (o .2))
 
 -- "a cycle number per hop"
 pub cycle-per-hop : CyclePerHop

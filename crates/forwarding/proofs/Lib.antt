@@ -1,5 +1,6 @@
 pub mod Holds
 pub mod Rates
+pub mod Spots
 pub mod Transitions
 pub mod Cycles
 pub mod Schedules
@@ -9,4 +10,6 @@ pub mod Bounds
 pub mod Answers
 pub mod Windows
 pub mod Ways
+pub mod Narrow
 pub mod Starred
+pub mod Coloured

@@ -8,7 +8,7 @@ use Rattle.forwarding.specs.Forwarding.{reference, referenceInto, holdIn
 use Rattle.forwarding.specs.Hops.{HopReady}
 use Rattle.forwarding.specs.Rates.{SameRate, ToFaster, ToSlower, ToFasterLater, NeverEarlier, WholeFrame, NotYetWhole, TurnsRound, SameFrame}
 use Rattle.forwarding.proofs.Holds.{hold-fitting, into-gap}
-use Rattle.forwarding.proofs.Transitions.{cycle-frames, hold-may}
+use Rattle.forwarding.proofs.Transitions.{cycle-frames, hold-may, turn-may}
 
 pub next-mul : (k K : ℕ) → (k + 1) * K ≡ k * K + K
 next-mul k K = add-mul k 1 K ∙ ap (λ (x : ℕ). k * K + x) (one-mul K)
@@ -100,10 +100,10 @@ not-yet-whole T g h k pg ph t = begins-before T g h k pg ph t
 -- WITH Y 0 THE SAME FRAME NUMBER IS A HOLD OF 0 AND A DELAY OF 0
 pub same-frame : SameFrame
 unfolding holdInto
-same-frame T g h k p e l y = (none, rw none (unfold delay in rw zero-mul (zero-div (h .frames))), rw (none, hold-may h 0 (omega arith)))
+same-frame T g h x p e l y = (none, rw none (unfold delay in rw zero-mul (zero-div (h .frames))), rw (none, hold-may h 0 (omega arith), turn-may h (x .colour) (x .colour) (omega arith, omega arith)))
   where
-    there : referenceInto g h k ≡ k
-    there = unfold referenceInto in rw e (same-rate k (h .frames) (p .some-frame))
+    there : referenceInto g h (x .frame) ≡ x .frame
+    there = unfold referenceInto in rw e (same-rate (x .frame) (h .frames) (p .some-frame))
 
-    none : holdInto g h k k ≡ 0
-    none = rw (y, there) (sym (hold-fitting 0 (h .frames) k k 0 (record { least = omega arith; most = omega arith; fits = rw add-zero (mod-eq-of-lt l) })))
+    none : holdInto g h (x .frame) (x .frame) ≡ 0
+    none = rw (y, there) (sym (hold-fitting 0 (h .frames) (x .frame) (x .frame) 0 (record { least = omega arith; most = omega arith; fits = rw add-zero (mod-eq-of-lt l) })))

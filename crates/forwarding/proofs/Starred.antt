@@ -4,17 +4,18 @@ use mathlib.Core.List.{List, [], _∷_, map, List·Memᴰ, List·Memᴰ·not-nil
 use mathlib.Core.Logic.{⊎-elim}
 use Rattle.trellis.specs.Answer.{nodesOf}
 use Rattle.words.specs.Word.{bitOf, wordOf}
-use Rattle.forwarding.specs.Forwarding.{reference, referenceInto, leastHold, gap, hold, holdInto, mayHold, isFree, delay}
+use Rattle.forwarding.specs.Forwarding.{reference, referenceInto, leastHold, gap, hold, holdInto, mayHold, mayTurn, isFree, delay}
+use Rattle.forwarding.specs.Schedule.{framesOf}
 use Rattle.forwarding.specs.Route.{routeAnswer}
 use Rattle.forwarding.specs.Cycles.{nextCycle, scheduleCycles}
 use Rattle.forwarding.specs.QuestionFour.{Case, starred, StarredRight}
 
 -- the whole table is computed by the rule
 table-computed : map (λ (c : Case). routeAnswer 48 (c .route)) starred ≡ map (λ (c : Case). c .expected) starred
-unfolding routeAnswer starred reference referenceInto leastHold gap hold holdInto mayHold isFree delay bitOf wordOf
+unfolding routeAnswer starred reference referenceInto leastHold gap hold holdInto mayHold mayTurn isFree delay bitOf wordOf
 table-computed = refl
 
-cycles-computed : map (λ (c : Case). scheduleCycles (c .route) (nodesOf (c .expected))) starred ≡ map (λ (c : Case). c .cycles) starred
+cycles-computed : map (λ (c : Case). scheduleCycles (c .route) (framesOf (nodesOf (c .expected)))) starred ≡ map (λ (c : Case). c .cycles) starred
 unfolding starred reference referenceInto leastHold gap hold holdInto nextCycle
 cycles-computed = refl
 
@@ -27,5 +28,5 @@ same-at f g (x ∷ xs) e c m =
 pub starred-right : StarredRight
 starred-right c m = (
   same-at (λ c. routeAnswer 48 (c .route)) (λ c. c .expected) starred table-computed c m,
-  same-at (λ c. scheduleCycles (c .route) (nodesOf (c .expected))) (λ c. c .cycles) starred cycles-computed c m,
+  same-at (λ c. scheduleCycles (c .route) (framesOf (nodesOf (c .expected)))) (λ c. c .cycles) starred cycles-computed c m,
 )

@@ -1,9 +1,9 @@
 -- The list of all schedules has each schedule, nothing else, and nothing twice; and its length, hop by hop. Assumes nothing.
-use mathlib.Core.Path.{_≡_, refl, _∙_, ap}
+use mathlib.Core.Path.{_≡_, refl, sym, _∙_, ap, subst}
 use mathlib.Core.Bool.{Bool, true}
-use mathlib.Core.List.{List, [], _∷_, List·Memᴰ, List·Memᴰ·head, List·Memᴰ·not-nil, List·Memᴰ·eq-of-singleton}
+use mathlib.Core.List.{List, [], _∷_, map, List·Memᴰ, List·Memᴰ·head, List·Memᴰ·not-nil, List·Memᴰ·eq-of-singleton}
 use Prim.Native.Nat.{ℕ, _+_, _*_, _%_, _^_, _<_, _≤_}
-use native.Mathlib.Nat.{le-trans, mod-lt, one-mul, mul-le-mul, pow-suc, pow-le-pow-right}
+use native.Mathlib.Nat.{le-trans, zero-add, mod-lt, mul-one, one-mul, mul-le-mul, pow-suc, pow-le-pow-right}
 use native.Mathlib.Omega.{arith}
 use lib.ListN.{length}
 use Rattle.lists.specs.Count.{oneIf, sumBelow}
@@ -12,63 +12,77 @@ use Rattle.lists.proofs.Count.{sum-cong, sum-const, sum-bound, count-all}
 use Rattle.lists.proofs.Sums.{sum-times, one-times-le}
 use Rattle.lists.proofs.Once.{same-members, empty-none, none-empty}
 use Rattle.words.specs.Word.{bitOf, wordOf}
-use Rattle.trellis.proofs.Paths.{headed-in, Headed, headed-of, headed-once, headed-length}
+use Rattle.trellis.specs.Paths.{listIf, gather}
+use Rattle.trellis.proofs.Paths.{headed-in, headed-of, headed-once, headed-length}
 use Rattle.forwarding.specs.declared.Hop.{Hop}
-use Rattle.forwarding.specs.Forwarding.{reference, referenceInto, leastHold, gap, hold, isFree, mayHold, holdInto, isAllowed, choices}
+use Rattle.forwarding.specs.Forwarding.{Spot, IsOn, reference, referenceInto, leastHold, gap, hold, isFree, mayTurn, mayHold, holdInto, isAllowed, choices}
 use Rattle.forwarding.specs.Hops.{HopReady, AllReady}
-use Rattle.forwarding.specs.Schedule.{GoesOn, IsSchedule}
-use Rattle.forwarding.specs.Route.{transitions}
+use Rattle.forwarding.specs.Schedule.{GoesOn, IsSchedule, OneColour}
+use Rattle.forwarding.specs.Route.{nodes, nodeAt, spotAt, transitions}
 use Rattle.forwarding.specs.QuestionFour.{starred}
 use Rattle.forwarding.specs.Ways.{waysOn, schedules, SchedulesListed, SchedulesOnce, routeWays, WaysOnly, WaysBlocked, EveryFrameFree, laterChoices, WaysOpen, WaysMost, StarredWays}
-use Rattle.forwarding.proofs.Windows.{firstFrame, window-sum}
+use Rattle.forwarding.proofs.Spots.{spot-back, node-back, node-in, spot-on}
+use Rattle.forwarding.proofs.Transitions.{turn-may}
+use Rattle.forwarding.proofs.Windows.{firstFrame, at, window-sum}
 use Rattle.forwarding.proofs.Counted.{transitions-counted}
 use Rattle.forwarding.proofs.Answers.{blocked-none, none-blocked}
 
--- ---- the ways on from a frame are the lists of frames that go on from it, each once
-on-once : (g : Hop) (k : ℕ) (hs : List Hop) → EachOnce (waysOn g k hs)
-on-once g k [] = (λ m. List·Memᴰ·not-nil m, tt)
-on-once g k (h ∷ hs) = headed-once (h .frames) (isAllowed g h k) (λ i. waysOn h i hs) (λ i. on-once h i hs)
+-- ---- the ways on from a frame in a colour are the lists that go on from it, each once
+on-once : (g : Hop) (x : Spot) (hs : List Hop) → EachOnce (waysOn g x hs)
+on-once g x [] = (λ m. List·Memᴰ·not-nil m, tt)
+on-once g x (h ∷ hs) = headed-once (nodes h) (spotAt h) (nodeAt h) (node-back h) (λ i. isAllowed g h x (spotAt h i)) (λ i. waysOn h (spotAt h i) hs) (λ i. on-once h (spotAt h i) hs)
 
-listed-on : (g : Hop) (k : ℕ) (hs : List Hop) (is : List ℕ) → List·Memᴰ is (waysOn g k hs) → GoesOn g k hs is
-listed-on g k [] is m = rw (List·Memᴰ·eq-of-singleton m) tt
-listed-on g k (h ∷ hs) is m =
-    let b : Headed (h .frames) (isAllowed g h k) (λ i. waysOn h i hs) is = headed-of (h .frames) (isAllowed g h k) (λ i. waysOn h i hs) is m in
-    rw (← b .is) (b .below, b .passes, listed-on h (b .node) hs (b .later) (b .goes-on))
+-- a list that begins with a free frame, or one that is led to, and goes on
+abbrev begun : Hop → (Spot → Bool) → List Hop → List (List Spot)
+begun h p hs = gather (nodes h) (λ i. listIf (p (spotAt h i)) (map (λ ys. spotAt h i ∷ ys) (waysOn h (spotAt h i) hs)))
 
-on-listed : (g : Hop) (k : ℕ) (hs : List Hop) (is : List ℕ) → GoesOn g k hs is → List·Memᴰ is (waysOn g k hs)
-on-listed g k [] [] o = List·Memᴰ·head refl
-on-listed g k [] (i ∷ is) o = absurd o
-on-listed g k (h ∷ hs) [] o = absurd o
-on-listed g k (h ∷ hs) (i ∷ is) o = headed-in (h .frames) (isAllowed g h k) (λ i. waysOn h i hs) i is (o .0) (o .1) (on-listed h i hs is (o .2))
+begun-in : (h : Hop) (p : Spot → Bool) (hs : List Hop) (y : Spot) (ys : List Spot) → IsOn h y → p y ≡ true → List·Memᴰ ys (waysOn h y hs) → List·Memᴰ (y ∷ ys) (begun h p hs)
+begun-in h p hs y ys o e m =
+    let s : spotAt h (nodeAt h y) ≡ y = spot-back h y (o .1) in
+    subst (λ (z : Spot). List·Memᴰ (z ∷ ys) (begun h p hs)) s
+    (headed-in (nodes h) (spotAt h) (nodeAt h) (node-back h) (λ i. p (spotAt h i)) (λ i. waysOn h (spotAt h i) hs) (nodeAt h y) ys (node-in h y o) (ap p s ∙ e)
+    (subst (λ (z : Spot). List·Memᴰ ys (waysOn h z hs)) (sym s) m))
 
--- A LIST OF FRAMES STANDS IN THE LIST EXACTLY WHEN IT IS A SCHEDULE
-listed-schedule : (hops : List Hop) (fs : List ℕ) → List·Memᴰ fs (schedules hops) → IsSchedule hops fs
+listed-on : (g : Hop) (x : Spot) (hs : List Hop) (ys : List Spot) → List·Memᴰ ys (waysOn g x hs) → GoesOn g x hs ys
+listed-on g x [] ys m = rw (List·Memᴰ·eq-of-singleton m) tt
+listed-on g x (h ∷ hs) ys m =
+    let b = headed-of (nodes h) (spotAt h) (nodeAt h) (node-back h) (λ i. isAllowed g h x (spotAt h i)) (λ i. waysOn h (spotAt h i) hs) ys m in
+    rw (← b .is) (spot-on h (b .node) (b .below), b .passes, listed-on h (spotAt h (b .node)) hs (b .later) (b .goes-on))
+
+on-listed : (g : Hop) (x : Spot) (hs : List Hop) (ys : List Spot) → GoesOn g x hs ys → List·Memᴰ ys (waysOn g x hs)
+on-listed g x [] [] o = List·Memᴰ·head refl
+on-listed g x [] (y ∷ ys) o = absurd o
+on-listed g x (h ∷ hs) [] o = absurd o
+on-listed g x (h ∷ hs) (y ∷ ys) o = begun-in h (isAllowed g h x) hs y ys (o .0) (o .1) (on-listed h y hs ys (o .2))
+
+-- A LIST STANDS IN THE LIST EXACTLY WHEN IT IS A SCHEDULE
+listed-schedule : (hops : List Hop) (xs : List Spot) → List·Memᴰ xs (schedules hops) → IsSchedule hops xs
 unfolding schedules
-listed-schedule [] fs m = absurd (List·Memᴰ·not-nil m)
-listed-schedule (h ∷ hs) fs m =
-    let b : Headed (h .frames) (isFree h) (λ k. waysOn h k hs) fs = headed-of (h .frames) (isFree h) (λ k. waysOn h k hs) fs m in
-    rw (← b .is) (b .below, b .passes, listed-on h (b .node) hs (b .later) (b .goes-on))
+listed-schedule [] xs m = absurd (List·Memᴰ·not-nil m)
+listed-schedule (h ∷ hs) xs m =
+    let b = headed-of (nodes h) (spotAt h) (nodeAt h) (node-back h) (λ i. isFree h (spotAt h i)) (λ i. waysOn h (spotAt h i) hs) xs m in
+    rw (← b .is) (spot-on h (b .node) (b .below), b .passes, listed-on h (spotAt h (b .node)) hs (b .later) (b .goes-on))
 
-schedule-listed : (hops : List Hop) (fs : List ℕ) → IsSchedule hops fs → List·Memᴰ fs (schedules hops)
+schedule-listed : (hops : List Hop) (xs : List Spot) → IsSchedule hops xs → List·Memᴰ xs (schedules hops)
 unfolding schedules
-schedule-listed [] fs s = absurd s
+schedule-listed [] xs s = absurd s
 schedule-listed (h ∷ hs) [] s = absurd s
-schedule-listed (h ∷ hs) (k ∷ is) s = headed-in (h .frames) (isFree h) (λ k. waysOn h k hs) k is (s .0) (s .1) (on-listed h k hs is (s .2))
+schedule-listed (h ∷ hs) (x ∷ ys) s = begun-in h (isFree h) hs x ys (s .0) (s .1) (on-listed h x hs ys (s .2))
 
 pub schedules-listed : SchedulesListed
-schedules-listed hops fs = (listed-schedule hops fs, schedule-listed hops fs)
+schedules-listed hops xs = (listed-schedule hops xs, schedule-listed hops xs)
 
 -- EACH ONCE
 pub schedules-once : SchedulesOnce
 unfolding schedules
 schedules-once [] = tt
-schedules-once (h ∷ hs) = headed-once (h .frames) (isFree h) (λ k. waysOn h k hs) (λ k. on-once h k hs)
+schedules-once (h ∷ hs) = headed-once (nodes h) (spotAt h) (nodeAt h) (node-back h) (λ i. isFree h (spotAt h i)) (λ i. waysOn h (spotAt h i) hs) (λ i. on-once h (spotAt h i) hs)
 
 -- THE NUMBER IS THE LENGTH OF EVERY SUCH LIST
 pub ways-only : WaysOnly
 unfolding routeWays
 ways-only hops list once each =
-    same-members list (schedules hops) once (schedules-once hops) (λ fs m. schedule-listed hops fs (each fs .0 m)) (λ fs m. each fs .1 (listed-schedule hops fs m))
+    same-members list (schedules hops) once (schedules-once hops) (λ xs m. schedule-listed hops xs (each xs .0 m)) (λ xs m. each xs .1 (listed-schedule hops xs m))
 
 -- ---- 0 EXACTLY WHEN THE ANSWER IS BLOCKED
 pub ways-blocked : WaysBlocked
@@ -76,64 +90,83 @@ unfolding routeWays
 ways-blocked T hops = (
   λ e. (
     transitions T hops,
-    none-blocked T hops (transitions T hops) (λ fs s. empty-none (schedules hops) e fs (schedule-listed hops fs s)) (transitions-counted T hops),
+    none-blocked T hops (transitions T hops) (λ xs s. empty-none (schedules hops) e xs (schedule-listed hops xs s)) (transitions-counted T hops),
   ),
-  λ (n, e). none-empty (schedules hops) (λ fs m. blocked-none T hops n e fs (listed-schedule hops fs m)),
+  λ (n, e). none-empty (schedules hops) (λ xs m. blocked-none T hops n e xs (listed-schedule hops xs m)),
 )
 
 -- ---- HOP BY HOP
-pub on-ways : (g : Hop) (k : ℕ) (h : Hop) (hs : List Hop)
-    → length (waysOn g k (h ∷ hs)) ≡ sumBelow (h .frames) (λ i. oneIf (isAllowed g h k i) * length (waysOn h i hs))
-on-ways g k h hs = headed-length (h .frames) (isAllowed g h k) (λ i. waysOn h i hs)
+pub on-ways : (g : Hop) (x : Spot) (h : Hop) (hs : List Hop)
+    → length (waysOn g x (h ∷ hs)) ≡ sumBelow (nodes h) (λ i. oneIf (isAllowed g h x (spotAt h i)) * length (waysOn h (spotAt h i) hs))
+on-ways g x h hs = headed-length (nodes h) (spotAt h) (nodeAt h) (node-back h) (λ i. isAllowed g h x (spotAt h i)) (λ i. waysOn h (spotAt h i) hs)
 
-pub all-ways : (h : Hop) (hs : List Hop) → routeWays (h ∷ hs) ≡ sumBelow (h .frames) (λ k. oneIf (isFree h k) * length (waysOn h k hs))
+-- by colours: for each that may be come to, the window of frames of the hop entered (for a loop that goes through colours and windows)
+pub on-windows : (T : ℕ) (g : Hop) (x : Spot) (h : Hop) (hs : List Hop) → HopReady T h
+    → length (waysOn g x (h ∷ hs))
+    ≡ sumBelow (h .colours) (λ c. sumBelow (choices h) (λ d. oneIf (isFree h (at h (firstFrame g h (x .frame) + d) c)) * length (waysOn h (at h (firstFrame g h (x .frame) + d) c) hs)) * oneIf (mayTurn h (x .colour) c))
+on-windows T g x h hs p = on-ways g x h hs ∙ window-sum T g h x p (λ y. length (waysOn h y hs))
+
+pub all-ways : (h : Hop) (hs : List Hop) → routeWays (h ∷ hs) ≡ sumBelow (nodes h) (λ k. oneIf (isFree h (spotAt h k)) * length (waysOn h (spotAt h k) hs))
 unfolding routeWays schedules
-all-ways h hs = headed-length (h .frames) (isFree h) (λ k. waysOn h k hs)
+all-ways h hs = headed-length (nodes h) (spotAt h) (nodeAt h) (node-back h) (λ i. isFree h (spotAt h i)) (λ i. waysOn h (spotAt h i) hs)
 
--- ---- THE PRODUCT, where all frames are free
-open-stage : (T : ℕ) (g h : Hop) (k w : ℕ) → HopReady T h → ((i : ℕ) → i < h .frames → isFree h i ≡ true)
-    → sumBelow (h .frames) (λ i. oneIf (isAllowed g h k i) * w) ≡ choices h * w
-open-stage T g h k w p o =
-    window-sum T g h k p (λ i. w)
-    ∙ sum-cong (choices h) (λ d. oneIf (isFree h ((firstFrame g h k + d) % h .frames)) * w) (λ d. w)
-    (λ d l. rw (o ((firstFrame g h k + d) % h .frames) (mod-lt _ (p .some-frame))) (one-mul w))
+-- ---- THE PRODUCT, where all frames are free and each link has one colour
+only-colour : (T : ℕ) (h : Hop) (c : ℕ) → HopReady T h → h .colours ≡ 1 → c ≡ 0 → mayTurn h c 0 ≡ true
+only-colour T h c p e z = turn-may h c 0 (omega (arith, z), omega arith)
+
+open-stage : (T : ℕ) (g h : Hop) (x : Spot) (w : ℕ) → HopReady T h → h .colours ≡ 1 → x .colour ≡ 0 → ((y : Spot) → IsOn h y → isFree h y ≡ true)
+    → sumBelow (nodes h) (λ i. oneIf (isAllowed g h x (spotAt h i)) * w) ≡ choices h * w
+open-stage T g h x w p one z o =
+    window-sum T g h x p (λ y. w)
+    ∙ ap (λ (n : ℕ). sumBelow n (λ c. within c * oneIf (mayTurn h (x .colour) c))) one
+    ∙ zero-add (within 0 * oneIf (mayTurn h (x .colour) 0))
+    ∙ ap (λ (b : Bool). within 0 * oneIf b) (only-colour T h (x .colour) p one z)
+    ∙ mul-one (within 0)
+    ∙ sum-cong (choices h) (λ d. oneIf (isFree h (at h (firstFrame g h (x .frame) + d) 0)) * w) (λ d. w)
+    (λ d l. rw (o (at h (firstFrame g h (x .frame) + d) 0) (mod-lt (firstFrame g h (x .frame) + d) (p .some-frame), omega (arith, one))) (one-mul w))
     ∙ sum-const (choices h) w
+  where
+    within : ℕ → ℕ
+    within c = sumBelow (choices h) (λ d. oneIf (isFree h (at h (firstFrame g h (x .frame) + d) c)) * w)
 
-open-on : (T : ℕ) (g : Hop) (k : ℕ) (hs : List Hop) → AllReady T hs → EveryFrameFree hs → length (waysOn g k hs) ≡ laterChoices hs
-open-on T g k [] p o = refl
-open-on T g k (h ∷ hs) p o =
-    on-ways g k h hs
-    ∙ sum-cong (h .frames) (λ i. oneIf (isAllowed g h k i) * length (waysOn h i hs)) (λ i. oneIf (isAllowed g h k i) * laterChoices hs)
-    (λ i l. ap (λ (x : ℕ). oneIf (isAllowed g h k i) * x) (open-on T h i hs (p .1) (o .1)))
-    ∙ open-stage T g h k (laterChoices hs) (p .0) (o .0)
+open-on : (T : ℕ) (g : Hop) (x : Spot) (hs : List Hop) → AllReady T hs → x .colour ≡ 0 → OneColour hs → EveryFrameFree hs → length (waysOn g x hs) ≡ laterChoices hs
+open-on T g x [] p z one o = refl
+open-on T g x (h ∷ hs) p z one o =
+    on-ways g x h hs
+    ∙ sum-cong (nodes h) (λ i. oneIf (isAllowed g h x (spotAt h i)) * length (waysOn h (spotAt h i) hs)) (λ i. oneIf (isAllowed g h x (spotAt h i)) * laterChoices hs)
+    (λ i l. ap (λ (n : ℕ). oneIf (isAllowed g h x (spotAt h i)) * n) (open-on T h (spotAt h i) hs (p .1) (omega (arith, spot-on h i l .1, one .0)) (one .1) (o .1)))
+    ∙ open-stage T g h x (laterChoices hs) (p .0) (one .0) z (o .0)
 
 pub ways-open : WaysOpen
-ways-open T [] p o = unfold routeWays schedules in refl
-ways-open T (h ∷ hs) p o =
+ways-open T [] p one o = unfold routeWays schedules in refl
+ways-open T (h ∷ hs) p one o =
     all-ways h hs
-    ∙ sum-cong (h .frames) (λ k. oneIf (isFree h k) * length (waysOn h k hs)) (λ k. oneIf (isFree h k) * laterChoices hs)
-    (λ k l. ap (λ (x : ℕ). oneIf (isFree h k) * x) (open-on T h k hs (p .1) (o .1)))
-    ∙ sum-times (h .frames) (laterChoices hs) (λ k. oneIf (isFree h k))
-    ∙ ap (λ (x : ℕ). x * laterChoices hs) (count-all (h .frames) (isFree h) (o .0))
+    ∙ sum-cong (nodes h) (λ k. oneIf (isFree h (spotAt h k)) * length (waysOn h (spotAt h k) hs)) (λ k. oneIf (isFree h (spotAt h k)) * laterChoices hs)
+    (λ k l. ap (λ (n : ℕ). oneIf (isFree h (spotAt h k)) * n) (open-on T h (spotAt h k) hs (p .1) (omega (arith, spot-on h k l .1, one .0)) (one .1) (o .1)))
+    ∙ sum-times (nodes h) (laterChoices hs) (λ k. oneIf (isFree h (spotAt h k)))
+    ∙ ap (λ (n : ℕ). n * laterChoices hs) (count-all (nodes h) (λ k. isFree h (spotAt h k)) (λ k l. o .0 (spotAt h k) (spot-on h k l)) ∙ ap (λ (n : ℕ). h .frames * n) (one .0) ∙ mul-one (h .frames))
 
--- ---- THE BOUND: at most 64 frames at each hop
-pub sum-most : (K w : ℕ) (p : ℕ → Bool) (f : ℕ → ℕ) → K ≤ 64 → ((i : ℕ) → i < K → f i ≤ w) → sumBelow K (λ i. oneIf (p i) * f i) ≤ 64 * w
+-- ---- THE BOUND: at most 64 frames in 4 colours at each hop
+pub nodes-few : (T : ℕ) (h : Hop) → HopReady T h → nodes h ≤ 256
+nodes-few T h p = mul-le-mul {n₁ = h .frames} {m₁ = h .colours} {n₂ = 64} {m₂ = 4} (p .few-frames) (p .few-colours)
+
+pub sum-most : (K w : ℕ) (p : ℕ → Bool) (f : ℕ → ℕ) → K ≤ 256 → ((i : ℕ) → i < K → f i ≤ w) → sumBelow K (λ i. oneIf (p i) * f i) ≤ 256 * w
 sum-most K w p f h l =
     le-trans (sum-bound K w (λ i. oneIf (p i) * f i) (λ i m. le-trans (one-times-le (p i) (f i)) (l i m))) (mul-le-mul h (omega arith))
 
-on-most : (T : ℕ) (g : Hop) (k : ℕ) (hs : List Hop) → AllReady T hs → length (waysOn g k hs) ≤ 64 ^ length hs
-on-most T g k [] p = omega arith
-on-most T g k (h ∷ hs) p =
+on-most : (T : ℕ) (g : Hop) (x : Spot) (hs : List Hop) → AllReady T hs → length (waysOn g x hs) ≤ 256 ^ length hs
+on-most T g x [] p = omega arith
+on-most T g x (h ∷ hs) p =
     omega (
       arith,
-      on-ways g k h hs,
-      sum-most (h .frames) (64 ^ length hs) (isAllowed g h k) (λ i. length (waysOn h i hs)) (p .0 .few-frames) (λ i l. on-most T h i hs (p .1)),
-      pow-suc 64 (length hs),
+      on-ways g x h hs,
+      sum-most (nodes h) (256 ^ length hs) (λ i. isAllowed g h x (spotAt h i)) (λ i. length (waysOn h (spotAt h i) hs)) (nodes-few T h (p .0)) (λ i l. on-most T h (spotAt h i) hs (p .1)),
+      pow-suc 256 (length hs),
     )
 
 -- of at most seven later hops
-pub on-within : (T : ℕ) (g : Hop) (k : ℕ) (hs : List Hop) → AllReady T hs → length hs ≤ 7 → length (waysOn g k hs) ≤ 64 ^ 7
-on-within T g k hs p l = le-trans (on-most T g k hs p) (pow-le-pow-right (omega arith) l)
+pub on-within : (T : ℕ) (g : Hop) (x : Spot) (hs : List Hop) → AllReady T hs → length hs ≤ 7 → length (waysOn g x hs) ≤ 256 ^ 7
+on-within T g x hs p l = le-trans (on-most T g x hs p) (pow-le-pow-right (omega arith) l)
 
 pub ways-most : WaysMost
 ways-most T [] l p = unfold routeWays schedules in omega arith
@@ -141,10 +174,10 @@ ways-most T (h ∷ hs) l p =
     omega (
       arith,
       all-ways h hs,
-      sum-most (h .frames) (64 ^ 7) (isFree h) (λ k. length (waysOn h k hs)) (p .0 .few-frames) (λ k m. on-within T h k hs (p .1) (omega arith)),
+      sum-most (nodes h) (256 ^ 7) (λ k. isFree h (spotAt h k)) (λ k. length (waysOn h (spotAt h k) hs)) (nodes-few T h (p .0)) (λ k m. on-within T h (spotAt h k) hs (p .1) (omega arith)),
     )
 
 -- THE STARRED ROUTES, computed by the rule
 pub starred-ways : StarredWays
-unfolding routeWays schedules starred reference referenceInto leastHold gap hold holdInto mayHold isFree bitOf wordOf
+unfolding routeWays schedules starred reference referenceInto leastHold gap hold holdInto mayHold mayTurn isFree bitOf wordOf
 starred-ways = refl

@@ -6,9 +6,9 @@ use Prim.Native.Nat.{ℕ, suc, _+_, _*_, _<_, _≤_}
 use lib.Dec.{ltb}
 use lib.ListN.{length, getD}
 use Rattle.forwarding.specs.declared.Hop.{Hop}
-use Rattle.forwarding.specs.Forwarding.{referenceInto, IsHold, holdInto, frameTime}
+use Rattle.forwarding.specs.Forwarding.{Spot, referenceInto, IsHold, holdInto, frameTime}
 use Rattle.forwarding.specs.Hops.{noHop, AllReady}
-use Rattle.forwarding.specs.Schedule.{IsSchedule}
+use Rattle.forwarding.specs.Schedule.{framesOf, IsSchedule}
 
 -- "If the hop before lies at frame k of cycle c, the next has cycle c when r + D is below K, else c + 1": from the hop g to frame i of the hop h
 unfoldable pub nextCycle : Hop → Hop → ℕ → ℕ → ℕ → ℕ
@@ -24,7 +24,7 @@ onwardCycles g k c [] is = []
 onwardCycles g k c (h ∷ hs) [] = []
 onwardCycles g k c (h ∷ hs) (i ∷ is) = nextCycle g h k i c ∷ onwardCycles h i (nextCycle g h k i c) hs is
 
--- THE CYCLES OF A SCHEDULE, one for each hop: "Hop 0 has cycle 0"
+-- THE CYCLES OF A SCHEDULE by its frames, one for each hop: "Hop 0 has cycle 0"
 abbrev pub scheduleCycles : List Hop → List ℕ → List ℕ
 scheduleCycles [] fs = []
 scheduleCycles (h ∷ hs) [] = []
@@ -32,7 +32,7 @@ scheduleCycles (h ∷ hs) (k ∷ is) = 0 ∷ onwardCycles h k 0 hs is
 
 -- "a cycle number per hop"
 abbrev pub CyclePerHop : Type 0
-CyclePerHop = (hops : List Hop) (fs : List ℕ) → IsSchedule hops fs → length (scheduleCycles hops fs) ≡ length hops
+CyclePerHop = (hops : List Hop) (xs : List Spot) → IsSchedule hops xs → length (scheduleCycles hops (framesOf xs)) ≡ length hops
 
 -- ---- what holds of every later hop: g and h are the hop before and the hop, k and i their frames, c and d their cycles
 abbrev pub LaterHop : (Hop → Hop → ℕ → ℕ → ℕ → ℕ → Type 0) → List Hop → List ℕ → List ℕ → Type 0
@@ -45,7 +45,7 @@ Keeps g h k i c d = IsHold h (referenceInto g h k) i (holdInto g h k i)
 
 -- EVERY SCHEDULE KEEPS Y, at every later hop: "A rival schedule keeps Y too" (W-206)
 abbrev pub SchedulesKeep : Type 0
-SchedulesKeep = (T : ℕ) (hops : List Hop) (fs : List ℕ) → AllReady T hops → IsSchedule hops fs → LaterHop Keeps hops fs (scheduleCycles hops fs)
+SchedulesKeep = (T : ℕ) (hops : List Hop) (xs : List Spot) → AllReady T hops → IsSchedule hops xs → LaterHop Keeps hops (framesOf xs) (scheduleCycles hops (framesOf xs))
 
 -- counted in frames of its link, frame i of cycle d comes r + D frames after cycle c begins
 abbrev pub Lies : Hop → Hop → ℕ → ℕ → ℕ → ℕ → Type 0
@@ -53,7 +53,7 @@ Lies g h k i c d = d * h .frames + i ≡ c * h .frames + (referenceInto g h k + 
 
 -- THE CYCLE IS THE ONE IN WHICH THE FRAME LIES
 abbrev pub CyclesLie : Type 0
-CyclesLie = (T : ℕ) (hops : List Hop) (fs : List ℕ) → AllReady T hops → IsSchedule hops fs → LaterHop Lies hops fs (scheduleCycles hops fs)
+CyclesLie = (T : ℕ) (hops : List Hop) (xs : List Spot) → AllReady T hops → IsSchedule hops xs → LaterHop Lies hops (framesOf xs) (scheduleCycles hops (framesOf xs))
 
 -- the tick at which frame i of cycle c of a hop begins, from the beginning of cycle 0 on
 abbrev pub beginsAt : ℕ → Hop → ℕ → ℕ → ℕ
@@ -65,7 +65,7 @@ Follows T g h k i c d = beginsAt T g c (k + 1) + holdInto g h k i * frameTime T 
 
 -- EACH FRAME IN ITS CYCLE COMES ITS HOLD AFTER THE ONE BEFORE: "send nothing of a frame before its last bit has arrived" (W-201) and "need two frames to turn round" (W-206), over all cycles
 abbrev pub CyclesFollow : Type 0
-CyclesFollow = (T : ℕ) (hops : List Hop) (fs : List ℕ) → AllReady T hops → IsSchedule hops fs → LaterHop (Follows T) hops fs (scheduleCycles hops fs)
+CyclesFollow = (T : ℕ) (hops : List Hop) (xs : List Spot) → AllReady T hops → IsSchedule hops xs → LaterHop (Follows T) hops (framesOf xs) (scheduleCycles hops (framesOf xs))
 
 -- a hop's cycle is not below that of the hop before
 abbrev pub NotBelow : Hop → Hop → ℕ → ℕ → ℕ → ℕ → Type 0
@@ -73,7 +73,7 @@ NotBelow g h k i c d = c ≤ d
 
 -- CYCLES NEVER FALL along a route
 abbrev pub CyclesNeverFall : Type 0
-CyclesNeverFall = (hops : List Hop) (fs : List ℕ) → IsSchedule hops fs → LaterHop NotBelow hops fs (scheduleCycles hops fs)
+CyclesNeverFall = (hops : List Hop) (xs : List Spot) → IsSchedule hops xs → LaterHop NotBelow hops (framesOf xs) (scheduleCycles hops (framesOf xs))
 
 -- AND HOP j'S IS AT MOST j, so that of eight hops each has one digit
 abbrev pub CyclesBounded : Type 0

@@ -1,9 +1,10 @@
--- Document 01, "Forwarding", W-201 and W-206: the reference frame, the hold, the delay, and which transitions are allowed. Assumes nothing.
+-- Document 01, "Forwarding", W-201, W-206 and W-211: the reference frame, the hold, the delay, the colours, and which transitions are allowed. Assumes nothing.
 use mathlib.Core.Path.{_≡_}
 use mathlib.Core.Bool.{Bool, true, _&&_}
 use mathlib.Core.Logic.{_↔_}
 use Prim.Native.Nat.{ℕ, _+_, _-_, _*_, _/_, _%_, _<_, _≤_}
 use lib.Dec.{leb}
+use lib.ListN.{getD}
 use Rattle.words.specs.Word.{bitOf}
 use Rattle.forwarding.specs.declared.Hop.{Hop}
 use Rattle.forwarding.specs.Hops.{HopReady}
@@ -51,18 +52,39 @@ HoldOnly = (T : ℕ) (h : Hop) (r i : ℕ) → HopReady T h → i < h .frames
 abbrev pub TwoFit : Type 0
 TwoFit = (h : Hop) (r : ℕ) → r < h .frames → leastHold h ≡ 0 → h .range ≡ h .frames → IsHold h r r 0 × IsHold h r r (h .frames)
 
--- a frame of a hop is free: "Written as a word, bit i stands for a free frame i"
-unfoldable pub isFree : Hop → ℕ → Bool
-isFree h i = bitOf (h .free) i
+-- a frame in a colour: "Frames are held per colour" (W-211)
+pub record Spot : Type 0 where
+  pub frame : ℕ
+  pub colour : ℕ
 
--- from frame k of the hop g to frame i of the hop h after it: "The transition is allowed when D is at most that link's Z and i is free"
-abbrev pub isAllowed : Hop → Hop → ℕ → ℕ → Bool
-isAllowed g h k i = mayHold h (holdInto g h k i) && isFree h i
+-- one of a hop's: a frame below K, in a colour below C
+abbrev pub IsOn : Hop → Spot → Type 0
+IsOn h x = (x .frame < h .frames) × (x .colour < h .colours)
 
--- ALLOWED EXACTLY WHERE THERE IS SUCH A NUMBER and i is free
+-- it is free: "Written as a word, bit i stands for a free frame i", with a word for each colour (W-211)
+unfoldable pub isFree : Hop → Spot → Bool
+isFree h x = bitOf (getD (h .free) (x .colour) 0) (x .frame)
+
+-- "Entering a link, colour may change by at most its R" (W-211): from colour c of the hop before to colour d
+abbrev pub MayTurn : Hop → ℕ → ℕ → Type 0
+MayTurn h c d = (c ≤ d + h .turn) × (d ≤ c + h .turn)
+
+-- the same as a test
+unfoldable pub mayTurn : Hop → ℕ → ℕ → Bool
+mayTurn h c d = leb c (d + h .turn) && leb d (c + h .turn)
+
+-- from the hop g to the hop h after it: "The transition is allowed when D is at most that link's Z and i is free", and the colour changes by at most R
+abbrev pub isAllowed : Hop → Hop → Spot → Spot → Bool
+isAllowed g h x y = mayHold h (holdInto g h (x .frame) (y .frame)) && (mayTurn h (x .colour) (y .colour) && isFree h y)
+
+-- ALLOWED EXACTLY WHERE THERE IS SUCH A NUMBER, the colour may change so, and the frame is free in its colour
 abbrev pub AllowedWhere : Type 0
-AllowedWhere = (T : ℕ) (g h : Hop) (k i : ℕ) → HopReady T h → i < h .frames
-    → (isAllowed g h k i ≡ true) ↔ (((D : ℕ) × IsHold h (referenceInto g h k) i D) × (isFree h i ≡ true))
+AllowedWhere = (T : ℕ) (g h : Hop) (x y : Spot) → HopReady T h → y .frame < h .frames
+    → (isAllowed g h x y ≡ true) ↔ (((D : ℕ) × IsHold h (referenceInto g h (x .frame)) (y .frame) D) × MayTurn h (x .colour) (y .colour) × (isFree h y ≡ true))
+
+-- the number of colours that may be come to, where there are so many: "2R + 1" (W-211)
+unfoldable pub turnChoices : Hop → ℕ
+turnChoices h = 2 * h .turn + 1
 
 -- the number of holds into a hop: "Z − Y + 1" (W-206)
 unfoldable pub choices : Hop → ℕ

@@ -5,9 +5,12 @@ use Prim.Native.Nat.{ℕ, _+_, _%_, _<_, _≤_}
 use lib.ListN.{getD}
 use Rattle.forwarding.specs.declared.Hop.{Hop}
 
--- what stands in a place of an array that no hop stands in
+-- what a place past the end of an array is read as; and what stands in a place that no hop stands in
 abbrev pub noHop : Hop
-noHop = record { frames = 0; range = 0; least = 0; free = 0 }
+noHop = record { frames = 0; range = 0; least = 0; colours = 0; turn = 0; free = [] }
+
+abbrev pub blankHop : Hop
+blankHop = record { frames = 0; range = 0; least = 0; colours = 0; turn = 0; free = 0 ∷ 0 ∷ 0 ∷ 0 ∷ [] }
 
 -- a hop that the search can enter, for a cycle of T ticks
 pub record HopReady (T : ℕ) (h : Hop) : Type 0 where
@@ -20,6 +23,10 @@ pub record HopReady (T : ℕ) (h : Hop) : Type 0 where
   -- check 21: Y is not above Z, and is not 0 where Z is K, so that of the numbers from Y up to Z no two lead to the same frame
   pub ordered : h .least ≤ h .range
   pub narrow : h .range < h .least + h .frames
+  -- check 23: C is 1 to 4; check 24: R is below C
+  pub some-colour : 0 < h .colours
+  pub few-colours : h .colours ≤ 4
+  pub turns : h .turn < h .colours
 
 -- each hop of a list is ready
 abbrev pub AllReady : ℕ → List Hop → Type 0

@@ -5,52 +5,57 @@ use Prim.Native.Nat.{ℕ, _*_, _≤_}
 use lib.ListN.{length}
 use Rattle.trellis.specs.Answer.{Answer, found, blocked}
 use Rattle.forwarding.specs.declared.Hop.{Hop}
-use Rattle.forwarding.specs.Schedule.{IsSchedule, scheduleDelay, LeastSchedule, CountOf, transitionBound}
+use Rattle.forwarding.specs.Forwarding.{Spot}
+use Rattle.forwarding.specs.Schedule.{IsSchedule, scheduleDelay, LeastSchedule, CountOf, transitionBound, OneColour, plainBound}
 use Rattle.forwarding.specs.Hops.{AllReady}
 use Rattle.forwarding.specs.Route.{routeAnswer}
 
--- an answer is `found delay count frames` or `blocked count`. Found: the frames are the least schedule, with its delay; blocked: there is no schedule; either comes with the count
-abbrev pub RouteAnswer : ℕ → List Hop → Answer → Type 0
-RouteAnswer T hops (found d n fs) = LeastSchedule T hops fs × (scheduleDelay T hops fs ≡ d) × CountOf hops n
-RouteAnswer T hops (blocked n) = ((fs : List ℕ) → IsSchedule hops fs → ⊥) × CountOf hops n
+-- an answer is `found delay count frames-in-their-colours` or `blocked count`. Found: these are the least schedule, with its delay; blocked: there is no schedule; either comes with the count
+abbrev pub RouteAnswer : ℕ → List Hop → Answer Spot → Type 0
+RouteAnswer T hops (found d n xs) = LeastSchedule T hops xs × (scheduleDelay T hops xs ≡ d) × CountOf hops n
+RouteAnswer T hops (blocked n) = ((xs : List Spot) → IsSchedule hops xs → ⊥) × CountOf hops n
 
 -- `routeAnswer` IS AN ANSWER IN THESE WORDS, AND THERE IS NO OTHER
 abbrev pub AnswerRules : Type 0
 AnswerRules = (T : ℕ) (hops : List Hop) → RouteAnswer T hops (routeAnswer T hops)
 
 abbrev pub AnswerUnique : Type 0
-AnswerUnique = (T : ℕ) (hops : List Hop) (a : Answer) → RouteAnswer T hops a → a ≡ routeAnswer T hops
+AnswerUnique = (T : ℕ) (hops : List Hop) (a : Answer Spot) → RouteAnswer T hops a → a ≡ routeAnswer T hops
 
 -- a schedule with its delay and count, and no schedule has a smaller delay
-pub record Given (T : ℕ) (hops : List Hop) (d n : ℕ) (fs : List ℕ) : Type 0 where
-  pub schedule : IsSchedule hops fs
-  pub delay-is : scheduleDelay T hops fs ≡ d
+pub record Given (T : ℕ) (hops : List Hop) (d n : ℕ) (xs : List Spot) : Type 0 where
+  pub schedule : IsSchedule hops xs
+  pub delay-is : scheduleDelay T hops xs ≡ d
   pub count-is : CountOf hops n
-  pub least : (gs : List ℕ) → IsSchedule hops gs → d ≤ scheduleDelay T hops gs
+  pub least : (ys : List Spot) → IsSchedule hops ys → d ≤ scheduleDelay T hops ys
 
 -- A SCHEDULE THAT IS FOUND IS LEAST: every other has at least its delay
 abbrev pub FoundGiven : Type 0
-FoundGiven = (T : ℕ) (hops : List Hop) (d n : ℕ) (fs : List ℕ) → routeAnswer T hops ≡ found d n fs → Given T hops d n fs
+FoundGiven = (T : ℕ) (hops : List Hop) (d n : ℕ) (xs : List Spot) → routeAnswer T hops ≡ found d n xs → Given T hops d n xs
 
 -- BLOCKED EXACTLY WHEN THERE IS NO SCHEDULE
 abbrev pub BlockedNone : Type 0
-BlockedNone = (T : ℕ) (hops : List Hop) (n : ℕ) → routeAnswer T hops ≡ blocked n → (fs : List ℕ) → IsSchedule hops fs → ⊥
+BlockedNone = (T : ℕ) (hops : List Hop) (n : ℕ) → routeAnswer T hops ≡ blocked n → (xs : List Spot) → IsSchedule hops xs → ⊥
 
 abbrev pub NoneBlocked : Type 0
-NoneBlocked = (T : ℕ) (hops : List Hop) (n : ℕ) → ((fs : List ℕ) → IsSchedule hops fs → ⊥) → CountOf hops n → routeAnswer T hops ≡ blocked n
+NoneBlocked = (T : ℕ) (hops : List Hop) (n : ℕ) → ((xs : List Spot) → IsSchedule hops xs → ⊥) → CountOf hops n → routeAnswer T hops ≡ blocked n
 
--- "It is at most the sum of K of hop j−1 times" Z − Y + 1 "of hop j" (W-206)
+-- "The transition bound is summed over K × C of the hop before times the hold choices times 2R + 1" (W-211)
 abbrev pub CountBound : Type 0
 CountBound = (T : ℕ) (hops : List Hop) (n : ℕ) → AllReady T hops → CountOf hops n → n ≤ transitionBound hops
 
+-- FOR ROUTES OF ONE COLOUR it is the bound of before
+abbrev pub BoundOneColour : Type 0
+BoundOneColour = (T : ℕ) (hops : List Hop) → AllReady T hops → OneColour hops → transitionBound hops ≡ plainBound hops
+
 -- "0 for one hop"
 abbrev pub DelayOneHop : Type 0
-DelayOneHop = (T : ℕ) (h : Hop) (fs : List ℕ) → scheduleDelay T (h ∷ []) fs ≡ 0
+DelayOneHop = (T : ℕ) (h : Hop) (xs : List Spot) → scheduleDelay T (h ∷ []) xs ≡ 0
 
 -- a cycle for each later hop at most
 abbrev pub DelayWithin : Type 0
-DelayWithin = (T : ℕ) (h : Hop) (hs : List Hop) (fs : List ℕ) → AllReady T hs → IsSchedule (h ∷ hs) fs → scheduleDelay T (h ∷ hs) fs ≤ length hs * T
+DelayWithin = (T : ℕ) (h : Hop) (hs : List Hop) (xs : List Spot) → AllReady T hs → IsSchedule (h ∷ hs) xs → scheduleDelay T (h ∷ hs) xs ≤ length hs * T
 
 -- "at most 7 × 960", for a route of at most 8 links and a cycle of at most 960 ticks
 abbrev pub DelayBound : Type 0
-DelayBound = (T : ℕ) (hops : List Hop) (fs : List ℕ) → T ≤ 960 → length hops ≤ 8 → AllReady T hops → IsSchedule hops fs → scheduleDelay T hops fs ≤ 7 * 960
+DelayBound = (T : ℕ) (hops : List Hop) (xs : List Spot) → T ≤ 960 → length hops ≤ 8 → AllReady T hops → IsSchedule hops xs → scheduleDelay T hops xs ≤ 7 * 960

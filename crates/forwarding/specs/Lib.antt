@@ -8,3 +8,4 @@ pub mod LeastDelay
 pub mod QuestionFour
 pub mod Ways
 pub mod Inner
+pub mod Coloured

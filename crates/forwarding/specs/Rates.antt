@@ -2,7 +2,7 @@
 use mathlib.Core.Path.{_≡_}
 use Prim.Native.Nat.{ℕ, _+_, _-_, _*_, _/_, _<_, _≤_}
 use Rattle.forwarding.specs.declared.Hop.{Hop}
-use Rattle.forwarding.specs.Forwarding.{reference, referenceInto, leastHold, holdInto, isFree, isAllowed, frameTime, delay}
+use Rattle.forwarding.specs.Forwarding.{reference, referenceInto, leastHold, holdInto, Spot, isFree, isAllowed, frameTime, delay}
 use Rattle.forwarding.specs.Hops.{HopReady}
 
 -- F-i of source document 002, equal rates: the frame of the same number
@@ -43,7 +43,7 @@ TurnsRound = (T : ℕ) (g h : Hop) (k : ℕ) → HopReady T g → HopReady T h �
     → (leastHold h ≤ holdInto g h k i)
     × ((k + 1) * frameTime T (g .frames) + holdInto g h k i * frameTime T (h .frames) ≤ (referenceInto g h k + holdInto g h k i + 1) * frameTime T (h .frames))
 
--- WITH Y 0 THE SAME FRAME NUMBER, between links of one rate, IS A HOLD OF 0 AND A DELAY OF 0, allowed where the frame is free
+-- WITH Y 0 THE SAME FRAME NUMBER, between links of one rate, IS A HOLD OF 0 AND A DELAY OF 0, allowed in the same colour where the frame is free
 abbrev pub SameFrame : Type 0
-SameFrame = (T : ℕ) (g h : Hop) (k : ℕ) → HopReady T h → g .frames ≡ h .frames → k < h .frames → leastHold h ≡ 0
-    → (holdInto g h k k ≡ 0) × (delay T (h .frames) (holdInto g h k k) ≡ 0) × (isAllowed g h k k ≡ isFree h k)
+SameFrame = (T : ℕ) (g h : Hop) (x : Spot) → HopReady T h → g .frames ≡ h .frames → x .frame < h .frames → leastHold h ≡ 0
+    → (holdInto g h (x .frame) (x .frame) ≡ 0) × (delay T (h .frames) (holdInto g h (x .frame) (x .frame)) ≡ 0) × (isAllowed g h x x ≡ isFree h x)

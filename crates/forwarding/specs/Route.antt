@@ -1,14 +1,35 @@
--- A route as a trellis: a stage for each hop, a node for each frame; its schedules are the paths. Assumes nothing.
+-- A route as a trellis: a stage for each hop, a node for each frame in each colour; its schedules are the paths. Assumes nothing.
 use mathlib.Core.Bool.{Bool, true, false}
 use mathlib.Core.List.{List, [], _∷_}
-use Prim.Native.Nat.{ℕ}
+use Prim.Native.Nat.{ℕ, _+_, _*_, _/_, _%_}
 use Rattle.trellis.specs.Trellis.{Reach, never, after, Stage, Trellis, entry, grow}
 use Rattle.trellis.specs.Considered.{considered}
-use Rattle.trellis.specs.Answer.{Answer, answer}
+use Rattle.trellis.specs.Answer.{Answer, renamed, answer}
 use Rattle.trellis.specs.Forwards.{ArePaths}
 use Rattle.forwarding.specs.declared.Hop.{Hop}
-use Rattle.forwarding.specs.Forwarding.{isFree, holdInto, isAllowed, delay}
+use Rattle.forwarding.specs.Forwarding.{Spot, isFree, holdInto, isAllowed, delay}
 use Rattle.forwarding.specs.Schedule.{IsSchedule, scheduleDelay, scheduleKey, CountOf}
+
+-- the nodes of a hop: frame × C + colour, so that their order is by frame and then by colour
+abbrev pub nodes : Hop → ℕ
+nodes h = h .frames * h .colours
+
+abbrev pub nodeAt : Hop → Spot → ℕ
+nodeAt h x = x .frame * h .colours + x .colour
+
+abbrev pub spotAt : Hop → ℕ → Spot
+spotAt h n = record { frame = n / h .colours; colour = n % h .colours }
+
+-- and those of a list, one for each hop
+abbrev pub nodesOn : List Hop → List Spot → List ℕ
+nodesOn [] xs = []
+nodesOn (h ∷ hs) [] = []
+nodesOn (h ∷ hs) (x ∷ xs) = nodeAt h x ∷ nodesOn hs xs
+
+abbrev pub spotsOn : List Hop → List ℕ → List Spot
+spotsOn [] ns = []
+spotsOn (h ∷ hs) [] = []
+spotsOn (h ∷ hs) (n ∷ ns) = spotAt h n ∷ spotsOn hs ns
 
 -- hop 0: a free frame is begun at, at no delay
 abbrev pub startIf : Bool → Reach
@@ -16,15 +37,15 @@ startIf true = after 0
 startIf false = never
 
 abbrev pub starts : Hop → ℕ → Reach
-starts h i = startIf (isFree h i)
+starts h n = startIf (isFree h (spotAt h n))
 
 -- the hop h after the hop g: a step for each allowed transition, the smaller hold first among equal costs; `cost` is what a hold costs
 abbrev pub stageOf : (ℕ → ℕ) → Hop → Hop → Stage
 stageOf cost g h = record {
-  size = h .frames;
-  allowed = λ k i. isAllowed g h k i;
-  cost = λ k i. cost (holdInto g h k i);
-  rank = λ k i. holdInto g h k i;
+  size = nodes h;
+  allowed = λ k i. isAllowed g h (spotAt g k) (spotAt h i);
+  cost = λ k i. cost (holdInto g h (k / g .colours) (i / h .colours));
+  rank = λ k i. holdInto g h (k / g .colours) (i / h .colours);
 }
 
 -- a hold costs its delay in ticks
@@ -39,11 +60,11 @@ stages T g (h ∷ hs) = stage T g h ∷ stages T h hs
 -- a route has a link at least (refusal 12), so none is a trellis without nodes
 abbrev pub routeTrellis : ℕ → List Hop → Trellis
 routeTrellis T [] = entry 0 (λ i. never)
-routeTrellis T (h ∷ hs) = grow (entry (h .frames) (starts h)) (stages T h hs)
+routeTrellis T (h ∷ hs) = grow (entry (nodes h) (starts h)) (stages T h hs)
 
--- THE SCHEDULES OF A ROUTE ARE THE PATHS OF ITS TRELLIS, with their delays and their keys
+-- THE SCHEDULES OF A ROUTE ARE THE PATHS OF ITS TRELLIS, with their delays and in their order
 abbrev pub SchedulesArePaths : Type 0
-SchedulesArePaths = (T : ℕ) (hops : List Hop) → ArePaths (routeTrellis T hops) (IsSchedule hops) (scheduleDelay T hops) (scheduleKey T hops)
+SchedulesArePaths = (T : ℕ) (hops : List Hop) → ArePaths Spot (routeTrellis T hops) (IsSchedule hops) (nodesOn hops) (spotsOn hops) (scheduleDelay T hops) (scheduleKey T hops)
 
 -- the count of transitions considered as a number, and that it is theirs
 abbrev pub transitions : ℕ → List Hop → ℕ
@@ -53,5 +74,5 @@ abbrev pub TransitionsCounted : Type 0
 TransitionsCounted = (T : ℕ) (hops : List Hop) → CountOf hops (transitions T hops)
 
 -- the answer of a route over its free frames, the least of the list of all paths; what it is in document 01's words: `specs/LeastDelay`
-unfoldable pub routeAnswer : ℕ → List Hop → Answer
-routeAnswer T hops = answer (routeTrellis T hops)
+unfoldable pub routeAnswer : ℕ → List Hop → Answer Spot
+routeAnswer T hops = renamed (spotsOn hops) (answer (routeTrellis T hops))

@@ -1,7 +1,7 @@
--- Document 01, "Least-delay schedule", in its own words: schedules, their delay, their order, and the transitions considered. Assumes nothing.
+-- Document 01, "Least-delay schedule", in its own words and in those of W-211: schedules, their delay, their order, and the transitions considered. Assumes nothing.
 use mathlib.Core.Path.{_≡_}
 use mathlib.Core.Bool.{Bool, true, false, _&&_}
-use mathlib.Core.List.{List, [], _∷_, _++_, List·Memᴰ}
+use mathlib.Core.List.{List, [], _∷_, _++_, map, List·Memᴰ}
 use mathlib.Core.Logic.{_↔_}
 use Prim.Native.Nat.{ℕ, suc, _+_, _*_, _<_}
 use lib.Dec.{ltb}
@@ -9,97 +9,131 @@ use lib.ListN.{length, take, getD}
 use Rattle.lists.specs.Order.{Precedes}
 use Rattle.lists.specs.Once.{EachOnce}
 use Rattle.forwarding.specs.declared.Hop.{Hop}
-use Rattle.forwarding.specs.Forwarding.{isFree, holdInto, isAllowed, choices, delay}
+use Rattle.forwarding.specs.Forwarding.{Spot, IsOn, isFree, holdInto, isAllowed, choices, turnChoices, delay}
 use Rattle.forwarding.specs.Hops.{noHop}
 
--- on from frame k of the hop g: "an allowed transition into each later hop", to a frame of it
-abbrev pub GoesOn : Hop → ℕ → List Hop → List ℕ → Type 0
-GoesOn g k [] [] = Unit {0}
-GoesOn g k [] (i ∷ is) = ⊥
-GoesOn g k (h ∷ hs) [] = ⊥
-GoesOn g k (h ∷ hs) (i ∷ is) = (i < h .frames) × (isAllowed g h k i ≡ true) × GoesOn h i hs is
+-- the frames and the colours of a list of frames in their colours
+abbrev pub framesOf : List Spot → List ℕ
+framesOf xs = map (λ (x : Spot). x .frame) xs
 
--- A SCHEDULE over the hops of a route, a frame for each, hop 0 first: "a free frame at hop 0 and an allowed transition into each later hop"
-abbrev pub IsSchedule : List Hop → List ℕ → Type 0
-IsSchedule [] fs = ⊥
+abbrev pub coloursOf : List Spot → List ℕ
+coloursOf xs = map (λ (x : Spot). x .colour) xs
+
+-- and back: frames and their colours, place by place
+abbrev pub inColours : List ℕ → List ℕ → List Spot
+inColours [] cs = []
+inColours (i ∷ is) [] = []
+inColours (i ∷ is) (c ∷ cs) = record { frame = i; colour = c } ∷ inColours is cs
+
+-- FRAMES AND COLOURS TELL THE LIST
+abbrev pub ColoursJoined : Type 0
+ColoursJoined = (xs : List Spot) → inColours (framesOf xs) (coloursOf xs) ≡ xs
+
+-- on from x on the hop g: "an allowed transition into each later hop", to a frame of it in a colour of it
+abbrev pub GoesOn : Hop → Spot → List Hop → List Spot → Type 0
+GoesOn g x [] [] = Unit {0}
+GoesOn g x [] (y ∷ ys) = ⊥
+GoesOn g x (h ∷ hs) [] = ⊥
+GoesOn g x (h ∷ hs) (y ∷ ys) = IsOn h y × (isAllowed g h x y ≡ true) × GoesOn h y hs ys
+
+-- A SCHEDULE over the hops of a route, a frame and a colour for each, hop 0 first: "a free frame at hop 0 and an allowed transition into each later hop"
+abbrev pub IsSchedule : List Hop → List Spot → Type 0
+IsSchedule [] xs = ⊥
 IsSchedule (h ∷ hs) [] = ⊥
-IsSchedule (h ∷ hs) (k ∷ is) = (k < h .frames) × (isFree h k ≡ true) × GoesOn h k hs is
+IsSchedule (h ∷ hs) (x ∷ ys) = IsOn h x × (isFree h x ≡ true) × GoesOn h x hs ys
 
 -- the same as tests
-abbrev pub goesOn : Hop → ℕ → List Hop → List ℕ → Bool
-goesOn g k [] [] = true
-goesOn g k [] (i ∷ is) = false
-goesOn g k (h ∷ hs) [] = false
-goesOn g k (h ∷ hs) (i ∷ is) = ltb i (h .frames) && (isAllowed g h k i && goesOn h i hs is)
+abbrev pub isOn : Hop → Spot → Bool
+isOn h x = ltb (x .frame) (h .frames) && ltb (x .colour) (h .colours)
 
-abbrev pub isSchedule : List Hop → List ℕ → Bool
-isSchedule [] fs = false
+abbrev pub goesOn : Hop → Spot → List Hop → List Spot → Bool
+goesOn g x [] [] = true
+goesOn g x [] (y ∷ ys) = false
+goesOn g x (h ∷ hs) [] = false
+goesOn g x (h ∷ hs) (y ∷ ys) = isOn h y && (isAllowed g h x y && goesOn h y hs ys)
+
+abbrev pub isSchedule : List Hop → List Spot → Bool
+isSchedule [] xs = false
 isSchedule (h ∷ hs) [] = false
-isSchedule (h ∷ hs) (k ∷ is) = ltb k (h .frames) && (isFree h k && goesOn h k hs is)
+isSchedule (h ∷ hs) (x ∷ ys) = isOn h x && (isFree h x && goesOn h x hs ys)
 
 -- THE TEST TELLS SCHEDULES, and nothing else
 abbrev pub TestTells : Type 0
-TestTells = (hops : List Hop) (fs : List ℕ) → (isSchedule hops fs ≡ true) ↔ IsSchedule hops fs
+TestTells = (hops : List Hop) (xs : List Spot) → (isSchedule hops xs ≡ true) ↔ IsSchedule hops xs
 
--- "Its delay is the sum, 0 for one hop", for a cycle of T ticks: the delays of the holds, from frame k of the hop g on
-abbrev pub onwardDelay : ℕ → Hop → ℕ → List Hop → List ℕ → ℕ
-onwardDelay T g k [] is = 0
-onwardDelay T g k (h ∷ hs) [] = 0
-onwardDelay T g k (h ∷ hs) (i ∷ is) = delay T (h .frames) (holdInto g h k i) + onwardDelay T h i hs is
+-- "Its delay is the sum, 0 for one hop", for a cycle of T ticks: the delays of the holds, from x on the hop g on
+abbrev pub onwardDelay : ℕ → Hop → Spot → List Hop → List Spot → ℕ
+onwardDelay T g x [] ys = 0
+onwardDelay T g x (h ∷ hs) [] = 0
+onwardDelay T g x (h ∷ hs) (y ∷ ys) = delay T (h .frames) (holdInto g h (x .frame) (y .frame)) + onwardDelay T h y hs ys
 
-abbrev pub scheduleDelay : ℕ → List Hop → List ℕ → ℕ
-scheduleDelay T [] fs = 0
+abbrev pub scheduleDelay : ℕ → List Hop → List Spot → ℕ
+scheduleDelay T [] xs = 0
 scheduleDelay T (h ∷ hs) [] = 0
-scheduleDelay T (h ∷ hs) (k ∷ is) = onwardDelay T h k hs is
+scheduleDelay T (h ∷ hs) (x ∷ ys) = onwardDelay T h x hs ys
 
--- "Among equals the smaller last frame wins. Then, going back hop by hop, the smaller hold wins, then the smaller preceding frame": the last frame, the hold into it,
--- the frame before, and so on, back to frame k of the hop g
-abbrev pub goingBack : Hop → ℕ → List Hop → List ℕ → List ℕ
-goingBack g k [] is = k ∷ []
-goingBack g k (h ∷ hs) [] = k ∷ []
-goingBack g k (h ∷ hs) (i ∷ is) = goingBack h i hs is ++ (holdInto g h k i ∷ k ∷ [])
+-- "Among equals: last frame, last colour, then going back the hold, the preceding frame, the preceding colour, smaller first" (W-211): the last frame, the last colour, the hold into it,
+-- the frame before, its colour, and so on, back to x on the hop g
+abbrev pub goingBack : Hop → Spot → List Hop → List Spot → List ℕ
+goingBack g x [] ys = x .frame ∷ x .colour ∷ []
+goingBack g x (h ∷ hs) [] = x .frame ∷ x .colour ∷ []
+goingBack g x (h ∷ hs) (y ∷ ys) = goingBack h y hs ys ++ (holdInto g h (x .frame) (y .frame) ∷ x .frame ∷ x .colour ∷ [])
 
 -- what decides between schedules, by the first difference: the delay, and then those
-abbrev pub scheduleKey : ℕ → List Hop → List ℕ → List ℕ
-scheduleKey T [] fs = []
+abbrev pub scheduleKey : ℕ → List Hop → List Spot → List ℕ
+scheduleKey T [] xs = []
 scheduleKey T (h ∷ hs) [] = []
-scheduleKey T (h ∷ hs) (k ∷ is) = scheduleDelay T (h ∷ hs) (k ∷ is) ∷ goingBack h k hs is
+scheduleKey T (h ∷ hs) (x ∷ ys) = scheduleDelay T (h ∷ hs) (x ∷ ys) ∷ goingBack h x hs ys
 
 -- "The answer is a schedule of least delay", ties as written: it is first among all
-pub record LeastSchedule (T : ℕ) (hops : List Hop) (fs : List ℕ) : Type 0 where
-  pub schedule : IsSchedule hops fs
-  pub first : (gs : List ℕ) → IsSchedule hops gs → Precedes (scheduleKey T hops fs) (scheduleKey T hops gs)
+pub record LeastSchedule (T : ℕ) (hops : List Hop) (xs : List Spot) : Type 0 where
+  pub schedule : IsSchedule hops xs
+  pub first : (ys : List Spot) → IsSchedule hops ys → Precedes (scheduleKey T hops xs) (scheduleKey T hops ys)
 
--- a transition from frame `from` of hop number `hop` to frame `to` of the hop after it
+-- a transition from `from` on hop number `hop` to `to` on the hop after it
 pub record Transition : Type 0 where
   pub hop : ℕ
-  pub from : ℕ
-  pub to : ℕ
+  pub from : Spot
+  pub to : Spot
 
--- "a frame of hop j−1 that ends some schedule of hops 0 to j−1, and a frame of hop j to which a transition is allowed"
-pub record IsConsidered (hops : List Hop) (x : Transition) : Type 0 where
-  pub later : suc (x .hop) < length hops
-  pub before : List ℕ
-  pub ends : IsSchedule (take (suc (x .hop)) hops) (before ++ (x .from ∷ []))
-  pub frame : x .to < getD hops (suc (x .hop)) noHop .frames
-  pub allowed : isAllowed (getD hops (x .hop) noHop) (getD hops (suc (x .hop)) noHop) (x .from) (x .to) ≡ true
+-- "a frame of hop j−1 that ends some schedule of hops 0 to j−1, and a frame of hop j to which a transition is allowed": "counting ... run over pairs of frame and colour" (W-211)
+pub record IsConsidered (hops : List Hop) (t : Transition) : Type 0 where
+  pub later : suc (t .hop) < length hops
+  pub before : List Spot
+  pub ends : IsSchedule (take (suc (t .hop)) hops) (before ++ (t .from ∷ []))
+  pub on : IsOn (getD hops (suc (t .hop)) noHop) (t .to)
+  pub allowed : isAllowed (getD hops (t .hop) noHop) (getD hops (suc (t .hop)) noHop) (t .from) (t .to) ≡ true
 
 -- "the count of transitions considered": how many there are, the length of a list that has each of them once and nothing else
 pub record CountOf (hops : List Hop) (n : ℕ) : Type 0 where
   pub pairs : List Transition
   pub once : EachOnce pairs
-  pub each : (x : Transition) → List·Memᴰ x pairs ↔ IsConsidered hops x
+  pub each : (t : Transition) → List·Memᴰ t pairs ↔ IsConsidered hops t
   pub number : n ≡ length pairs
 
 -- THE COUNT IS ONE NUMBER
 abbrev pub CountOnly : Type 0
 CountOnly = (hops : List Hop) (n m : ℕ) → CountOf hops n → CountOf hops m → n ≡ m
 
--- "It is at most the sum of K of hop j−1 times Z of hop j", where W-206 uses "Z − Y + 1 for Z": from the hop g on
+-- "summed over K × C of the hop before times the hold choices times 2R + 1" (W-211, for 01's "K of hop j−1 times Z of hop j"): from the hop g on
 abbrev pub boundFrom : Hop → List Hop → ℕ
 boundFrom g [] = 0
-boundFrom g (h ∷ hs) = g .frames * choices h + boundFrom h hs
+boundFrom g (h ∷ hs) = g .frames * g .colours * (choices h * turnChoices h) + boundFrom h hs
 
 abbrev pub transitionBound : List Hop → ℕ
 transitionBound [] = 0
 transitionBound (h ∷ hs) = boundFrom h hs
+
+-- each link has one colour
+abbrev pub OneColour : List Hop → Type 0
+OneColour [] = Unit {0}
+OneColour (h ∷ hs) = (h .colours ≡ 1) × OneColour hs
+
+-- the bound before W-211: "the sum of K of hop j−1 times" Z − Y + 1
+abbrev pub plainFrom : Hop → List Hop → ℕ
+plainFrom g [] = 0
+plainFrom g (h ∷ hs) = g .frames * choices h + plainFrom h hs
+
+abbrev pub plainBound : List Hop → ℕ
+plainBound [] = 0
+plainBound (h ∷ hs) = plainFrom h hs

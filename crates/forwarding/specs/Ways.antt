@@ -3,33 +3,33 @@ use mathlib.Core.Path.{_≡_}
 use mathlib.Core.Bool.{true}
 use mathlib.Core.List.{List, [], _∷_, map, List·Memᴰ}
 use mathlib.Core.Logic.{_↔_}
-use Prim.Native.Nat.{ℕ, _*_, _^_, _<_, _≤_}
+use Prim.Native.Nat.{ℕ, _*_, _^_, _≤_}
 use lib.ListN.{length}
 use Rattle.lists.specs.Once.{EachOnce}
 use Rattle.trellis.specs.Paths.{listIf, gather}
 use Rattle.trellis.specs.Answer.{blocked}
 use Rattle.forwarding.specs.declared.Hop.{Hop}
-use Rattle.forwarding.specs.Forwarding.{isFree, isAllowed, choices}
+use Rattle.forwarding.specs.Forwarding.{Spot, IsOn, isFree, isAllowed, choices}
 use Rattle.forwarding.specs.Hops.{AllReady}
-use Rattle.forwarding.specs.Schedule.{IsSchedule}
-use Rattle.forwarding.specs.Route.{routeAnswer}
+use Rattle.forwarding.specs.Schedule.{IsSchedule, OneColour}
+use Rattle.forwarding.specs.Route.{nodes, spotAt, routeAnswer}
 use Rattle.forwarding.specs.QuestionFour.{Case, starred}
 
--- `gather K` puts the lists of the frames below K one after the other, and `listIf` leaves out those of a frame that fails its test
+-- `gather n` puts the lists of the numbers below n one after the other (those of a hop stand for its frames in their colours, each once), and `listIf` leaves out those of a frame that fails its test
 
--- all ways on from frame k of the hop g, each as its frames: "an allowed transition into each later hop", to a frame of it
-abbrev pub waysOn : Hop → ℕ → List Hop → List (List ℕ)
-waysOn g k [] = [] ∷ []
-waysOn g k (h ∷ hs) = gather (h .frames) (λ i. listIf (isAllowed g h k i) (map (λ is. i ∷ is) (waysOn h i hs)))
+-- all ways on from x on the hop g, each as its frames in their colours: "an allowed transition into each later hop", to a frame of it
+abbrev pub waysOn : Hop → Spot → List Hop → List (List Spot)
+waysOn g x [] = [] ∷ []
+waysOn g x (h ∷ hs) = gather (nodes h) (λ i. listIf (isAllowed g h x (spotAt h i)) (map (λ ys. spotAt h i ∷ ys) (waysOn h (spotAt h i) hs)))
 
 -- THE LIST OF ALL SCHEDULES of a route: "a free frame at hop 0", and all ways on from it
-unfoldable pub schedules : List Hop → List (List ℕ)
+unfoldable pub schedules : List Hop → List (List Spot)
 schedules [] = []
-schedules (h ∷ hs) = gather (h .frames) (λ k. listIf (isFree h k) (map (λ is. k ∷ is) (waysOn h k hs)))
+schedules (h ∷ hs) = gather (nodes h) (λ k. listIf (isFree h (spotAt h k)) (map (λ ys. spotAt h k ∷ ys) (waysOn h (spotAt h k) hs)))
 
 -- A LIST OF FRAMES STANDS IN IT EXACTLY WHEN IT IS A SCHEDULE, whatever the numbers of frames
 abbrev pub SchedulesListed : Type 0
-SchedulesListed = (hops : List Hop) (fs : List ℕ) → List·Memᴰ fs (schedules hops) ↔ IsSchedule hops fs
+SchedulesListed = (hops : List Hop) (xs : List Spot) → List·Memᴰ xs (schedules hops) ↔ IsSchedule hops xs
 
 -- "each once"
 abbrev pub SchedulesOnce : Type 0
@@ -41,7 +41,7 @@ routeWays hops = length (schedules hops)
 
 -- AND OF EVERY OTHER LIST that has each schedule once and nothing else
 abbrev pub WaysOnly : Type 0
-WaysOnly = (hops : List Hop) (list : List (List ℕ)) → EachOnce list → ((fs : List ℕ) → List·Memᴰ fs list ↔ IsSchedule hops fs) → length list ≡ routeWays hops
+WaysOnly = (hops : List Hop) (list : List (List Spot)) → EachOnce list → ((xs : List Spot) → List·Memᴰ xs list ↔ IsSchedule hops xs) → length list ≡ routeWays hops
 
 -- "The count is 0 exactly when a quote is refused as blocked", of the answer over the same hops
 abbrev pub WaysBlocked : Type 0
@@ -50,7 +50,7 @@ WaysBlocked = (T : ℕ) (hops : List Hop) → (routeWays hops ≡ 0) ↔ ((n : �
 -- "no frame on it is closed or held": each frame of each hop is free
 abbrev pub EveryFrameFree : List Hop → Type 0
 EveryFrameFree [] = Unit {0}
-EveryFrameFree (h ∷ hs) = ((i : ℕ) → i < h .frames → isFree h i ≡ true) × EveryFrameFree hs
+EveryFrameFree (h ∷ hs) = ((x : Spot) → IsOn h x → isFree h x ≡ true) × EveryFrameFree hs
 
 -- "the product of the later Z", where W-206 uses "Z − Y + 1 for Z"
 abbrev pub laterChoices : List Hop → ℕ
@@ -62,13 +62,17 @@ abbrev pub openWays : List Hop → ℕ
 openWays [] = 0
 openWays (h ∷ hs) = h .frames * laterChoices hs
 
--- "Where no frame on it is closed or held this equals K of hop 0 times the product of the later" Z − Y + 1
+-- "Where no frame on it is closed or held this equals K of hop 0 times the product of the later" Z − Y + 1; "its product formula remains for routes of one colour" (W-211)
 abbrev pub WaysOpen : Type 0
-WaysOpen = (T : ℕ) (hops : List Hop) → AllReady T hops → EveryFrameFree hops → routeWays hops ≡ openWays hops
+WaysOpen = (T : ℕ) (hops : List Hop) → AllReady T hops → OneColour hops → EveryFrameFree hops → routeWays hops ≡ openWays hops
 
--- "The largest number is 64 to the power 8", for a route of at most 8 links
+-- "The number of ways can now be 2 to the power 64" (W-211), for a route of at most 8 links
 abbrev pub WaysMost : Type 0
-WaysMost = (T : ℕ) (hops : List Hop) → length hops ≤ 8 → AllReady T hops → routeWays hops ≤ 64 ^ 8
+WaysMost = (T : ℕ) (hops : List Hop) → length hops ≤ 8 → AllReady T hops → routeWays hops ≤ 256 ^ 8
+
+-- and over links of one colour each "The largest number is 64 to the power 8" (W-203)
+abbrev pub WaysOneColour : Type 0
+WaysOneColour = (T : ℕ) (hops : List Hop) → length hops ≤ 8 → AllReady T hops → OneColour hops → routeWays hops ≤ 64 ^ 8
 
 -- the ways of the starred routes of question four, row by row, counted by hand
 abbrev pub StarredWays : Type 0

@@ -2,7 +2,7 @@
 ghost use mathlib.Core.Path.{_≡_};
 ghost use Prim.Native.Nat.{_+_, _*_, _<_, _≤_};
 ghost use Rattle.forwarding.specs.Forwarding.{referenceInto, leastHold, holdInto, choices, frameTime, IsDelay};
-ghost use Rattle.forwarding.specs.Hops.{noHop};
+ghost use Rattle.forwarding.specs.Hops.{blankHop};
 ghost use Rattle.forwarding.specs.Cycles.{nextCycle};
 
 // A hold counts frames of the outgoing link.
@@ -12,30 +12,37 @@ pub struct Hold(pub u16);
 // A delay counts ticks.
 pub struct Delay(pub u16);
 
-// What an answer, a session and a lookup hold: a frame and its cycle for each hop, hop 0 first, in eight places, and the delay. A field that is added later stands here.
+// What an answer, a session and a lookup hold: a frame, its cycle and its colour for each hop, hop 0 first, in eight places, and the delay. A field that is added later stands here.
 pub struct Held {
     pub frames: [u8; 8],
     pub cycles: [u8; 8],
     pub delay: Delay,
+    pub colours: [u8; 8],
 }
 
-// A hop of a route: its link's frames per cycle (K), its forwarding range (Z), its least hold (Y), and its free frames as a word, bit i for frame i.
+// A hop of a route: its link's frames per cycle (K), its forwarding range (Z), its least hold (Y), its colours (C) and its conversion range (R), and its free frames, a word for each
+// colour: bit i of word c for frame i in colour c.
 pub struct Hop {
     pub frames: u16,
     pub range: u16,
     pub least: u16,
-    pub free: u64,
+    pub colours: u16,
+    pub turn: u16,
+    pub free: [u64; 4],
 }
 
 // What stands in a place of an array that no hop stands in.
 pub fn no_hop() -> Hop
-    ensures { λ r. ⌜ r ≡ noHop ⌝ }
+    ensures { λ r. ⌜ r ≡ blankHop ⌝ }
 {
+    let free = [0u64; 4];
     Hop {
         frames: 0,
         range: 0,
         least: 0,
-        free: 0,
+        colours: 0,
+        turn: 0,
+        free,
     }
 }
 

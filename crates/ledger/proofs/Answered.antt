@@ -9,6 +9,7 @@ use Rattle.refusals.specs.Refusals.{given, pass, refuseIf, refusedOr}
 use Rattle.refusals.proofs.Refusals.{past, not-refused, both-passed}
 use Rattle.network.specs.Network.{Topology}
 use Rattle.forwarding.specs.declared.Hop.{Hop}
+use Rattle.forwarding.specs.Forwarding.{Spot}
 use Rattle.forwarding.specs.Route.{routeAnswer}
 use Rattle.forwarding.specs.LeastDelay.{RouteAnswer}
 use Rattle.forwarding.proofs.Answers.{answer-rules, found-given}
@@ -43,7 +44,7 @@ admitted net ss n route e =
 least-or-blocked : (T : ℕ) (hops : List Hop) → LeastOrBlocked T hops (answerOver T hops)
 least-or-blocked T hops = go (routeAnswer T hops) refl
   where
-    go : (a : trellis.Answer) → routeAnswer T hops ≡ a → LeastOrBlocked T hops (replyOf hops a)
+    go : (a : trellis.Answer Spot) → routeAnswer T hops ≡ a → LeastOrBlocked T hops (replyOf hops a)
     go (found d n w) e = least d n w e (found-given T hops d n w e)
     go (blocked n) e =
         let b : RouteAnswer T hops (blocked n) = subst (RouteAnswer T hops) e (answer-rules T hops) in

@@ -12,5 +12,5 @@ pub free-counted : FreeCounted
 unfolding freeOf
 free-counted net ss l =
     let K : ℕ = linkAt net l .frames in
-    let free : ℕ → Bool = λ i. not (bitOf (linkAt net l .closed) i) && not (heldIn ss (slot l i)) in
+    let free : ℕ → Bool = λ i. not (bitOf (linkAt net l .closed) i) && not (heldIn ss (slot l i 0)) in
     sym (count-ones K (wordOf K free) (word-lt K free)) ∙ count-word K free

@@ -1,8 +1,9 @@
--- What a schedule holds, field by field, and that a node is a frame: no other file unfolds what is held over hops. Assumes nothing.
+-- What a schedule holds, field by field: no other file unfolds what is held over hops. Assumes nothing.
 use mathlib.Core.Path.{_≡_, refl, ap, ap₂, _∙_}
-use mathlib.Core.Bool.{Bool, true, _&&_}
+use mathlib.Core.Bool.{Bool, true, false, _&&_}
 use mathlib.Core.List.{List, [], _∷_}
-use Prim.Native.Nat.{ℕ, suc}
+use Prim.Native.Nat.{ℕ}
+use native.Mathlib.Omega.{arith}
 use lib.ListN.{length, length-map}
 use lib.Dec.{eqb}
 use borrow.Author.Tests.{eq-eqb, eqb-true}
@@ -12,36 +13,32 @@ use Rattle.places.proofs.Firsts.{so-many-back}
 use Rattle.forwarding.specs.declared.Delay.{Delay}
 use Rattle.forwarding.specs.declared.Held.{Held}
 use Rattle.forwarding.specs.declared.Hop.{Hop}
-use Rattle.forwarding.specs.Forwarding.{referenceInto, leastHold, holdInto}
-use Rattle.forwarding.specs.Schedule.{GoesOn, IsSchedule}
+use Rattle.forwarding.specs.Forwarding.{Spot, referenceInto, leastHold, holdInto}
+use Rattle.forwarding.specs.Schedule.{framesOf, coloursOf, inColours, IsSchedule}
 use Rattle.forwarding.specs.Cycles.{nextCycle, onwardCycles, scheduleCycles}
+use Rattle.forwarding.proofs.Spots.{colours-joined}
+use Rattle.forwarding.proofs.Schedules.{schedule-long}
 use Rattle.forwarding.proofs.Cycles.{cycle-per-hop}
 use Rattle.network.specs.Network.{Topology}
 use Rattle.ledger.specs.Lists.{sameList}
-use Rattle.ledger.specs.Held.{Holding, heldOver, nodesIn, sameHeld, NodesHeld, heldPlaces, HeldStored}
+use Rattle.ledger.specs.Held.{Holding, heldOver, spotsIn, sameHeld, SpotsHeld, heldPlaces, HeldStored}
 use Rattle.ledger.specs.Sessions.{Session, hopOf, hopsOf, HeldFree}
 use Rattle.ledger.proofs.Lists.{same-list, list-same}
 
--- a schedule has a node for each hop
-on-length : (g : Hop) (k : ℕ) (hops : List Hop) (fs : List ℕ) → GoesOn g k hops fs → length fs ≡ length hops
-on-length g k [] [] o = refl
-on-length g k [] (i ∷ fs) o = absurd o
-on-length g k (h ∷ hops) [] o = absurd o
-on-length g k (h ∷ hops) (i ∷ fs) o = ap suc (on-length h i hops fs (o .2))
+-- over the hops of a route, a frame in its colour for each link
+pub route-length : (net : Topology) (ss : List Session) (route : List ℕ) (xs : List Spot) → IsSchedule (hopsOf net ss route) xs → length xs ≡ length route
+route-length net ss route xs s = schedule-long (hopsOf net ss route) xs s ∙ length-map route (hopOf net ss)
 
-pub schedule-length : (hops : List Hop) (fs : List ℕ) → IsSchedule hops fs → length fs ≡ length hops
-schedule-length [] fs s = absurd s
-schedule-length (h ∷ hops) [] s = absurd s
-schedule-length (h ∷ hops) (k ∷ fs) s = ap suc (on-length h k hops fs (s .2))
+pub frames-length : (hops : List Hop) (xs : List Spot) → IsSchedule hops xs → length (framesOf xs) ≡ length hops
+frames-length hops xs s = length-map xs (λ (x : Spot). x .frame) ∙ schedule-long hops xs s
 
--- over the hops of a route, one for each link
-pub route-length : (net : Topology) (ss : List Session) (route fs : List ℕ) → IsSchedule (hopsOf net ss route) fs → length fs ≡ length route
-route-length net ss route fs s = schedule-length (hopsOf net ss route) fs s ∙ length-map route (hopOf net ss)
+pub colours-length : (hops : List Hop) (xs : List Spot) → IsSchedule hops xs → length (coloursOf xs) ≡ length hops
+colours-length hops xs s = length-map xs (λ (x : Spot). x .colour) ∙ schedule-long hops xs s
 
--- WHAT A SCHEDULE HOLDS TELLS ITS NODES
-pub nodes-held : NodesHeld
-unfolding heldOver nodesIn
-nodes-held hops delay nodes s = refl
+-- WHAT A SCHEDULE HOLDS TELLS ITS FRAMES IN THEIR COLOURS
+pub spots-held : SpotsHeld
+unfolding heldOver spotsIn
+spots-held hops delay xs = colours-joined xs
 
 -- ---- cycles do not go by which frames are free
 module _ (net : Topology) (ss : List Session) where
@@ -61,55 +58,68 @@ module _ (net : Topology) (ss : List Session) where
 -- WHAT A SCHEDULE HOLDS DOES NOT GO BY WHICH FRAMES ARE FREE
 pub held-free : HeldFree
 unfolding heldOver
-held-free net ss route delay nodes = ap (λ (cs : List ℕ). record { frames = nodes; cycles = cs; delay = delay }) (cycles-free net ss route nodes)
+held-free net ss route delay xs =
+    ap (λ (cs : List ℕ). record { frames = framesOf xs; cycles = cs; delay = delay; colours = coloursOf xs }) (cycles-free net ss route (framesOf xs))
+
+-- two that agree in their lists
+together : (delay : ℕ) {ds bs cs fs gs hs : List ℕ} → ds ≡ fs → bs ≡ gs → cs ≡ hs
+    → _≡_ {A = Holding} (record { frames = ds; cycles = bs; delay = delay; colours = cs }) (record { frames = fs; cycles = gs; delay = delay; colours = hs })
+together delay {ds} {bs} {cs} {fs} {gs} {hs} p q r =
+    ap₂ (λ (x y : List ℕ). record { frames = x; cycles = y; delay = delay; colours = cs }) p q
+    ∙ ap (λ (z : List ℕ). record { frames = fs; cycles = gs; delay = delay; colours = z }) r
 
 -- WHAT A SCHEDULE HOLDS, LAID INTO EIGHT PLACES AND READ BACK, IS THE SAME
 pub held-stored : HeldStored
 unfolding heldOver
-held-stored hops delay nodes s few =
-    ap₂ (λ (fs cs : List ℕ). record { frames = fs; cycles = cs; delay = delay }) (so-many-back 8 (length hops) nodes 0 (schedule-length hops nodes s) few)
-    (so-many-back 8 (length hops) (scheduleCycles hops nodes) 0 (cycle-per-hop hops nodes s) few)
+held-stored hops delay xs s few =
+    together delay (so-many-back 8 (length hops) (framesOf xs) 0 (frames-length hops xs s) few)
+    (so-many-back 8 (length hops) (scheduleCycles hops (framesOf xs)) 0 (cycle-per-hop hops xs s) few)
+    (so-many-back 8 (length hops) (coloursOf xs) 0 (colours-length hops xs s) few)
 
--- ---- the fields of what a schedule holds: its frames, which its nodes are, and its delay
-pub frames-over : (hops : List Hop) (delay : ℕ) (nodes : List ℕ) → heldOver hops delay nodes .frames ≡ nodes
+-- ---- the fields of what a schedule holds
+pub frames-over : (hops : List Hop) (delay : ℕ) (xs : List Spot) → heldOver hops delay xs .frames ≡ framesOf xs
 unfolding heldOver
-frames-over hops delay nodes = refl
+frames-over hops delay xs = refl
 
-pub delay-over : (hops : List Hop) (delay : ℕ) (nodes : List ℕ) → heldOver hops delay nodes .delay ≡ delay
+pub colours-over : (hops : List Hop) (delay : ℕ) (xs : List Spot) → heldOver hops delay xs .colours ≡ coloursOf xs
 unfolding heldOver
-delay-over hops delay nodes = refl
+colours-over hops delay xs = refl
 
--- its nodes are its frames
-pub frames-in : (hops : List Hop) (held : Holding) → nodesIn hops held ≡ held .frames
-unfolding nodesIn
-frames-in hops held = refl
-
-pub cycles-over : (hops : List Hop) (delay : ℕ) (nodes : List ℕ) → heldOver hops delay nodes .cycles ≡ scheduleCycles hops nodes
+pub delay-over : (hops : List Hop) (delay : ℕ) (xs : List Spot) → heldOver hops delay xs .delay ≡ delay
 unfolding heldOver
-cycles-over hops delay nodes = refl
+delay-over hops delay xs = refl
+
+pub cycles-over : (hops : List Hop) (delay : ℕ) (xs : List Spot) → heldOver hops delay xs .cycles ≡ scheduleCycles hops (framesOf xs)
+unfolding heldOver
+cycles-over hops delay xs = refl
 
 -- and in eight places
-pub places-over : (hops : List Hop) (delay : Delay) (nodes frames cycles : List ℕ) → frames ≡ firsts 8 nodes 0 → cycles ≡ firsts 8 (scheduleCycles hops nodes) 0
-    → _≡_ {A = Held} (record { frames = frames; cycles = cycles; delay = delay }) (heldPlaces (heldOver hops (delay .0) nodes))
+pub places-over : (hops : List Hop) (delay : Delay) (xs : List Spot) (frames cycles colours : List ℕ) → frames ≡ firsts 8 (framesOf xs) 0
+    → cycles ≡ firsts 8 (scheduleCycles hops (framesOf xs)) 0 → colours ≡ firsts 8 (coloursOf xs) 0
+    → _≡_ {A = Held} (record { frames = frames; cycles = cycles; delay = delay; colours = colours }) (heldPlaces (heldOver hops (delay .0) xs))
 unfolding heldOver
-places-over hops delay nodes frames cycles e w = ap₂ (λ (fs cs : List ℕ). record { frames = fs; cycles = cs; delay = delay }) e w
+places-over hops delay xs frames cycles colours e w c =
+    ap₂ (λ (fs cs : List ℕ). record { frames = fs; cycles = cs; delay = delay; colours = colours }) e w
+    ∙ ap (λ (ds : List ℕ). record { frames = firsts 8 (framesOf xs) 0; cycles = firsts 8 (scheduleCycles hops (framesOf xs)) 0; delay = delay; colours = ds }) c
 
 -- ---- the test whether two hold the same
 pub same-is : (a b : Holding) → sameHeld a b ≡ true → a ≡ b
 unfolding sameHeld
 same-is a b e =
-    let later : Bool = sameList eqb (a .cycles) (b .cycles) && eqb (a .delay) (b .delay) in
+    let last : Bool = eqb (a .delay) (b .delay) && sameList eqb (a .colours) (b .colours) in
+    let later : Bool = sameList eqb (a .cycles) (b .cycles) && last in
     let both = tests.and-both (sameList eqb (a .frames) (b .frames)) later e in
-    let rest = tests.and-both (sameList eqb (a .cycles) (b .cycles)) (eqb (a .delay) (b .delay)) (both .1) in
-    made (numbers (a .frames) (b .frames) (both .0)) (numbers (a .cycles) (b .cycles) (rest .0)) (eqb-true (a .delay) (b .delay) (rest .1))
+    let rest = tests.and-both (sameList eqb (a .cycles) (b .cycles)) last (both .1) in
+    let ends = tests.and-both (eqb (a .delay) (b .delay)) (sameList eqb (a .colours) (b .colours)) (rest .1) in
+    made (numbers (a .frames) (b .frames) (both .0)) (numbers (a .cycles) (b .cycles) (rest .0)) (eqb-true (a .delay) (b .delay) (ends .0)) (numbers (a .colours) (b .colours) (ends .1))
   where
     numbers : (xs ys : List ℕ) → sameList eqb xs ys ≡ true → xs ≡ ys
     numbers xs ys t = same-list eqb eqb-true xs ys t
 
-    made : a .frames ≡ b .frames → a .cycles ≡ b .cycles → a .delay ≡ b .delay → a ≡ b
-    made p q r =
-        ap₂ (λ (fs cs : List ℕ). record { frames = fs; cycles = cs; delay = a .delay }) p q
-        ∙ ap (λ (d : ℕ). record { frames = b .frames; cycles = b .cycles; delay = d }) r
+    made : a .frames ≡ b .frames → a .cycles ≡ b .cycles → a .delay ≡ b .delay → a .colours ≡ b .colours → a ≡ b
+    made p q r t =
+        together (a .delay) p q t
+        ∙ ap (λ (d : ℕ). record { frames = b .frames; cycles = b .cycles; delay = d; colours = b .colours }) r
 
 itself : (xs : List ℕ) → sameList eqb xs xs ≡ true
 itself xs = list-same eqb (λ x. eq-eqb x x refl) xs
@@ -118,10 +128,28 @@ pub is-same : (a b : Holding) → a ≡ b → sameHeld a b ≡ true
 is-same a b e = rw e (all b)
   where
     all : (h : Holding) → sameHeld h h ≡ true
-    all h = unfold sameHeld in rw (itself (h .frames), itself (h .cycles)) (eq-eqb (h .delay) (h .delay) refl)
+    all h = unfold sameHeld in rw (itself (h .frames), itself (h .cycles), itself (h .colours), eq-eqb (h .delay) (h .delay) refl)
 
--- what is held is what its own nodes hold exactly when the cycles and the delay are the same
-pub same-held : (hops : List Hop) (held : Holding) (delay : ℕ) → sameHeld held (heldOver hops delay (nodesIn hops held))
+-- ---- frames and colours that are as many are those of their list
+pub frames-joined : (fs cs : List ℕ) → length fs ≡ length cs → framesOf (inColours fs cs) ≡ fs
+frames-joined [] cs e = refl
+frames-joined (i ∷ fs) [] e = let z : _≡_ {A = ℕ} 0 1 = omega (arith, e) in absurd (omega arith)
+frames-joined (i ∷ fs) (c ∷ cs) e = ap (λ (l : List ℕ). i ∷ l) (frames-joined fs cs (omega (arith, e)))
+
+pub colours-joined-back : (fs cs : List ℕ) → length fs ≡ length cs → coloursOf (inColours fs cs) ≡ cs
+colours-joined-back [] [] e = refl
+colours-joined-back [] (c ∷ cs) e = let z : _≡_ {A = ℕ} 0 1 = omega (arith, e) in absurd (omega arith)
+colours-joined-back (i ∷ fs) [] e = let z : _≡_ {A = ℕ} 0 1 = omega (arith, e) in absurd (omega arith)
+colours-joined-back (i ∷ fs) (c ∷ cs) e = ap (λ (l : List ℕ). c ∷ l) (colours-joined-back fs cs (omega (arith, e)))
+
+-- what is held is what its own frames in their colours hold exactly when the cycles and the delay are the same
+pub same-held : (hops : List Hop) (held : Holding) (delay : ℕ) → length (held .frames) ≡ length (held .colours) → sameHeld held (heldOver hops delay (spotsIn held))
     ≡ (sameList eqb (held .cycles) (scheduleCycles hops (held .frames)) && eqb (held .delay) delay)
-unfolding heldOver nodesIn sameHeld
-same-held hops held delay = rw (itself (held .frames))
+unfolding heldOver spotsIn sameHeld
+same-held hops held delay e =
+    rw (frames-joined (held .frames) (held .colours) e, colours-joined-back (held .frames) (held .colours) e, itself (held .frames), itself (held .colours))
+    (ap (λ (b : Bool). sameList eqb (held .cycles) (scheduleCycles hops (held .frames)) && b) (and-true (eqb (held .delay) delay)))
+  where
+    and-true : (b : Bool) → (b && true) ≡ b
+    and-true true = refl
+    and-true false = refl

@@ -1,8 +1,9 @@
 -- A frame has one holder at most. Assumes nothing.
 use mathlib.Core.Path.{_≡_, sym, ap, ap₂, _∙_}
 use mathlib.Core.Logic.{_⊎_, inl, inr, ⊎-elim}
-use mathlib.Core.Bool.{Bool, true, false}
+use mathlib.Core.Bool.{Bool, true, false, _&&_}
 use mathlib.Core.List.{List, [], _∷_, List·Memᴰ, List·Memᴰ·cases-cons, List·Memᴰ·not-nil}
+use Prim.Native.Nat.{ℕ}
 use lib.Dec.{eqb}
 use borrow.Author.Tests.{eqb-true}
 use Rattle.lists.proofs.Count as tests
@@ -13,8 +14,10 @@ use Rattle.ledger.proofs.Lists.{clash, either, left-or, right-or, none-
 
 same-slot : (x y : Slot) → sameSlot x y ≡ true → y ≡ x
 same-slot x y h =
-    let both = tests.and-both (eqb (y .link) (x .link)) (eqb (y .frame) (x .frame)) h in
-    ap₂ slot (eqb-true (y .link) (x .link) (both .0)) (eqb-true (y .frame) (x .frame) (both .1))
+    let both = tests.and-both (eqb (y .link) (x .link)) (eqb (y .frame) (x .frame) && eqb (y .colour) (x .colour)) h in
+    let rest = tests.and-both (eqb (y .frame) (x .frame)) (eqb (y .colour) (x .colour)) (both .1) in
+    ap₂ (λ (l i : ℕ). slot l i (y .colour)) (eqb-true (y .link) (x .link) (both .0)) (eqb-true (y .frame) (x .frame) (rest .0))
+    ∙ ap (slot (x .link) (x .frame)) (eqb-true (y .colour) (x .colour) (rest .1))
 
 -- where a frame stands that passes a test, some frame passes it
 slot-some : (p : Slot → Bool) (x : Slot) (xs : List Slot) → anyOf (sameSlot x) xs ≡ true → p x ≡ true → anyOf p xs ≡ true

@@ -1,5 +1,5 @@
 -- What a state that isn't broken shows, rule by rule, of its network, its sessions and their routes; and back. Assumes nothing.
-use mathlib.Core.Path.{_≡_, refl, ap, subst, _∙_}
+use mathlib.Core.Path.{_≡_, refl, sym, ap, _∙_}
 use mathlib.Core.Bool.{Bool, true, false, not, _&&_, false≢true}
 use mathlib.Core.List.{List, []}
 use Prim.Native.Nat.{ℕ, _≤_}
@@ -12,17 +12,18 @@ use Rattle.refusals.specs.Refusals.{Ruling, given, refused, pass}
 use Rattle.network.specs.Network.{Topology}
 use Rattle.network.specs.Checks.{networkCheck}
 use Rattle.forwarding.specs.declared.Hop.{Hop}
-use Rattle.forwarding.specs.Schedule.{IsSchedule, isSchedule, scheduleDelay}
+use Rattle.forwarding.specs.Forwarding.{Spot}
+use Rattle.forwarding.specs.Schedule.{framesOf, coloursOf, IsSchedule, isSchedule, scheduleDelay}
 use Rattle.forwarding.specs.Cycles.{scheduleCycles}
 use Rattle.forwarding.proofs.Schedules.{told-schedule, schedule-told}
 use Rattle.forwarding.proofs.Cycles.{cycle-per-hop}
 use Rattle.ledger.specs.Lists.{allOf}
-use Rattle.ledger.specs.Held.{Holding, heldOver, nodesIn, sameHeld}
+use Rattle.ledger.specs.Held.{Holding, heldOver, spotsIn, sameHeld}
 use Rattle.ledger.specs.Sessions.{Session, View, hopOf, hopsOf}
 use Rattle.ledger.specs.Routes.{routeCheck}
 use Rattle.ledger.specs.Sound.{passes, goodNetwork, fewSessions, numberTwice, goodHeld, goodSession, frameTwice, sound, derived, intact}
 use Rattle.ledger.specs.Demand.{fresh, FreshIntact}
-use Rattle.ledger.proofs.Held.{route-length, cycles-over, frames-in, same-is, is-same}
+use Rattle.ledger.proofs.Held.{frames-length, colours-length, frames-over, colours-over, cycles-over, same-is, is-same}
 
 -- the test whether a check passes
 pub passes-given : (r : Ruling) → passes r ≡ true → r ≡ given pass
@@ -35,15 +36,15 @@ given-passes r e = rw e
 -- ---- a session that keeps the rules
 pub record GoodSession (net : Topology) (s : Session) : Type 0 where
   pub route : routeCheck net (s .route) ≡ given pass
-  pub schedule : IsSchedule (hopsOf net [] (s .route)) (nodesIn (hopsOf net [] (s .route)) (s .held))
+  pub schedule : IsSchedule (hopsOf net [] (s .route)) (spotsIn (s .held))
   pub held : s .held ≡ heldOver (hopsOf net [] (s .route))
-      (scheduleDelay (net .ticks) (hopsOf net [] (s .route)) (nodesIn (hopsOf net [] (s .route)) (s .held))) (nodesIn (hopsOf net [] (s .route)) (s .held))
+      (scheduleDelay (net .ticks) (hopsOf net [] (s .route)) (spotsIn (s .held))) (spotsIn (s .held))
 
 pub session-good : (net : Topology) (s : Session) → goodSession net s ≡ true → GoodSession net s
 unfolding goodSession goodHeld
 session-good net s e =
     let hops : List Hop = hopsOf net [] (s .route) in
-    let w : List ℕ = nodesIn hops (s .held) in
+    let w : List Spot = spotsIn (s .held) in
     let k : Bool = isSchedule hops w in
     let m : Bool = sameHeld (s .held) (heldOver hops (scheduleDelay (net .ticks) hops w) w) in
     let a = tests.and-both (passes (routeCheck net (s .route))) (k && m) e in
@@ -58,7 +59,7 @@ pub good-session : (net : Topology) (s : Session) → GoodSession net s → good
 unfolding goodSession goodHeld
 good-session net s g =
     let hops : List Hop = hopsOf net [] (s .route) in
-    let w : List ℕ = nodesIn hops (s .held) in
+    let w : List Spot = spotsIn (s .held) in
     let k : Bool = isSchedule hops w in
     let m : Bool = sameHeld (s .held) (heldOver hops (scheduleDelay (net .ticks) hops w) w) in
     tests.both-and (passes (routeCheck net (s .route))) (k && m) (given-passes (routeCheck net (s .route)) (g .route))
@@ -66,21 +67,31 @@ good-session net s g =
 
 -- it has a frame and a cycle for each link, and the cycles are those of the frames
 module _ (net : Topology) (s : Session) (g : GoodSession net s) where
-  pub on-frames : IsSchedule (hopsOf net [] (s .route)) (s .held .frames)
-  on-frames = subst (IsSchedule (hopsOf net [] (s .route))) (frames-in (hopsOf net [] (s .route)) (s .held)) (g .schedule)
+  abbrev route-hops : List Hop
+  route-hops = hopsOf net [] (s .route)
+
+  -- its frames are those of its schedule
+  pub good-frames : s .held .frames ≡ framesOf (spotsIn (s .held))
+  good-frames = ap (λ (h : Holding). h .frames) (g .held) ∙ frames-over route-hops (scheduleDelay (net .ticks) route-hops (spotsIn (s .held))) (spotsIn (s .held))
+
+  pub good-colours : s .held .colours ≡ coloursOf (spotsIn (s .held))
+  good-colours = ap (λ (h : Holding). h .colours) (g .held) ∙ colours-over route-hops (scheduleDelay (net .ticks) route-hops (spotsIn (s .held))) (spotsIn (s .held))
 
   pub frame-each : length (s .held .frames) ≡ length (s .route)
-  frame-each = route-length net [] (s .route) (s .held .frames) on-frames
+  frame-each = ap (λ (l : List ℕ). length l) good-frames ∙ frames-length route-hops (spotsIn (s .held)) (g .schedule) ∙ length-map (s .route) (hopOf net [])
 
-  pub good-cycles : s .held .cycles ≡ scheduleCycles (hopsOf net [] (s .route)) (s .held .frames)
+  pub colour-each : length (s .held .colours) ≡ length (s .route)
+  colour-each = ap (λ (l : List ℕ). length l) good-colours ∙ colours-length route-hops (spotsIn (s .held)) (g .schedule) ∙ length-map (s .route) (hopOf net [])
+
+  pub good-cycles : s .held .cycles ≡ scheduleCycles route-hops (s .held .frames)
   good-cycles =
       ap (λ (h : Holding). h .cycles) (g .held)
-      ∙ cycles-over (hopsOf net [] (s .route)) (scheduleDelay (net .ticks) (hopsOf net [] (s .route)) (nodesIn (hopsOf net [] (s .route)) (s .held))) (nodesIn (hopsOf net [] (s .route)) (s .held))
-      ∙ ap (scheduleCycles (hopsOf net [] (s .route))) (frames-in (hopsOf net [] (s .route)) (s .held))
+      ∙ cycles-over route-hops (scheduleDelay (net .ticks) route-hops (spotsIn (s .held))) (spotsIn (s .held))
+      ∙ ap (scheduleCycles route-hops) (sym good-frames)
 
   pub cycle-each : length (s .held .cycles) ≡ length (s .route)
   cycle-each =
-      ap (λ (cs : List ℕ). length cs) good-cycles ∙ cycle-per-hop (hopsOf net [] (s .route)) (s .held .frames) on-frames ∙ length-map (s .route) (hopOf net [])
+      ap (λ (cs : List ℕ). length cs) (good-cycles ∙ ap (scheduleCycles route-hops) good-frames) ∙ cycle-per-hop route-hops (spotsIn (s .held)) (g .schedule) ∙ length-map (s .route) (hopOf net [])
 
 -- ---- a state that isn't broken
 pub record Intact (net : Topology) (ss : List Session) : Type 0 where

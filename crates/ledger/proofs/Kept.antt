@@ -10,6 +10,7 @@ use borrow.Author.Tests.{leb-false}
 use Rattle.lists.proofs.Count as tests
 use Rattle.refusals.specs.Refusals.{Ruling, given, refused, pass}
 use Rattle.network.specs.Network.{Topology}
+use Rattle.forwarding.specs.Forwarding.{Spot}
 use Rattle.forwarding.specs.LeastDelay.{Given}
 use Rattle.ledger.specs.Lists.{allOf, anyOf, anyTwo, keep}
 use Rattle.ledger.specs.Held.{heldOver}
@@ -21,7 +22,7 @@ use Rattle.ledger.specs.Demand.{LeastOrBlocked, least, noSchedule}
 use Rattle.ledger.proofs.Lists.{neither-or, eqb-flip, any-cong, all-snoc, anyTwo-snoc, any-swap, all-keep, anyTwo-keep, length-keep}
 use Rattle.ledger.proofs.Held.{held-free}
 use Rattle.ledger.proofs.Intact.{Intact, GoodSession, good-session, intact-is, is-intact}
-use Rattle.ledger.proofs.Schedules.{schedule-unclosed, delay-same, over-nodes, over-unheld}
+use Rattle.ledger.proofs.Schedules.{schedule-unclosed, delay-same, over-spots, over-unheld}
 use Rattle.ledger.proofs.Answered.{answerOn, reply-intact, Admitted, admitted, call-due}
 
 -- ---- a new session beside the others
@@ -38,13 +39,13 @@ module _ (net : Topology) (ss : List Session) (h : Intact net ss) where
   few-more u e = omega (arith, leb-false 96 (length ss) e, length-append ss (u ∷ []))
 
   -- ---- an accepted set-up
-  given-good : (n : ℕ) (route : List ℕ) (d count : ℕ) (w : List ℕ) → routeCheck net route ≡ given pass
+  given-good : (n : ℕ) (route : List ℕ) (d count : ℕ) (w : List Spot) → routeCheck net route ≡ given pass
       → Given (net .ticks) (hopsOf net ss route) d count w → GoodSession net (record { number = n; route = route; held = heldOver (hopsOf net ss route) d w })
   given-good n route d count w e g =
       record {
         route = e;
-        schedule = rw (over-nodes net ss route d w (g .schedule)) (schedule-unclosed net ss route w (g .schedule));
-        held = rw (over-nodes net ss route d w (g .schedule), held-free net ss route d w, sym (delay-same net ss (net .ticks) route w), g .delay-is);
+        schedule = rw (over-spots net ss route d w) (schedule-unclosed net ss route w (g .schedule));
+        held = rw (over-spots net ss route d w, held-free net ss route d w, sym (delay-same net ss (net .ticks) route w), g .delay-is);
       }
 
   set-up-intact : (n : ℕ) (route : List ℕ) → Admitted net ss n route → {r : Reply} → LeastOrBlocked (net .ticks) (hopsOf net ss route) r

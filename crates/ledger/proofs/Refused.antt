@@ -11,6 +11,7 @@ use Rattle.trellis.specs.Answer as trellis
 use Rattle.refusals.specs.Refusals.{Ruling, given, refused, pass, refuseIf, refusedOr}
 use Rattle.network.specs.Network.{Topology}
 use Rattle.forwarding.specs.declared.Hop.{Hop}
+use Rattle.forwarding.specs.Forwarding.{Spot}
 use Rattle.forwarding.specs.Route.{routeAnswer}
 use Rattle.ledger.specs.Sessions.{Session, isLive, hopsOf}
 use Rattle.ledger.specs.Routes.{badLength, unknownLink, linkTwice, ratesApart, ratesOf, routeCheck}
@@ -58,7 +59,7 @@ not-eighteen net ss call k e q = clash (special (refused k)) (ap (λ (j : ℕ). 
 pub answer-refusal : (T : ℕ) (hops : List Hop) (k count : ℕ) → answerOver T hops ≡ refusal k count → k ≡ 18
 answer-refusal T hops k count e = go (routeAnswer T hops) e
   where
-    go : (a : trellis.Answer) → replyOf hops a ≡ refusal k count → k ≡ 18
+    go : (a : trellis.Answer Spot) → replyOf hops a ≡ refusal k count → k ≡ 18
     go (found d n w) g = cc
     go (blocked n) g = cc
 

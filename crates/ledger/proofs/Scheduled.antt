@@ -8,6 +8,7 @@ use lib.ListN.{length, length-map}
 use Rattle.refusals.specs.Refusals.{Ruling, given, refused, pass}
 use Rattle.network.specs.Network.{Topology}
 use Rattle.forwarding.specs.declared.Hop.{Hop}
+use Rattle.forwarding.specs.Forwarding.{Spot}
 use Rattle.forwarding.specs.Schedule.{IsSchedule}
 use Rattle.ledger.specs.Held.{Holding, heldOver, holdingOf, heldPlaces}
 use Rattle.ledger.specs.Sessions.{Session, View, hopOf, hopsOf}
@@ -23,19 +24,19 @@ pub record Scheduled (v : View) (route : List ℕ) (held : Holding) : Type 0 whe
   pub unbroken : intact v ≡ true
   pub passed : routeCheck (v .network) route ≡ given pass
   pub delay : ℕ
-  pub nodes : List ℕ
-  pub schedule : IsSchedule (hopsOf (v .network) (v .live) route) nodes
-  pub gives : held ≡ heldOver (hopsOf (v .network) (v .live) route) delay nodes
+  pub spots : List Spot
+  pub schedule : IsSchedule (hopsOf (v .network) (v .live) route) spots
+  pub gives : held ≡ heldOver (hopsOf (v .network) (v .live) route) delay spots
 
 -- what a schedule gives
 record Gives (hops : List Hop) (held : Holding) : Type 0 where
   delay : ℕ
-  nodes : List ℕ
-  schedule : IsSchedule hops nodes
-  gives : held ≡ heldOver hops delay nodes
+  spots : List Spot
+  schedule : IsSchedule hops spots
+  gives : held ≡ heldOver hops delay spots
 
 least-gives : (T : ℕ) (hops : List Hop) {r : Reply} → LeastOrBlocked T hops r → (held : Holding) (count : ℕ) → r ≡ schedule held count → Gives hops held
-least-gives T hops (least d n w e g) held count q = record { delay = d; nodes = w; schedule = g .schedule; gives = cc }
+least-gives T hops (least d n w e g) held count q = record { delay = d; spots = w; schedule = g .schedule; gives = cc }
 least-gives T hops (noSchedule n e c nowhere) held count q = let z : _≡_ {A = ℕ} 0 1 = cc in absurd (omega arith)
 
 module _ (net : Topology) (ss : List Session) (held : Holding) (count : ℕ) where
@@ -64,7 +65,7 @@ pub scheduled : (v : View) (call : Call) (held : Holding) (count : ℕ) → repl
 scheduled v call held count e =
     let ok : intact v ≡ true = unbroken v call (λ q. clash (sym q ∙ e)) in
     let a = answer-scheduled (v .network) (v .live) held count call (sym (reply-intact v call ok) ∙ e) in
-    record { unbroken = ok; passed = a .0; delay = a .1 .delay; nodes = a .1 .nodes; schedule = a .1 .schedule; gives = a .1 .gives }
+    record { unbroken = ok; passed = a .0; delay = a .1 .delay; spots = a .1 .spots; schedule = a .1 .schedule; gives = a .1 .gives }
   where
     clash : refusal 0 0 ≡ schedule held count → ⊥
     clash q = let z : _≡_ {A = ℕ} 0 1 = cc in absurd (omega arith)
@@ -75,6 +76,6 @@ scheduled-back v route held s few =
     let hops : List Hop = hopsOf (v .network) (v .live) route in
     let n : length hops ≡ length route = length-map route (hopOf (v .network) (v .live)) in
     ap (λ (h : Holding). holdingOf (length route) (heldPlaces h)) (s .gives)
-    ∙ ap (λ (k : ℕ). holdingOf k (heldPlaces (heldOver hops (s .delay) (s .nodes)))) (sym n)
-    ∙ held-stored hops (s .delay) (s .nodes) (s .schedule) (omega (arith, n, few))
+    ∙ ap (λ (k : ℕ). holdingOf k (heldPlaces (heldOver hops (s .delay) (s .spots)))) (sym n)
+    ∙ held-stored hops (s .delay) (s .spots) (s .schedule) (omega (arith, n, few))
     ∙ sym (s .gives)

@@ -3,14 +3,14 @@ use mathlib.Core.Path.{_≡_, refl, _∙_, ap}
 use mathlib.Core.Bool.{Bool, true, false, not}
 use mathlib.Core.List.{List, [], _∷_, List·Memᴰ·head, List·Memᴰ·tail}
 use mathlib.Core.Logic.{_↔_}
-use Prim.Native.Nat.{ℕ, _<_}
+use Prim.Native.Nat.{ℕ}
 use native.Mathlib.Omega.{arith}
 use borrow.Author.Tests.{lt-ltb}
 use Rattle.trellis.specs.Answer.{found, blocked}
 use Rattle.trellis.specs.Answer as trellis
 use Rattle.refusals.specs.Refusals.{Ruling, given, refused, pass, refuseIf, refusedOr}
 use Rattle.forwarding.specs.declared.Hop.{Hop}
-use Rattle.forwarding.specs.Forwarding.{isFree}
+use Rattle.forwarding.specs.Forwarding.{Spot, IsOn, isFree}
 use Rattle.forwarding.specs.Route.{routeAnswer}
 use Rattle.forwarding.specs.Ways.{routeWays, EveryFrameFree}
 use Rattle.forwarding.proofs.Ways.{ways-blocked}
@@ -19,7 +19,7 @@ use Rattle.ledger.specs.Routes.{routeCheck}
 use Rattle.ledger.specs.Sound.{intact}
 use Rattle.ledger.specs.Calls.{Quote, refusal, replyOf, answerOver, unless, callCheck, checksOf, granted, reply}
 use Rattle.ledger.specs.Ways.{waysOf, WaysZero, WaysRefused, NoneTaken}
-use Rattle.ledger.proofs.Free.{free-is}
+use Rattle.ledger.proofs.Free.{free-at}
 use Rattle.ledger.proofs.Refused.{not-eighteen, answer-refusal}
 
 -- no check has the number 18
@@ -34,7 +34,7 @@ checked v route k e q = go (intact v) e
 answer-blocked : (T : ℕ) (hops : List Hop) (n : ℕ) → answerOver T hops ≡ refusal 18 n → routeAnswer T hops ≡ blocked n
 answer-blocked T hops n e = go (routeAnswer T hops) e
   where
-    go : (a : trellis.Answer) → replyOf hops a ≡ refusal 18 n → a ≡ blocked n
+    go : (a : trellis.Answer Spot) → replyOf hops a ≡ refusal 18 n → a ≡ blocked n
     go (found d m w) g = let z : _≡_ {A = ℕ} 0 1 = cc in absurd (omega arith)
     go (blocked m) g = let z : m ≡ n = cc in ap blocked z
 
@@ -99,5 +99,7 @@ pub none-taken-free : (v : View) (route : List ℕ) → NoneTaken v route → Ev
 none-taken-free v [] h = tt
 none-taken-free v (l ∷ ls) h = (free, none-taken-free v ls (λ m i w. h m i (List·Memᴰ·tail w)))
   where
-    free : (i : ℕ) → i < linkAt (v .network) l .frames → isFree (hopOf (v .network) (v .live) l) i ≡ true
-    free i below = let t = h l i (List·Memᴰ·head refl) below in free-is (v .network) (v .live) l i ∙ rw (lt-ltb i (linkAt (v .network) l .frames) below, t .0, t .1)
+    free : (x : Spot) → IsOn (hopOf (v .network) (v .live) l) x → isFree (hopOf (v .network) (v .live) l) x ≡ true
+    free x on =
+        let t = h l (x .frame) (List·Memᴰ·head refl) (on .0) in
+        free-at (v .network) (v .live) l x (on .1) ∙ rw (lt-ltb (x .frame) (linkAt (v .network) l .frames) (on .0), t .0, t .1)

@@ -11,6 +11,7 @@ use Rattle.refusals.specs.Refusals.{Ruling, Outcome, given, refused, refuseIf, 
 use Rattle.words.specs.Word.{freeFrames}
 use Rattle.network.specs.Network.{Topology}
 use Rattle.forwarding.specs.declared.Hop.{Hop}
+use Rattle.forwarding.specs.Forwarding.{Spot}
 use Rattle.forwarding.specs.Route.{routeAnswer}
 use Rattle.ledger.specs.Lists.{keep}
 use Rattle.ledger.specs.Held.{Holding, heldOver}
@@ -38,8 +39,8 @@ pub data Reply : Type 0 where
   refusal : (number count : ℕ) → Reply
 
 -- the answer of "Least-delay schedule" over hops; 18: "No schedule exists"
-abbrev pub replyOf : List Hop → trellis.Answer → Reply
-replyOf hops (found delay count nodes) = schedule (heldOver hops delay nodes) count
+abbrev pub replyOf : List Hop → trellis.Answer Spot → Reply
+replyOf hops (found delay count xs) = schedule (heldOver hops delay xs) count
 replyOf hops (blocked count) = refusal 18 count
 
 abbrev pub answerOver : ℕ → List Hop → Reply
@@ -136,4 +137,4 @@ unfoldable pub freeCount : View → ℕ → Outcome ℕ
 freeCount v l =
     refusedOr (brokenCheck v)
     (refusedOr (refuseIf (unknown (length (v .network .links)) l) 13)
-    (given (freeFrames (linkAt (v .network) l .frames) (freeOf (v .network) (v .live) l))))
+    (given (freeFrames (linkAt (v .network) l .frames) (freeOf (v .network) (v .live) l 0))))

@@ -11,6 +11,7 @@ use Rattle.refusals.specs.Refusals.{given, refused, pass}
 use Rattle.network.specs.Network.{Topology}
 use Rattle.network.specs.Checks.{networkCheck}
 use Rattle.forwarding.specs.declared.Hop.{Hop}
+use Rattle.forwarding.specs.Forwarding.{Spot}
 use Rattle.forwarding.specs.Schedule.{IsSchedule, CountOf}
 use Rattle.forwarding.specs.Cycles.{scheduleCycles}
 use Rattle.forwarding.specs.Route.{routeAnswer}
@@ -54,8 +55,8 @@ pub record LiveNumbers (v : View) (ns : List ℕ) : Type 0 where
 -- the answer over hops: the rule's answer, and in so many words a schedule of least delay, with its delay and count, or "refused as blocked
 -- exactly when there was none", with the count
 pub data LeastOrBlocked (T : ℕ) (hops : List Hop) : Reply → Type 0 where
-  least : (d count : ℕ) (w : List ℕ) → routeAnswer T hops ≡ found d count w → Given T hops d count w → LeastOrBlocked T hops (schedule (heldOver hops d w) count)
-  noSchedule : (count : ℕ) → routeAnswer T hops ≡ blocked count → CountOf hops count → ((fs : List ℕ) → IsSchedule hops fs → ⊥) → LeastOrBlocked T hops (refusal 18 count)
+  least : (d count : ℕ) (w : List Spot) → routeAnswer T hops ≡ found d count w → Given T hops d count w → LeastOrBlocked T hops (schedule (heldOver hops d w) count)
+  noSchedule : (count : ℕ) → routeAnswer T hops ≡ blocked count → CountOf hops count → ((xs : List Spot) → IsSchedule hops xs → ⊥) → LeastOrBlocked T hops (refusal 18 count)
 
 -- what is due to a call that no check refused
 abbrev pub Due : Topology → List Session → Call → Reply → Type 0

@@ -10,7 +10,7 @@ use Rattle.words.specs.Word.{bitOf, wordOf, freeFrames}
 use Rattle.network.specs.Network.{Topology, noLink}
 use Rattle.network.specs.declared.Link.{Link}
 use Rattle.forwarding.specs.declared.Hop.{Hop}
-use Rattle.forwarding.specs.Forwarding.{isFree}
+use Rattle.forwarding.specs.Forwarding.{Spot, isFree}
 use Rattle.ledger.specs.Lists.{anyOf}
 use Rattle.ledger.specs.Held.{Holding, heldOver}
 
@@ -25,26 +25,28 @@ pub record View : Type 0 where
   pub network : Topology
   pub live : List Session
 
--- a frame that can be held: "A frame is meant together with its link"
+-- a frame that can be held: "A frame is meant together with its link", and "Frames are held per colour" (W-211)
 pub record Slot : Type 0 where
   pub link : ℕ
   pub frame : ℕ
+  pub colour : ℕ
 
-abbrev pub slot : ℕ → ℕ → Slot
-slot l i = record { link = l; frame = i }
+abbrev pub slot : ℕ → ℕ → ℕ → Slot
+slot l i c = record { link = l; frame = i; colour = c }
 
 abbrev pub sameSlot : Slot → Slot → Bool
-sameSlot x y = eqb (y .link) (x .link) && eqb (y .frame) (x .frame)
+sameSlot x y = eqb (y .link) (x .link) && (eqb (y .frame) (x .frame) && eqb (y .colour) (x .colour))
 
--- a frame of each link of a route
-abbrev pub slotsAt : List ℕ → List ℕ → List Slot
-slotsAt [] fs = []
-slotsAt (l ∷ ls) [] = []
-slotsAt (l ∷ ls) (i ∷ is) = slot l i ∷ slotsAt ls is
+-- a frame of each link of a route, in its colour
+abbrev pub slotsAt : List ℕ → List ℕ → List ℕ → List Slot
+slotsAt [] fs cs = []
+slotsAt (l ∷ ls) [] cs = []
+slotsAt (l ∷ ls) (i ∷ is) [] = []
+slotsAt (l ∷ ls) (i ∷ is) (c ∷ cs) = slot l i c ∷ slotsAt ls is cs
 
 -- the frames that a session holds
 abbrev pub slotsOf : Session → List Slot
-slotsOf s = slotsAt (s .route) (s .held .frames)
+slotsOf s = slotsAt (s .route) (s .held .frames) (s .held .colours)
 
 abbrev pub holds : Slot → Session → Bool
 holds x s = anyOf (sameSlot x) (slotsOf s)
@@ -61,23 +63,27 @@ isLive n ss = anyOf (λ s. eqb (s .number) n) ss
 abbrev pub linkAt : Topology → ℕ → Link
 linkAt net l = getD (net .links) l noLink
 
--- the free frames of link l: "A frame is free when it is neither closed nor held by a live session. Written as a word, bit i stands for a free frame i"
-unfoldable pub freeOf : Topology → List Session → ℕ → ℕ
-freeOf net ss l = wordOf (linkAt net l .frames) (λ i. not (bitOf (linkAt net l .closed) i) && not (heldIn ss (slot l i)))
+-- the free frames of link l in colour c: "A frame is free when it is neither closed nor held by a live session. Written as a word, bit i stands for a free frame i"
+unfoldable pub freeOf : Topology → List Session → ℕ → ℕ → ℕ
+freeOf net ss l c = wordOf (linkAt net l .frames) (λ i. not (bitOf (linkAt net l .closed) i) && not (heldIn ss (slot l i c)))
 
--- link l as a hop: K, Z, Y (W-206) and its free frames; a field that is added later stands here
+-- link l as a hop: K, Z, Y (W-206), one colour that stays (W-211 will give more), and its free frames; a field that is added later stands here
 abbrev pub hopOf : Topology → List Session → ℕ → Hop
-hopOf net ss l = record { frames = linkAt net l .frames; range = linkAt net l .range; least = linkAt net l .least; free = freeOf net ss l }
+hopOf net ss l = record { frames = linkAt net l .frames; range = linkAt net l .range; least = linkAt net l .least; colours = 1; turn = 0; free = freeOf net ss l 0 ∷ 0 ∷ 0 ∷ 0 ∷ [] }
+
+-- a frame of a link of one colour
+abbrev pub plain : ℕ → Spot
+plain i = record { frame = i; colour = 0 }
 
 -- A FRAME OF A HOP IS FREE exactly when it is one of its link's and "neither closed nor held by a live session"
 abbrev pub FreeIs : Type 0
 FreeIs = (net : Topology) (ss : List Session) (l i : ℕ)
-    → isFree (hopOf net ss l) i ≡ (ltb i (linkAt net l .frames) && (not (bitOf (linkAt net l .closed) i) && not (heldIn ss (slot l i))))
+    → isFree (hopOf net ss l) (plain i) ≡ (ltb i (linkAt net l .frames) && (not (bitOf (linkAt net l .closed) i) && not (heldIn ss (slot l i 0))))
 
 -- THE COUNT OF A LINK'S FREE FRAMES IS THAT OF ITS FRAMES NEITHER CLOSED NOR HELD, counted one by one
 abbrev pub FreeCounted : Type 0
 FreeCounted = (net : Topology) (ss : List Session) (l : ℕ)
-    → freeFrames (linkAt net l .frames) (freeOf net ss l) ≡ countBelow (linkAt net l .frames) (λ i. not (bitOf (linkAt net l .closed) i) && not (heldIn ss (slot l i)))
+    → freeFrames (linkAt net l .frames) (freeOf net ss l 0) ≡ countBelow (linkAt net l .frames) (λ i. not (bitOf (linkAt net l .closed) i) && not (heldIn ss (slot l i 0)))
 
 -- the hops of a route
 abbrev pub hopsOf : Topology → List Session → List ℕ → List Hop
@@ -85,5 +91,5 @@ hopsOf net ss route = map (hopOf net ss) route
 
 -- WHAT A SCHEDULE HOLDS DOES NOT GO BY WHICH FRAMES ARE FREE
 abbrev pub HeldFree : Type 0
-HeldFree = (net : Topology) (ss : List Session) (route : List ℕ) (delay : ℕ) (nodes : List ℕ)
-    → heldOver (hopsOf net ss route) delay nodes ≡ heldOver (hopsOf net [] route) delay nodes
+HeldFree = (net : Topology) (ss : List Session) (route : List ℕ) (delay : ℕ) (xs : List Spot)
+    → heldOver (hopsOf net ss route) delay xs ≡ heldOver (hopsOf net [] route) delay xs

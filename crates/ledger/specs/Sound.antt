@@ -10,7 +10,7 @@ use Rattle.network.specs.Checks.{networkCheck}
 use Rattle.forwarding.specs.declared.Hop.{Hop}
 use Rattle.forwarding.specs.Schedule.{isSchedule, scheduleDelay}
 use Rattle.ledger.specs.Lists.{allOf, anyOf, anyTwo}
-use Rattle.ledger.specs.Held.{Holding, heldOver, nodesIn, sameHeld}
+use Rattle.ledger.specs.Held.{Holding, heldOver, spotsIn, sameHeld}
 use Rattle.ledger.specs.Sessions.{Session, View, holds, slotsOf, hopsOf}
 use Rattle.ledger.specs.Routes.{routeCheck}
 
@@ -38,7 +38,7 @@ numberTwice ss = anyTwo sameNumber ss
 -- what is stored is what that schedule holds
 unfoldable pub goodHeld : ℕ → List Hop → Holding → Bool
 goodHeld T hops held =
-    isSchedule hops (nodesIn hops held) && sameHeld held (heldOver hops (scheduleDelay T hops (nodesIn hops held)) (nodesIn hops held))
+    isSchedule hops (spotsIn held) && sameHeld held (heldOver hops (scheduleDelay T hops (spotsIn held)) (spotsIn held))
 
 -- "a route fails 12 to 15", and what is held
 unfoldable pub goodSession : Topology → Session → Bool

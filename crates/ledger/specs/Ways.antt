@@ -26,4 +26,4 @@ WaysRefused = (v : View) (route : List ℕ) (k : ℕ) → (waysOf v route ≡ re
 -- "no frame on it is closed or held": no frame of its links
 abbrev pub NoneTaken : View → List ℕ → Type 0
 NoneTaken v route = (l i : ℕ) → List·Memᴰ l route → i < linkAt (v .network) l .frames
-    → (bitOf (linkAt (v .network) l .closed) i ≡ false) × (heldIn (v .live) (slot l i) ≡ false)
+    → (bitOf (linkAt (v .network) l .closed) i ≡ false) × (heldIn (v .live) (slot l i 0) ≡ false)

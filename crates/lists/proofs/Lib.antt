@@ -2,3 +2,4 @@ pub mod Count
 pub mod Sums
 pub mod Order
 pub mod Once
+pub mod Digits

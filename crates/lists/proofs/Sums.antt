@@ -1,8 +1,8 @@
 -- Laws of sums: a common factor, a part of a sum, and sums that go round a cycle. Assumes nothing.
-use mathlib.Core.Path.{_≡_, sym, _∙_, ap}
+use mathlib.Core.Path.{_≡_, refl, sym, _∙_, ap}
 use mathlib.Core.Bool.{Bool, true, false}
 use Prim.Native.Nat.{ℕ, zero, suc, _+_, _-_, _*_, _%_, _<_, _≤_}
-use native.Mathlib.Nat.{add-mul, zero-mul, one-mul, add-mod-right, mod-eq-of-lt}
+use native.Mathlib.Nat.{mul-comm, mul-suc, suc-mul, add-mul, zero-mul, one-mul, add-mod-right, mod-eq-of-lt}
 use native.Mathlib.Omega.{arith}
 use lib.Dec.{ltb}
 use borrow.Author.Tests.{lt-ltb, le-ltb}
@@ -66,3 +66,23 @@ module _ (K a c : ℕ) (f : ℕ → ℕ) where
     where
       again : (d : ℕ) → d < K → (a + (K - a + d)) % K ≡ d
       again d m = let s : a + (K - a + d) ≡ d + K = omega arith in rw s (add-mod-right d K ∙ mod-eq-of-lt m)
+
+-- ---- sums of sums: by rows or by columns, and over the numbers of two digits
+pub sum-zero : (n : ℕ) → sumBelow n (λ k. 0) ≡ 0
+sum-zero zero = refl
+sum-zero (suc n) = omega (arith, sum-zero n)
+
+pub sum-add : (n : ℕ) (f g : ℕ → ℕ) → sumBelow n (λ k. f k + g k) ≡ sumBelow n f + sumBelow n g
+sum-add zero f g = refl
+sum-add (suc n) f g = omega (arith, sum-add n f g)
+
+pub sum-swap : (n m : ℕ) (f : ℕ → ℕ → ℕ) → sumBelow n (λ i. sumBelow m (λ k. f i k)) ≡ sumBelow m (λ k. sumBelow n (λ i. f i k))
+sum-swap zero m f = sym (sum-zero m)
+sum-swap (suc n) m f = rw (sum-add m (λ k. sumBelow n (λ i. f i k)) (λ k. f n k)) (ap (λ (x : ℕ). x + sumBelow m (λ k. f n k)) (sum-swap n m f))
+
+-- THE NUMBERS BELOW K × C are i × C + c
+pub sum-pairs : (K C : ℕ) (f : ℕ → ℕ) → sumBelow (K * C) f ≡ sumBelow K (λ i. sumBelow C (λ c. f (i * C + c)))
+sum-pairs zero C f = ap (λ (n : ℕ). sumBelow n f) (zero-mul C)
+sum-pairs (suc K) C f =
+    let e : suc K * C ≡ K * C + C = suc-mul K C in
+    ap (λ (n : ℕ). sumBelow n f) e ∙ sum-split (K * C) C f ∙ ap (λ (x : ℕ). x + sumBelow C (λ c. f (K * C + c))) (sum-pairs K C f)

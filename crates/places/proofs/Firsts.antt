@@ -110,3 +110,21 @@ module _ {A : Type 0} where
   pub one-stored : (l : List A) (n : ℕ) (x d : A) (f : ℕ → A) → n < length l → ((k : ℕ) → k < n → getD l k d ≡ f k) → x ≡ f n → (k : ℕ) → k < n + 1 → getD (set l n x) k d ≡ f k
   one-stored l n x d f h each e =
       below-more (λ k. getD (set l n x) k d ≡ f k) n (λ k m. getD-set-other l n k x d (λ z. omega arith) ∙ each k m) (getD-set-same l n x d h ∙ e)
+
+  -- ---- places filled with one blank, and read with another past the end
+  pub firsts-get : (n i : ℕ) (l : List A) (d e : A) → i < n → i < length l → getD (firsts n l d) i e ≡ getD l i e
+  unfolding firsts
+  firsts-get zero i l d e h g = absurd (not-suc-le-zero h)
+  firsts-get (suc n) i [] d e h g = absurd (not-suc-le-zero g)
+  firsts-get (suc n) zero (x ∷ l) d e h g = refl
+  firsts-get (suc n) (suc i) (x ∷ l) d e h g = firsts-get n i l d e (le-of-suc-le-suc h) (le-of-suc-le-suc g)
+
+  back : (n : ℕ) (xs : List A) (d e : A) → length xs ≤ n → firsts (length xs) (firsts n xs d) e ≡ xs
+  unfolding firsts
+  back n [] d e h = refl
+  back zero (x ∷ xs) d e h = absurd (not-suc-le-zero h)
+  back (suc n) (x ∷ xs) d e h = ap (λ (t : List A). x ∷ t) (back n xs d e (le-of-suc-le-suc h))
+
+  -- a list that fits in n places, back from them
+  pub blanks-back : (n m : ℕ) (xs : List A) (d e : A) → length xs ≡ m → m ≤ n → firsts m (firsts n xs d) e ≡ xs
+  blanks-back n m xs d e q h = ap (λ (k : ℕ). firsts k (firsts n xs d) e) (sym q) ∙ back n xs d e (omega (arith, q))

@@ -6,19 +6,19 @@ use Prim.Native.Nat.{ℕ, suc, _+_, _-_, _*_, _<_, _≤_, min}
 use native.Mathlib.Nat.{mul-le-mul}
 use native.Mathlib.Omega.{arith}
 use lib.ListN.{length, getD, take, length-append, length-map, length-take}
-use Rattle.places.proofs.Firsts.{getD-firsts}
+use Rattle.places.proofs.Firsts.{firsts-get}
 use Rattle.refusals.specs.Refusals.{Ruling, Outcome, given, refused, pass}
 use Rattle.network.specs.Network.{Topology}
 use Rattle.network.specs.Checks.{networkCheck}
 use Rattle.network_file.specs.Reading.{readNetwork}
 use Rattle.network_file.proofs.RoundTrip.{read-passes}
 use Rattle.forwarding.specs.declared.Hop.{Hop}
-use Rattle.forwarding.specs.Forwarding.{choices}
-use Rattle.forwarding.specs.Hops.{noHop, AllReady}
-use Rattle.forwarding.specs.Schedule.{IsSchedule, boundFrom, CountOf}
+use Rattle.forwarding.specs.Forwarding.{Spot, choices}
+use Rattle.forwarding.specs.Hops.{noHop, blankHop, AllReady}
+use Rattle.forwarding.specs.Schedule.{framesOf, IsSchedule, OneColour, plainFrom, CountOf}
 use Rattle.forwarding.proofs.Holds.{choices-in}
 use Rattle.forwarding.proofs.Schedules.{schedule-frame}
-use Rattle.forwarding.proofs.Bounds.{count-bound, delay-bound}
+use Rattle.forwarding.proofs.Bounds.{count-bound, delay-bound, bound-one-colour}
 use Rattle.forwarding.proofs.Cycles.{cycle-per-hop, cycles-bounded}
 use Rattle.ledger.specs.Held.{Holding, heldOver}
 use Rattle.ledger.specs.Sessions.{Session, View, hopsOf, hopOf}
@@ -26,12 +26,12 @@ use Rattle.ledger.specs.Routes.{routeCheck}
 use Rattle.ledger.specs.Sound.{intact}
 use Rattle.ledger.specs.Calls.{Call, linksOf, SetUp, Quote, Release, Reply, schedule, freed, refusal, unless, callCheck, granted, reply, next}
 use Rattle.ledger.specs.Demand.{fresh, LeastOrBlocked, least, noSchedule}
-use Rattle.ledger.proofs.Held.{schedule-length, frames-over, cycles-over, delay-over}
+use Rattle.ledger.proofs.Held.{frames-length, frames-over, cycles-over, delay-over}
 use Rattle.ledger.proofs.Intact.{intact-is, fresh-intact}
 use Rattle.ledger.proofs.Answered.{reply-intact, admitted, call-due}
 use Rattle.ledger.proofs.Refused.{not-eighteen}
 use Rattle.ledger.proofs.Kept.{next-intact}
-use Rattle.routes.proofs.Hops.{route-ready, route-all-ready}
+use Rattle.routes.proofs.Hops.{route-ready, route-all-ready, one-colour}
 use Rattle.call_records.specs.Records.{firstCall, callsIn, counted}
 use Rattle.call_records.proofs.Said.{TookBy}
 use Rattle.call_records.proofs.Calls.{first-took, by-records, no-calls, first-then-rest}
@@ -44,15 +44,15 @@ use Rattle.report.proofs.Numbers.{plain-short, file-number, call-number
 use Rattle.report.proofs.Running.{lines-more, lines-none}
 
 -- ---- a schedule's count
-bound-most : (T : ℕ) (g : Hop) (hs : List Hop) → g .frames ≤ 64 → AllReady T hs → boundFrom g hs ≤ 4096 * length hs
+bound-most : (T : ℕ) (g : Hop) (hs : List Hop) → g .frames ≤ 64 → AllReady T hs → plainFrom g hs ≤ 4096 * length hs
 bound-most T g [] few p = omega arith
 bound-most T g (h ∷ hs) few p =
     let most : choices h ≤ 64 = omega (arith, choices-in T h (p .0), p .0 .few-frames) in
     omega (arith, mul-le-mul {n₁ = g .frames} {m₁ = choices h} {n₂ = 64} {m₂ = 64} few most, bound-most T h hs (p .0 .few-frames) (p .1))
 
-count-most : (T : ℕ) (hops : List Hop) (n : ℕ) → length hops ≤ 8 → AllReady T hops → CountOf hops n → n < 100000
-count-most T [] n l p c = omega (arith, count-bound T [] n p c)
-count-most T (h ∷ hs) n l p c = omega (arith, count-bound T (h ∷ hs) n p c, bound-most T h hs (p .0 .few-frames) (p .1))
+count-most : (T : ℕ) (hops : List Hop) (n : ℕ) → length hops ≤ 8 → AllReady T hops → OneColour hops → CountOf hops n → n < 100000
+count-most T [] n l p one c = omega (arith, count-bound T [] n p c)
+count-most T (h ∷ hs) n l p one c = omega (arith, count-bound T (h ∷ hs) n p c, bound-one-colour T (h ∷ hs) p one, bound-most T h hs (p .0 .few-frames) (p .1))
 
 -- ---- the line of what is answered
 module _ (net : Topology) (ss : List Session) (ok : networkCheck net ≡ given pass) where
@@ -60,10 +60,10 @@ module _ (net : Topology) (ss : List Session) (ok : networkCheck net ≡ given p
   hops-long route = length-map route (hopOf net ss)
 
   -- a frame of a schedule has two digits
-  frame-small : (route : List ℕ) → routeCheck net route ≡ given pass → (w : List ℕ) → IsSchedule (hopsOf net ss route) w → (i : ℕ) → i < length route → getD w i 0 < 100
+  frame-small : (route : List ℕ) → routeCheck net route ≡ given pass → (w : List Spot) → IsSchedule (hopsOf net ss route) w → (i : ℕ) → i < length route → getD (framesOf w) i 0 < 100
   frame-small route e w s i l =
       let ready = route-ready net ss route ok e in
-      let hop = rw (getD-firsts 8 i (hopsOf net ss route) noHop (omega (arith, ready .few-hops))) at (ready .each i l) in
+      let hop = rw (firsts-get 8 i (hopsOf net ss route) blankHop noHop (omega (arith, ready .few-hops)) (omega (arith, hops-long route))) at (ready .each i l) in
       omega (arith, schedule-frame (hopsOf net ss route) w s i (omega (arith, hops-long route)), hop .few-frames)
 
   route-line : (place letter : ℕ) → place < 100000 → (route : List ℕ) → routeCheck net route ≡ given pass → (r : Reply) → LeastOrBlocked (net .ticks) (hopsOf net ss route) r
@@ -73,18 +73,18 @@ module _ (net : Topology) (ss : List Session) (ok : networkCheck net ≡ given p
       let p = route-all-ready net ss route ok e in
       let ready = route-ready net ss route ok e in
       let most = delay-bound (net .ticks) hops w (ready .cycle) (omega (arith, hops-long route, ready .few-hops)) p (g .schedule) in
-      let c = count-most (net .ticks) hops count (omega (arith, hops-long route, ready .few-hops)) p (g .count-is) in
+      let c = count-most (net .ticks) hops count (omega (arith, hops-long route, ready .few-hops)) p (one-colour net ss route) (g .count-is) in
       let held : Holding = heldOver hops d w in
-      let f : length (held .frames) ≡ length hops = ap (λ (fs : List ℕ). length fs) (frames-over hops d w) ∙ schedule-length hops w (g .schedule) in
+      let f : length (held .frames) ≡ length hops = ap (λ (fs : List ℕ). length fs) (frames-over hops d w) ∙ frames-length hops w (g .schedule) in
       let k : length (held .cycles) ≡ length hops = ap (λ (cs : List ℕ). length cs) (cycles-over hops d w) ∙ cycle-per-hop hops w (g .schedule) in
       let frames : (i : ℕ) → i < length (held .frames) → getD (held .frames) i 0 < 100 =
       λ i l. rw (frames-over hops d w) (frame-small route e w (g .schedule) i (omega (arith, l, f, hops-long route))) in
       let cycles : (i : ℕ) → i < length (held .cycles) → getD (held .cycles) i 0 < 10 =
-      λ i l. rw (cycles-over hops d w) (omega (arith, cycles-bounded hops w i, l, k, hops-long route, ready .few-hops)) in
+      λ i l. rw (cycles-over hops d w) (omega (arith, cycles-bounded hops (framesOf w) i, l, k, hops-long route, ready .few-hops)) in
       omega (arith, scheduled-long place letter held count h (omega (arith, most, g .delay-is, delay-over hops d w)) c frames cycles, f, k, hops-long route, ready .some-hop)
   route-line place letter h route e r (noSchedule count q is nowhere) =
       let ready = route-ready net ss route ok e in
-      let c = count-most (net .ticks) (hopsOf net ss route) count (omega (arith, hops-long route, ready .few-hops)) (route-all-ready net ss route ok e) is in
+      let c = count-most (net .ticks) (hopsOf net ss route) count (omega (arith, hops-long route, ready .few-hops)) (route-all-ready net ss route ok e) (one-colour net ss route) is in
       omega (arith, blocked-long place letter count h c)
 
   call-line : (place letter : ℕ) → place < 100000 → (call : Call) (o : Ruling) → callCheck net ss call ≡ o → length (line place letter (unless o (granted net ss call))) ≤ 22 + 7 * length (linksOf call)

@@ -7,9 +7,9 @@ use lib.ListN.{length, getD, drop, set, replicate, length-append}
 use Rattle.places.specs.Places.{firsts}
 use Rattle.places.proofs.Firsts.{length-firsts, getD-firsts, next-first, no-first, firsts-more}
 use Rattle.forwarding.specs.declared.Hop.{Hop}
-use Rattle.forwarding.specs.Forwarding.{leastHold}
+use Rattle.forwarding.specs.Forwarding.{Spot, leastHold}
 use Rattle.forwarding.specs.Hops.{noHop, Ready}
-use Rattle.forwarding.specs.Schedule.{IsSchedule}
+use Rattle.forwarding.specs.Schedule.{framesOf, IsSchedule}
 use Rattle.forwarding.specs.Cycles.{nextCycle, onwardCycles, scheduleCycles}
 use Rattle.forwarding.proofs.Holds.{least-in}
 use Rattle.forwarding.proofs.Schedules.{schedule-frame}
@@ -59,12 +59,13 @@ module _ (n : ℕ) (hops : List Hop) (frames : List ℕ) (r : FramesLaid hops fr
     all-cycles h = p .stored ∙ ap (λ (l : List ℕ). firsts 8 l 0) (sym (p .same ∙ rw (no-first n j hops noHop h, append-nil (p .done))))
 
 -- the frames of a schedule over the first n of eight places of hops
-pub schedule-laid : (T n : ℕ) (hops : List Hop) (frames : List ℕ) → Ready T hops n → IsSchedule (firsts n hops noHop) (firsts n frames 0) → FramesLaid hops frames n
-schedule-laid T n hops frames r s = record {
+pub schedule-laid : (T n : ℕ) (hops : List Hop) (frames : List ℕ) (xs : List Spot) → Ready T hops n → framesOf xs ≡ firsts n frames 0 → IsSchedule (firsts n hops noHop) xs
+    → FramesLaid hops frames n
+schedule-laid T n hops frames xs r e s = record {
   some-hop = r .some-hop;
   few-hops = r .few-hops;
   few-frames = λ j h. r .each j h .few-frames;
   led = λ j h. least-in T (getD hops j noHop) (r .each j h);
   inside = λ j h.
-      rw (getD-firsts n j hops noHop h, getD-firsts n j frames 0 h) at (schedule-frame (firsts n hops noHop) (firsts n frames 0) s j (omega (arith, length-firsts n hops noHop)));
+      rw (e, getD-firsts n j hops noHop h, getD-firsts n j frames 0 h) at (schedule-frame (firsts n hops noHop) xs s j (omega (arith, length-firsts n hops noHop)));
 }

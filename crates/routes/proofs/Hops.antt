@@ -1,8 +1,8 @@
 -- The hops of a route: as the code lays them, by the words of held frames, and as a search needs them. Assumes nothing.
-use mathlib.Core.Path.{_≡_, refl, subst, _∙_}
+use mathlib.Core.Path.{_≡_, refl, ap, ap₂, subst, _∙_}
 use mathlib.Core.Bool.{Bool, false, not, _&&_}
 use mathlib.Core.List.{List, [], _∷_, _++_, map, map-append}
-use Prim.Native.Nat.{ℕ, zero, suc, _+_, _<_, _≤_}
+use Prim.Native.Nat.{ℕ, zero, suc, _+_, _*_, _/_, _%_, _<_, _≤_}
 use native.Mathlib.Nat.{not-suc-le-zero, le-of-suc-le-suc}
 use native.Mathlib.Numerals.{add-one}
 use native.Mathlib.Decide.{decLt}
@@ -11,7 +11,7 @@ use lib.ListN.{length, getD, take, set, replicate, length-map}
 use lib.Seq.{take-suc, take-all, length-take-le}
 use Rattle.lists.proofs.Count.{or-neither}
 use Rattle.places.specs.Places.{firsts}
-use Rattle.places.proofs.Firsts.{getD-firsts, firsts-filled, firsts-more}
+use Rattle.places.proofs.Firsts.{firsts-filled, firsts-more, firsts-get}
 use Rattle.refusals.specs.Refusals.{given, pass}
 use Rattle.words.specs.Word.{bitOf, wordOf, freeAt, freeWord}
 use Rattle.words.proofs.Words.{word-cong, bit-below}
@@ -23,7 +23,8 @@ use Rattle.network.proofs.Tests.{cycle-passed, frames-passed, range-passed, lea
 use Rattle.network.proofs.Checks.{GoodLink, network-good}
 use Rattle.forwarding.specs.declared.Hop.{Hop}
 use Rattle.forwarding.specs.Forwarding.{leastHold}
-use Rattle.forwarding.specs.Hops.{noHop, HopReady, AllReady}
+use Rattle.forwarding.specs.Hops.{noHop, blankHop, HopReady, AllReady}
+use Rattle.forwarding.specs.Schedule.{OneColour}
 use Rattle.forwarding.proofs.Transitions.{may-hold, hold-may, hold-only}
 use Rattle.forwarding.proofs.ByHops.{all-ready}
 use Rattle.ledger.specs.Lists.{anyOf}
@@ -35,31 +36,31 @@ use Rattle.routes.proofs.Tests.{known-passed}
 use Rattle.routes.proofs.Links.{link-passed, many-links, stored-link, in-places, frames-bounded}
 use Rattle.routes.proofs.Routes.{route-long, route-known}
 
-pub hop-told : (k : Link) (held w : ℕ) → w ≡ freeWord (k .frames) (k .closed) held → _≡_ {A = Hop} (record { frames = k .frames; range = k .range; least = k .least; free = w }) (hopFrom k held)
+pub hop-told : (k : Link) (held w : ℕ) → w ≡ freeWord (k .frames) (k .closed) held → _≡_ {A = Hop} (record { frames = k .frames; range = k .range; least = k .least; colours = 1; turn = 0; free = w ∷ 0 ∷ 0 ∷ 0 ∷ [] }) (hopFrom k held)
 hop-told k held w e = rw e
 
 -- ---- the hops before place j are laid
 pub record Laid (links : List Link) (held route : List ℕ) (hops : List Hop) (j : ℕ) : Type 0 where
   pub within : j ≤ length route
-  pub laid : hops ≡ firsts 8 (hopsFrom links held (take j route)) noHop
+  pub laid : hops ≡ firsts 8 (hopsFrom links held (take j route)) blankHop
 
 module _ (links : List Link) (held route : List ℕ) where
-  pub none-laid : (none : Hop) → none ≡ noHop → Laid links held route (replicate 8 none) 0
-  none-laid none e = record { within = omega arith; laid = rw e (firsts-filled 8 [] noHop (omega arith)) }
+  pub none-laid : (none : Hop) → none ≡ blankHop → Laid links held route (replicate 8 none) 0
+  none-laid none e = record { within = omega arith; laid = rw e (firsts-filled 8 [] blankHop (omega arith)) }
 
   module _ (hops : List Hop) (j : ℕ) (p : Laid links held route hops j) where
-    pub one-laid : j < length route → length route ≤ 8 → (k : Link) (l : ℕ) (hop : Hop) → k ≡ getD links (getD route j 0) noLink → l ≡ getD route j 0 → hop ≡ hopFrom k (getD held l 0) → Laid links held route (set hops j hop) (j + 1)
+    pub one-laid : j < length route → length route ≤ 8 → (k : Link) (l : ℕ) (hop : Hop) → k ≡ getD links (getD route j 0) noLink → l ≡ getD route j 0 → hop ≡ hopFrom k (getD held (4 * l) 0) → Laid links held route (set hops j hop) (j + 1)
     one-laid h few k l hop ek el e =
-        let f : ℕ → Hop = λ l. hopFrom (getD links l noLink) (getD held l 0) in
+        let f : ℕ → Hop = λ l. hopFrom (getD links l noLink) (getD held (4 * l) 0) in
         let n : length (map f (take j route)) ≡ j = length-map (take j route) f ∙ length-take-le j route (p .within) in
         let t : take (j + 1) route ≡ take j route ++ (getD route j 0 ∷ []) = rw add-one (take-suc route j 0 h) in
         let o : hop ≡ f (getD route j 0) = rw (e, ek, el) in
         record {
           within = omega arith;
-          laid = rw (p .laid, t, map-append, o) (firsts-more 8 j (map f (take j route)) (f (getD route j 0)) noHop n (omega arith));
+          laid = rw (p .laid, t, map-append, o) (firsts-more 8 j (map f (take j route)) (f (getD route j 0)) blankHop n (omega arith));
         }
 
-    pub all-laid : length route ≤ j → hops ≡ firsts 8 (hopsFrom links held route) noHop
+    pub all-laid : length route ≤ j → hops ≡ firsts 8 (hopsFrom links held route) blankHop
     all-laid h = p .laid ∙ rw (take-all j route h)
 
 -- ---- the words of held frames say the same as the sessions
@@ -69,12 +70,16 @@ unfolding freeWord freeAt
 free-held K closed held h =
     word-cong K (freeAt closed (wordOf 64 held)) (λ i. not (bitOf closed i) && not (held i)) (λ i l. rw (bit-below 64 held i (omega arith)))
 
-pub hop-held : (network : Network) (held : List ℕ) (ss : List Session) (l : ℕ) → HeldWords held ss → networkCheck (topologyOf network) ≡ given pass → l < network .count → hopFrom (getD (network .links) l noLink) (getD held l 0) ≡ hopOf (topologyOf network) ss l
+pub hop-held : (network : Network) (held : List ℕ) (ss : List Session) (l : ℕ) → HeldWords held ss → networkCheck (topologyOf network) ≡ given pass → l < network .count → hopFrom (getD (network .links) l noLink) (getD held (4 * l) 0) ≡ hopOf (topologyOf network) ss l
 unfolding freeOf
 hop-held network held ss l w e h =
     let b : linkAt (topologyOf network) l .frames ≤ 64 = rw (stored-link network l h) (frames-bounded network l h e .1) in
     let k : Link = linkAt (topologyOf network) l in
-    rw (← stored-link network l h, w .word l (in-places network l h e), free-held (k .frames) (k .closed) (λ i. heldIn ss (slot l i)) b)
+    let small : l < 32 = in-places network l h e in
+    let link : 4 * l / 4 ≡ l = omega arith in
+    let tint : 4 * l % 4 ≡ 0 = omega arith in
+    let word-at : getD held (4 * l) 0 ≡ wordOf 64 (λ i. heldIn ss (slot l i 0)) = w .word (4 * l) (omega arith) ∙ ap₂ (λ (a c : ℕ). wordOf 64 (λ i. heldIn ss (slot a i c))) link tint in
+    rw (← stored-link network l h, word-at, free-held (k .frames) (k .closed) (λ i. heldIn ss (slot l i 0)) b)
 
 map-known : (f g : ℕ → Hop) (count : ℕ) → ((l : ℕ) → l < count → f l ≡ g l) → (route : List ℕ) → anyOf (unknown count) route ≡ false → map f route ≡ map g route
 map-known f g count h [] e = refl
@@ -86,7 +91,7 @@ map-known f g count h (l ∷ route) e =
 pub hops-held : (network : Network) (held : List ℕ) (ss : List Session) (route : List ℕ) → HeldWords held ss → networkCheck (topologyOf network) ≡ given pass → unknownLink (topologyOf network) route ≡ false → hopsFrom (network .links) held route ≡ hopsOf (topologyOf network) ss route
 unfolding unknownLink
 hops-held network held ss route w e u =
-    map-known (λ l. hopFrom (getD (network .links) l noLink) (getD held l 0)) (hopOf (topologyOf network) ss) (network .count) (λ l h. hop-held network held ss l w e h) route (rw (many-links network) at u)
+    map-known (λ l. hopFrom (getD (network .links) l noLink) (getD held (4 * l) 0)) (hopOf (topologyOf network) ss) (network .count) (λ l h. hop-held network held ss l w e h) route (rw (many-links network) at u)
 
 -- ---- a route that passed may be searched
 hop-ready : (net : Topology) (ss : List Session) (l : ℕ) → GoodLink (net .ticks) (linkAt net l) → HopReady (net .ticks) (hopOf net ss l)
@@ -95,7 +100,7 @@ hop-ready net ss l g =
     let f = frames-passed (net .ticks) (k .frames) (g .frames) in
     let z = range-passed (k .frames) (k .range) (g .range) in
     let y = least-passed (k .frames) (k .range) (k .least) (g .least) in
-    record { some-frame = f .0; few-frames = f .1; divides = f .2; in-cycle = z .1; ordered = y .0; narrow = below (k .least) (k .range) (k .frames) (z .1) (y .1) }
+    record { some-frame = f .0; few-frames = f .1; divides = f .2; in-cycle = z .1; ordered = y .0; narrow = below (k .least) (k .range) (k .frames) (z .1) (y .1); some-colour = omega arith; few-colours = omega arith; turns = omega arith }
   where
     below : (Y Z K : ℕ) → Z ≤ K → (Y ≡ 0 → Z ≡ K → ⊥) → Z < Y + K
     below Y Z K l n =
@@ -126,7 +131,7 @@ route-ready net ss route e r =
       cycle = cycle-passed (net .ticks) (network-good net e .cycle) .1;
       some-hop = n .0;
       few-hops = n .1;
-      each = λ j h. rw (getD-firsts 8 j (hopsOf net ss route) noHop (omega arith), map-place (hopOf net ss) route j h) (hop-ready net ss (getD route j 0) (link-passed net (getD route j 0) e (route-known net route r j h)));
+      each = λ j h. rw (firsts-get 8 j (hopsOf net ss route) blankHop noHop (omega arith) (omega (arith, length-map route (hopOf net ss))), map-place (hopOf net ss) route j h) (hop-ready net ss (getD route j 0) (link-passed net (getD route j 0) e (route-known net route r j h)));
     }
 
 -- and so each of its hops is ready
@@ -135,4 +140,16 @@ route-all-ready net ss route e r =
     let p = route-ready net ss route e r in
     let n = length-map route (hopOf net ss) in
     subst (AllReady (net .ticks)) (take-all (length route) (hopsOf net ss route) (omega (arith, n)))
-    (all-ready (net .ticks) (hopsOf net ss route) (length route) (omega (arith, n)) (λ j h. rw (getD-firsts 8 j (hopsOf net ss route) noHop (omega (arith, p .few-hops))) at (p .each j h)))
+    (all-ready (net .ticks) (hopsOf net ss route) (length route) (omega (arith, n)) (λ j h. rw (firsts-get 8 j (hopsOf net ss route) blankHop noHop (omega (arith, p .few-hops)) (omega (arith, n))) at (p .each j h)))
+
+-- ---- each link has one colour
+pub one-colour : (net : Topology) (ss : List Session) (route : List ℕ) → OneColour (hopsOf net ss route)
+one-colour net ss [] = tt
+one-colour net ss (l ∷ route) = (refl, one-colour net ss route)
+
+-- and so each hop laid into eight places
+pub one-each : (net : Topology) (ss : List Session) (route : List ℕ) (eight : List Hop) → eight ≡ firsts 8 (hopsOf net ss route) blankHop → length route ≤ 8
+    → (j : ℕ) → j < length route → getD eight j noHop .colours ≡ 1
+one-each net ss route eight e few j h =
+    ap (λ (hops : List Hop). getD hops j noHop .colours) e
+    ∙ ap (λ (x : Hop). x .colours) (firsts-get 8 j (hopsOf net ss route) blankHop noHop (omega arith) (omega (arith, length-map route (hopOf net ss))) ∙ map-place (hopOf net ss) route j h)

@@ -1,10 +1,10 @@
 -- The hops of a route from stored values, and what a walk over frames says. Assumes nothing.
 use mathlib.Core.Path.{_≡_}
 use mathlib.Core.Bool.{cond}
-use mathlib.Core.List.{List, map}
+use mathlib.Core.List.{List, [], _∷_, map}
 use mathlib.Core.Logic.{_↔_}
 use mathlib.Core.Option.{Option, some, none}
-use Prim.Native.Nat.{ℕ, _<_, _≤_}
+use Prim.Native.Nat.{ℕ, _*_, _<_, _≤_}
 use lib.ListN.{length, getD}
 use Rattle.places.specs.Places.{firsts}
 use Rattle.refusals.specs.Refusals.{given, pass}
@@ -13,35 +13,35 @@ use Rattle.network.specs.Network.{Topology, noLink}
 use Rattle.network.specs.Checks.{networkCheck}
 use Rattle.network.specs.declared.Link.{Link}
 use Rattle.forwarding.specs.declared.Hop.{Hop}
-use Rattle.forwarding.specs.Forwarding.{IsHold, hold}
-use Rattle.forwarding.specs.Hops.{noHop, Ready}
+use Rattle.forwarding.specs.Forwarding.{Spot, IsHold, hold}
+use Rattle.forwarding.specs.Hops.{blankHop, Ready}
 use Rattle.forwarding.specs.Schedule.{isSchedule, scheduleDelay}
 use Rattle.ledger.specs.Sessions.{Session, linkAt, hopOf, hopsOf}
 use Rattle.ledger.specs.Routes.{routeCheck}
 use Rattle.routes.specs.declared.Walked.{Walked}
 use Rattle.routes.specs.declared.Walked.the-variants.{Delayed, Unfit}
 
--- a link as a hop, by the word of its held frames
+-- a link as a hop of one colour, by the word of its held frames
 abbrev pub hopFrom : Link → ℕ → Hop
-hopFrom k held = record { frames = k .frames; range = k .range; least = k .least; free = freeWord (k .frames) (k .closed) held }
+hopFrom k held = record { frames = k .frames; range = k .range; least = k .least; colours = 1; turn = 0; free = freeWord (k .frames) (k .closed) held ∷ 0 ∷ 0 ∷ 0 ∷ [] }
 
--- the hops of a route, by the links of a network and the words of their held frames
+-- the hops of a route, by the links of a network and the words of their held frames in colour 0, one for each link and each of 4 colours
 abbrev pub hopsFrom : List Link → List ℕ → List ℕ → List Hop
-hopsFrom links held route = map (λ l. hopFrom (getD links l noLink) (getD held l 0)) route
+hopsFrom links held route = map (λ l. hopFrom (getD links l noLink) (getD held (4 * l) 0)) route
 
 -- THE SEARCH OF A ROUTE THAT PASSED MAY BEGIN: its hops, laid into eight places, are what the search asks for
 abbrev pub RouteReady : Type 0
 RouteReady = (net : Topology) (ss : List Session) (route : List ℕ) → networkCheck net ≡ given pass → routeCheck net route ≡ given pass
-    → Ready (net .ticks) (firsts 8 (hopsOf net ss route) noHop) (length route)
+    → Ready (net .ticks) (firsts 8 (hopsOf net ss route) blankHop) (length route)
 
 -- "The hold is the one number from Y up to Z that fits, if there is one" (W-206): SO ON EVERY LINK OF A NETWORK THAT PASSED ITS CHECKS, whatever is free
 abbrev pub LinkHoldOnly : Type 0
 LinkHoldOnly = (net : Topology) (ss : List Session) (l : ℕ) → networkCheck net ≡ given pass → l < length (net .links) → (r i : ℕ) → i < linkAt net l .frames
     → (D : ℕ) → IsHold (hopOf net ss l) r i D ↔ ((D ≡ hold (linkAt net l .least) (linkAt net l .frames) r i) × (D ≤ linkAt net l .range))
 
--- the delay of frames over hops, if they are a schedule
-abbrev pub delayIf : ℕ → List Hop → List ℕ → Option ℕ
-delayIf T hops fs = cond (isSchedule hops fs) (some (scheduleDelay T hops fs)) none
+-- the delay of frames in their colours over hops, if they are a schedule
+abbrev pub delayIf : ℕ → List Hop → List Spot → Option ℕ
+delayIf T hops xs = cond (isSchedule hops xs) (some (scheduleDelay T hops xs)) none
 
 -- what a walk of the code says in these words
 abbrev pub walkedDelay : Walked → Option ℕ

@@ -8,19 +8,20 @@ use refusals::Verdict;
 ghost use mathlib.Core.Path.{_≡_};
 ghost use mathlib.Core.Bool.{false, _&&_};
 ghost use Prim.Native.Nat.{_<_, _≤_};
-ghost use lib.Dec.{eqb, ltb};
+ghost use lib.Dec.{eqb};
 ghost use lib.ListN.{drop};
 ghost use Rattle.places.specs.Places.{firsts};
 ghost use Rattle.refusals.specs.Refusals.{given, pass, ruling};
 ghost use Rattle.network.specs.Network.{topologyOf};
 ghost use Rattle.network.specs.Checks.{networkCheck};
-ghost use Rattle.forwarding.specs.Forwarding.{isFree};
-ghost use Rattle.forwarding.specs.Hops.{noHop, HopReady, Ready};
+ghost use Rattle.forwarding.specs.Forwarding.{isFree, mayTurn};
+ghost use Rattle.forwarding.specs.Hops.{noHop, blankHop, HopReady, Ready};
+ghost use Rattle.forwarding.specs.Schedule.{inColours, isOn};
 ghost use Rattle.forwarding.specs.Cycles.{scheduleCycles};
 ghost use Rattle.ledger.specs.Lists.{anyOf};
 ghost use Rattle.ledger.specs.Routes.{badLength, unknown, unknownLink, linkTwice, apart, ratesApart, ratesOf, routeCheck};
 ghost use Rattle.routes.specs.Hops.{hopFrom, hopsFrom, delayIf, walkedDelay};
-ghost use Rattle.routes.specs.Inner.{stepIf, FramesLaid};
+ghost use Rattle.routes.specs.Inner.{spot, stepIf, FramesLaid};
 
 // What frames over the hops of a route come to: a schedule's delay, or that they are no schedule.
 pub enum Walked {
@@ -126,53 +127,72 @@ pub fn check_route(network: Network, route: &[u8]) -> Verdict
     Verdict::Passed
 }
 
-// A link as a hop, by the word of its held frames. Check 7 bounds its frames.
+// A link as a hop of one colour, by the word of its held frames. Check 7 bounds its frames.
 fn hop_of(link: Link, held: u64) -> Hop
     requires { ⌜ (0 < link .frames) × (link .frames ≤ 64) ⌝ }
     ensures { λ r. ⌜ r ≡ hopFrom link held ⌝ }
 {
+    let word = words::free_word(link.frames, link.closed, held);
+    let mut free = [0u64; 4];
+    free[0] = word;
     Hop {
         frames: link.frames,
         range: link.range,
         least: link.least,
-        free: words::free_word(link.frames, link.closed, held),
+        colours: 1,
+        turn: 0,
+        free,
     }
 }
 
-// The hops of a route that passed its checks, by the words of the held frames of each link; unused places hold no hop.
-pub fn route_hops(network: Network, held: &[u64; 32], route: &[u8]) -> [Hop; 8]
+// The hops of a route that passed its checks, by the words of the held frames of each link in colour 0, which stand in every fourth place; unused places hold no hop.
+pub fn route_hops(network: Network, held: &[u64; 128], route: &[u8]) -> [Hop; 8]
     requires { ⌜ (networkCheck (topologyOf network) ≡ given pass) × (routeCheck (topologyOf network) (now route) ≡ given pass) ⌝ }
-    ensures { λ r. ⌜ r ≡ firsts 8 (hopsFrom (network .links) (now (held .entry)) (now (route .entry))) noHop ⌝ }
+    ensures { λ r. ⌜ r ≡ firsts 8 (hopsFrom (network .links) (now (held .entry)) (now (route .entry))) blankHop ⌝ }
 {
     let mut hops = [forwarding::no_hop(); 8];
     let mut j = 0;
     while j < route.len() {
         let at = places::index(route[j]);
         let link = network.links[at];
-        hops[j] = hop_of(link, held[at]);
+        hops[j] = hop_of(link, held[4 * at]);
         j += 1;
     }
     hops
 }
 
-// Whether i is a frame of the hop and free. Check 7: a hop has at most 64 frames.
-fn frame_free(hop: Hop, i: u16) -> bool
-    requires { ⌜ hop .frames ≤ 64 ⌝ }
-    ensures { λ r. ⌜ r ≡ (ltb i (hop .frames) && isFree hop i) ⌝ }
+// Whether i is a frame of the hop, c a colour of it, and the frame free in the colour. Check 7: a hop has at most 64 frames; check 23: at most 4 colours.
+fn frame_free(hop: Hop, i: u16, c: u16) -> bool
+    requires { ⌜ (hop .frames ≤ 64) × (hop .colours ≤ 4) ⌝ }
+    ensures { λ r. ⌜ r ≡ (isOn hop (spot i c) && isFree hop (spot i c)) ⌝ }
 {
     if hop.frames <= i {
         return false;
     }
-    words::has_bit(hop.free, i)
+    if hop.colours <= c {
+        return false;
+    }
+    words::has_bit(hop.free[c as usize], i)
 }
 
-// The transition from frame k of the hop before to frame i of a hop: its delay, if it is allowed.
-// Checks 3, 7, 8 and 21 guarantee what is required; the walk has found frame k free.
-fn step(t: u16, before: Hop, k: u16, hop: Hop, i: u16) -> Walked
-    requires { ⌜ (t ≤ 960) × (k < before .frames) × (before .frames ≤ 64) × HopReady t hop ⌝ }
-    ensures { λ r. ⌜ walkedDelay r ≡ stepIf t before hop k i ⌝ }
+// Whether colour c of the hop before may become colour d of the hop. Checks 23 and 24 bound them.
+fn may_turn(hop: Hop, c: u16, d: u16) -> bool
+    requires { ⌜ (hop .turn ≤ 4) × (c ≤ 4) × (d ≤ 4) ⌝ }
+    ensures { λ r. ⌜ r ≡ mayTurn hop c d ⌝ }
 {
-    if !frame_free(hop, i) {
+    c <= d + hop.turn && d <= c + hop.turn
+}
+
+// The transition from frame k of the hop before, in colour c, to frame i of a hop in colour d: its delay, if it is allowed.
+// Checks 3, 7, 8, 21, 23 and 24 guarantee what is required; the walk has found frame k free.
+fn step(t: u16, before: Hop, k: u16, c: u16, hop: Hop, i: u16, d: u16) -> Walked
+    requires { ⌜ (t ≤ 960) × (k < before .frames) × (before .frames ≤ 64) × (c ≤ 4) × HopReady t hop ⌝ }
+    ensures { λ r. ⌜ walkedDelay r ≡ stepIf t before hop (spot k c) (spot i d) ⌝ }
+{
+    if !frame_free(hop, i, d) {
+        return Walked::Unfit;
+    }
+    if !may_turn(hop, c, d) {
         return Walked::Unfit;
     }
     let hold = forwarding::hold_into(k, before, hop, i);
@@ -183,14 +203,15 @@ fn step(t: u16, before: Hop, k: u16, hop: Hop, i: u16) -> Walked
     Walked::Delayed(forwarding::delay_of(hold, time))
 }
 
-// Whether the frames are a schedule over the first n hops, and its delay. Checks 3, 7, 8, 21 and 12 guarantee what is required.
-pub fn walk(t: u16, hops: [Hop; 8], frames: [u8; 8], n: usize) -> Walked
+// Whether the frames in their colours are a schedule over the first n hops, and its delay. Checks 3, 7, 8, 21, 23, 24 and 12 guarantee what is required.
+pub fn walk(t: u16, hops: [Hop; 8], frames: [u8; 8], colours: [u8; 8], n: usize) -> Walked
     requires { ⌜ Ready t hops n ⌝ }
-    ensures { λ r. ⌜ walkedDelay r ≡ delayIf t (firsts n hops noHop) (firsts n frames 0) ⌝ }
+    ensures { λ r. ⌜ walkedDelay r ≡ delayIf t (firsts n hops noHop) (inColours (firsts n frames 0) (firsts n colours 0)) ⌝ }
 {
     let first = hops[0];
     let mut k = places::short(frames[0]);
-    if !frame_free(first, k) {
+    let mut colour = places::short(colours[0]);
+    if !frame_free(first, k, colour) {
         return Walked::Unfit;
     }
     let mut before = first;
@@ -199,7 +220,8 @@ pub fn walk(t: u16, hops: [Hop; 8], frames: [u8; 8], n: usize) -> Walked
     while j < n {
         let hop = hops[j];
         let i = places::short(frames[j]);
-        match step(t, before, k, hop, i) {
+        let d = places::short(colours[j]);
+        match step(t, before, k, colour, hop, i, d) {
             Walked::Unfit => return Walked::Unfit,
             Walked::Delayed(delay) => {
                 total = forwarding::sum(total, delay);
@@ -207,6 +229,7 @@ pub fn walk(t: u16, hops: [Hop; 8], frames: [u8; 8], n: usize) -> Walked
         }
         before = hop;
         k = i;
+        colour = d;
         j += 1;
     }
     Walked::Delayed(total)

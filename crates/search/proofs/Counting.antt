@@ -3,38 +3,35 @@ use mathlib.Core.Path.{_≡_, sym, _∙_, ap}
 use mathlib.Core.Bool.{Bool, true, false, _&&_}
 use mathlib.Core.List.{List}
 use Prim.Native.Nat.{ℕ, _+_, _*_, _%_, _<_, _≤_}
-use native.Mathlib.Nat.{mod-lt, one-mul, zero-mul, mul-zero}
+use native.Mathlib.Nat.{mod-lt, one-mul, zero-mul}
 use native.Mathlib.Omega.{arith}
 use lib.Dec.{ltb}
 use lib.ListN.{getD}
-use Rattle.lists.specs.Count.{oneIf, countBelow}
-use Rattle.lists.proofs.Count.{sum-cong, sum-const}
+use Rattle.lists.specs.Count.{oneIf, sumBelow, countBelow}
+use Rattle.lists.proofs.Count.{sum-cong}
 use Rattle.lists.proofs.Sums.{sum-narrow}
 use Rattle.trellis.specs.Trellis.{Stage}
-use Rattle.trellis.specs.Paths.{reached}
 use Rattle.words.specs.Word.{bitOf}
 use Rattle.words.specs.Inner.{windowOnes, WindowOnes}
 use Rattle.words.proofs.Sliding.{window-few}
 use Rattle.forwarding.specs.declared.Hop.{Hop}
-use Rattle.forwarding.specs.Forwarding.{referenceInto, leastHold, gap, isFree, isAllowed, choices}
+use Rattle.forwarding.specs.Forwarding.{referenceInto, leastHold, gap, mayHold, holdInto, choices}
 use Rattle.forwarding.specs.Hops.{HopReady}
-use Rattle.forwarding.specs.Route.{stageOf}
 use Rattle.forwarding.proofs.Holds.{gap-meets, gap-sum, least-range, choices-range, choices-in}
 use Rattle.forwarding.proofs.Windows.{firstFrame, near}
-use Rattle.search.specs.Inner.{cellReach, Opens, leadings, counts}
+use Rattle.search.specs.Inner.{laneOf, Opens, leadings}
 
--- the stage of a hop by the time of its frame: the delay is the hold times that time
-abbrev pub stageBy : ℕ → Hop → Hop → Stage
-stageBy time g h = stageOf (λ D. D * time) g h
+-- a colour of a hop by the time of its frame: the delay is the hold times that time
+abbrev pub laneBy : ℕ → Hop → Hop → ℕ → Stage
+laneBy time g h free = laneOf (λ D. D * time) g h free
 
 -- ---- how many frames a frame leads to
 -- THE WINDOW THAT A FRAME LEADS TO has as many frames as there are holds
-pub opens : (T : ℕ) (h : Hop) → HopReady T h → (w : ℕ) → w ≡ choices h → Opens h w (h .free)
-unfolding isFree
-opens T h r w e = rw e (record {
+pub opens : (T : ℕ) (h : Hop) → HopReady T h → (w free : ℕ) → w ≡ choices h → Opens h w free
+opens T h r w free e = rw e (record {
   some = omega (arith, choices-range T h r, least-range T h r);
   within = choices-in T h r;
-  same = λ g k i. ap (λ (b : Bool). b && bitOf (h .free) i) (near T g h k r i);
+  same = λ g k i. ap (λ (b : Bool). b && bitOf free i) (near T g h k r i);
 })
 
 -- ---- the transitions
@@ -52,23 +49,19 @@ window-count K w a free inside narrow =
     G : ℕ → ℕ
     G x = oneIf (ltb x w) * oneIf (bitOf free ((a + x) % K))
 
-module _ (g h : Hop) (w free : ℕ) (cells blank ones : List ℕ) (some : 0 < h .frames) (open-is : Opens h w free) (windows : WindowOnes free (h .frames) w (h .frames) blank ones) where
+module _ (g h : Hop) (w free : ℕ) (blank ones : List ℕ) (some : 0 < h .frames) (open-is : Opens h w free) (windows : WindowOnes free (h .frames) w (h .frames) blank ones) where
   -- from one frame
-  from-one : (k : ℕ) → countBelow (h .frames) (λ i. isAllowed g h k i) ≡ getD ones (firstFrame g h k) 0
+  from-one : (k : ℕ) → countBelow (h .frames) (λ i. mayHold h (holdInto g h k i) && bitOf free i) ≡ getD ones (firstFrame g h k) 0
   from-one k =
       let inside : firstFrame g h k < h .frames = mod-lt (referenceInto g h k + leastHold h) some in
-      sum-cong (h .frames) (λ i. oneIf (isAllowed g h k i)) (λ i. oneIf (ltb (gap (h .frames) (firstFrame g h k) i) w && bitOf free i)) (λ i l. ap oneIf (open-is .same g k i))
+      sum-cong (h .frames) (λ i. oneIf (mayHold h (holdInto g h k i) && bitOf free i)) (λ i. oneIf (ltb (gap (h .frames) (firstFrame g h k) i) w && bitOf free i)) (λ i l. ap oneIf (open-is .same g k i))
       ∙ window-count (h .frames) w (firstFrame g h k) free inside (open-is .within) ∙ sym (windows .each (firstFrame g h k) inside)
 
-  from-reached : (k : ℕ) (b : Bool) → countBelow (h .frames) (λ i. b && isAllowed g h k i) ≡ oneIf b * getD ones (firstFrame g h k) 0
-  from-reached k true = from-one k ∙ sym (one-mul (getD ones (firstFrame g h k) 0))
-  from-reached k false = sum-const (h .frames) 0 ∙ mul-zero (h .frames) ∙ sym (zero-mul (getD ones (firstFrame g h k) 0))
-
   -- THE TRANSITIONS ARE COUNTED BY WINDOWS
-  pub all-counted : (time n : ℕ) → leadings (firstFrame g h) cells ones n ≡ counts (stageBy time g h) cells n
-  all-counted time n =
-      sum-cong n (λ k. oneIf (reached (cellReach (getD cells k 0))) * getD ones (firstFrame g h k) 0)
-      (λ k. countBelow (h .frames) (λ i. reached (cellReach (getD cells k 0)) && isAllowed g h k i)) (λ k l. sym (from-reached k (reached (cellReach (getD cells k 0)))))
+  pub all-counted : (many : List ℕ) (n : ℕ) → leadings (firstFrame g h) many ones n ≡ sumBelow n (λ k. getD many k 0 * countBelow (h .frames) (λ i. mayHold h (holdInto g h k i) && bitOf free i))
+  all-counted many n =
+      sum-cong n (λ k. getD many k 0 * getD ones (firstFrame g h k) 0) (λ k. getD many k 0 * countBelow (h .frames) (λ i. mayHold h (holdInto g h k i) && bitOf free i))
+      (λ k l. ap (λ (x : ℕ). getD many k 0 * x) (sym (from-one k)))
 
 pub ones-few : (free K w : ℕ) (blank ones : List ℕ) → w ≤ 64 → WindowOnes free K w K blank ones → (a : ℕ) → a < K → getD ones a 0 ≤ 64
 ones-few free K w blank ones l s a m = omega (arith, s .each a m, window-few free K w a)

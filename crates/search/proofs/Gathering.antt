@@ -4,7 +4,7 @@ use mathlib.Core.Bool.{Bool, true, false, cond}
 use mathlib.Core.List.{List}
 use mathlib.Core.Logic.{⊎-elim}
 use Prim.Native.Nat.{ℕ, zero, suc, _+_, _-_, _*_, _%_, _<_, _≤_}
-use native.Mathlib.Nat.{eq-or-lt-of-le, mul-le-mul-right, mod-lt}
+use native.Mathlib.Nat.{eq-or-lt-of-le, mul-le-mul, mul-le-mul-right, mod-lt}
 use native.Mathlib.Decide.{decLt, ℕ-discrete}
 use native.Mathlib.Omega.{arith}
 use lib.Dec.{ltb}
@@ -19,6 +19,10 @@ use Rattle.search.specs.Inner.{Within, keyFrom, Entered, Gathers, Keys}
 -- fewer frames than a cycle take no longer than a cycle
 pub within-time : (time K n : ℕ) → n ≤ K → K * time ≤ 960 → n * time ≤ 960
 within-time time K n h l = omega (arith, mul-le-mul-right {m = n} {n = K} time h)
+
+-- at most four colours lead to at most 64 frames each
+pub few-leave : (m o : ℕ) → m ≤ 4 → o ≤ 64 → m * o ≤ 256
+few-leave m o h l = mul-le-mul {n₁ = m} {m₁ = o} {n₂ = 4} {m₂ = 64} h l
 
 -- the frame that the least hold leads to, by the reference frame
 pub led-first : (g h : Hop) (k r y i : ℕ) → 0 < h .frames → r ≡ referenceInto g h k → y ≡ leastHold h → i ≡ (r + y) % h .frames → (i ≡ firstFrame g h k) × (i < h .frames)
@@ -36,11 +40,12 @@ most-same (suc n) v zero = omega arith
 most-same (suc n) v (suc i) = most-same n v i
 
 module _ (first : ℕ → ℕ) (time K : ℕ) (cells : List ℕ) (short : K * time ≤ 960) where
-  pub none-gathered : (froms : List ℕ) → K ≤ 64 → length froms ≡ 64 → Gathers first time K cells 0 (replicate 64 33728) froms
-  none-gathered froms few l = record {
+  pub none-gathered : K ≤ 64 → Gathers first time K cells 0 (replicate 64 33728) (replicate 64 0)
+  none-gathered few = record {
     keys-long = length-replicate {A = ℕ} 64 33728;
-    froms-long = l;
+    froms-long = length-replicate {A = ℕ} 64 0;
     small = most-same 64 33728;
+    few = λ a. omega (arith, most-same 64 0 a);
     waits = λ a m n. omega (arith, same-at 64 33728 a (omega arith), within-time time K (K - a) (omega arith) short);
     least = λ k m. absurd (omega arith);
     smallest = λ k m. absurd (omega arith);
@@ -48,7 +53,7 @@ module _ (first : ℕ → ℕ) (time K : ℕ) (cells : List ℕ) (short : K * ti
   }
 
   module _ (n a key : ℕ) (keys froms keys′ froms′ : List ℕ) (g : Gathers first time K cells n keys froms) (is : a ≡ first n) (in-cycle : a < K) (few : K ≤ 64)
-      (keyed : key ≡ keyFrom time K cells a n) (w : Within 5760 (getD cells n 0)) (e : Entered a key n keys froms keys′ froms′) where
+      (keyed : key ≡ keyFrom time K cells a n) (w : Within 5760 (getD cells n 0)) (of-64 : n < 64) (e : Entered a key n keys froms keys′ froms′) where
     abbrev kept : ℕ
     kept = getD keys a 0
 
@@ -128,6 +133,7 @@ module _ (first : ℕ → ℕ) (time K : ℕ) (cells : List ℕ) (short : K * ti
       keys-long = ap length (e .keyed) ∙ length-set keys a (cond (ltb key kept) key kept) ∙ g .keys-long;
       froms-long = ap length (e .from) ∙ length-set froms a (cond (ltb key kept) n (getD froms a 0)) ∙ g .froms-long;
       small = each (λ b. getD keys′ b 0 ≤ 33728) (two (λ l v f. omega (arith, g .small a)) (λ l v f. omega (arith, g .small a))) (λ b q. omega (arith, there b q, g .small b));
+      few = each (λ b. getD froms′ b 0 < 64) (two (λ l v f. omega arith) (λ l v f. omega (arith, g .few a))) (λ b q. omega (arith, from-there b q, g .few b));
       waits = each (λ b. b < K → 32768 ≤ getD keys′ b 0 → 32768 + (K - b) * time ≤ getD keys′ b 0)
           (λ l m. two (λ x v f. omega (arith, far (omega arith))) (λ x v f. omega (arith, g .waits a l (omega arith))))
           (λ b q l m. omega (arith, there b q, g .waits b l (omega (arith, there b q))));

@@ -17,17 +17,17 @@ use Rattle.trellis.proofs.Survivor.{Offer, none, offer, offerIf, offerOf, nobod
 use Rattle.trellis.proofs.Select.{offer-not-none, is-best, best-only}
 use Rattle.words.specs.Word.{bitOf}
 use Rattle.forwarding.specs.declared.Hop.{Hop}
-use Rattle.forwarding.specs.Forwarding.{referenceInto, leastHold, gap, holdInto, isAllowed}
+use Rattle.forwarding.specs.Forwarding.{referenceInto, leastHold, gap, mayHold, holdInto}
 use Rattle.forwarding.proofs.Holds.{into-gap}
 use Rattle.forwarding.proofs.Windows.{firstFrame}
 use Rattle.search.specs.Inner.{wayOf, cellIf, lower, Within, Latest, keyAt, Opens, keyFrom, Gathers, offers}
 use Rattle.search.proofs.Cells.{reach-after, reach-never, way-best, way-nobody}
 use Rattle.search.proofs.Positions.{cycle-most, frame-in, gap-position, times-split, position-of}
 use Rattle.search.proofs.Gathering.{within-time}
-use Rattle.search.proofs.Counting.{stageBy}
+use Rattle.search.proofs.Counting.{laneBy}
 
 -- the order of costs, ranks and nodes, number by number
-in-order : (c r k c′ r′ k′ : ℕ) → c ≤ c′ → (c ≡ c′ → r ≤ r′) → (c ≡ c′ → r ≡ r′ → k ≤ k′) → Precedes (c ∷ r ∷ k ∷ []) (c′ ∷ r′ ∷ k′ ∷ [])
+pub in-order : (c r k c′ r′ k′ : ℕ) → c ≤ c′ → (c ≡ c′ → r ≤ r′) → (c ≡ c′ → r ≡ r′ → k ≤ k′) → Precedes (c ∷ r ∷ k ∷ []) (c′ ∷ r′ ∷ k′ ∷ [])
 in-order c r k c′ r′ k′ a b d = one (eq-or-lt-of-le a)
   where
     three : c ≡ c′ → r ≡ r′ → (k ≡ k′) ⊎ (k < k′) → Precedes (c ∷ r ∷ k ∷ []) (c′ ∷ r′ ∷ k′ ∷ [])
@@ -57,7 +57,7 @@ module _ (time : ℕ) (g h : Hop) (w free : ℕ) (cells keys froms : List ℕ) (
   key = keyAt (K * time) K keys
 
   abbrev st : Stage
-  st = stageBy time g h
+  st = laneBy time g h free
 
   first-in : (k : ℕ) → first k < K
   first-in k = mod-lt (referenceInto g h k + leastHold h) some
@@ -93,7 +93,7 @@ module _ (time : ℕ) (g h : Hop) (w free : ℕ) (cells keys froms : List ℕ) (
       hold-at k e = into-gap g h k i ∙ ap (λ (x : ℕ). Y + x) (ap (λ (a : ℕ). gap K a i) e ∙ gap-position K i p inside behind upto)
 
       -- whether the transition is allowed
-      allowed-at : (k : ℕ) → first k ≡ p % K → isAllowed g h k i ≡ (ltb (i + K - p) w && bitOf free i)
+      allowed-at : (k : ℕ) → first k ≡ p % K → (mayHold h (holdInto g h k i) && bitOf free i) ≡ (ltb (i + K - p) w && bitOf free i)
       allowed-at k e = opens .same g k i ∙ ap (λ (x : ℕ). ltb x w && bitOf free i) (ap (λ (a : ℕ). gap K a i) e ∙ gap-position K i p inside behind upto)
 
       -- what the frame k offers

@@ -11,3 +11,6 @@ pub mod Sweeping
 pub mod Ending
 pub mod Findings
 pub mod Settling
+pub mod Nearing
+pub mod Colours
+pub mod Colouring

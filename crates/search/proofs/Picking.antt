@@ -9,7 +9,7 @@ use lib.ListN.{getD, set, length, length-set}
 use lib.Seq.{getD-set-same, getD-set-other}
 use borrow.Author.Count.{below-more}
 use borrow.Author.Tests.{ltb-true, ltb-false}
-use Rattle.search.specs.Inner.{lower, keyAt, Picked, Trail, Earlier, Windows}
+use Rattle.search.specs.Inner.{lower, keyAt, Picked, Trail, Windows}
 use Rattle.search.proofs.Latest.{Chosen, chosen-join}
 use Rattle.search.proofs.Positions.{chosen-own, picked-seen, picked-in}
 
@@ -48,27 +48,18 @@ module _ (cycle K : ℕ) (keys : List ℕ) where
       subst (λ (m : ℕ). Picked key K (e + K) m frame) whole (subst (Picked key K (e + K) (n - 1 + 1)) (sym f) (t .each (n - 1) (omega arith)))
 
   -- ---- the windows that end with each frame in turn
-  module _ (w base : ℕ) (small : base ≤ 384) where
-    pub windows-none : (preds : List ℕ) → length preds ≡ 448 → Windows cycle K keys w base 0 preds preds
-    windows-none preds l = record { long = l; earlier = λ m h. refl; each = λ i m. absurd (omega arith) }
+  module _ (w : ℕ) where
+    pub windows-none : (preds : List ℕ) → length preds ≡ 64 → Windows cycle K keys w 0 preds
+    windows-none preds l = record { long = l; each = λ i m. absurd (omega arith) }
 
-    pub windows-more : (n m frame : ℕ) (old preds : List ℕ) → m ≡ n + 1 → n < 64 → Windows cycle K keys w base n old preds → Picked key K (n + K) w frame
-        → Windows cycle K keys w base m old (set preds (base + n) frame)
-    windows-more n m frame old preds next l s p = record {
-      long = length-set preds (base + n) frame ∙ s .long;
-      earlier = λ m h. getD-set-other preds (base + n) m frame 0 (λ x. omega arith) ∙ s .earlier m h;
-      each = λ i h. stored (λ (i x : ℕ). Picked key K (i + K) w x) (λ i. base + i) preds n frame (omega (arith, s .long)) (λ i m q. omega arith) (s .each) p i (omega arith);
+    pub windows-more : (n m frame : ℕ) (preds : List ℕ) → m ≡ n + 1 → n < 64 → Windows cycle K keys w n preds → Picked key K (n + K) w frame → Windows cycle K keys w m (set preds n frame)
+    windows-more n m frame preds next l s p = record {
+      long = length-set preds n frame ∙ s .long;
+      each = λ i h. stored (λ (i x : ℕ). Picked key K (i + K) w x) (λ i. i) preds n frame (omega (arith, s .long)) (λ i m q. omega arith) (s .each) p i (omega arith);
     }
 
-    -- begun anew, and gone on from
-    pub windows-here : (n : ℕ) (old preds : List ℕ) → Windows cycle K keys w base n old preds → Windows cycle K keys w base n preds preds
-    windows-here n old preds s = record { long = s .long; earlier = λ m h. refl; each = s .each }
-
-    pub windows-on : (n : ℕ) (old preds next : List ℕ) → Earlier base old preds → Windows cycle K keys w base n preds next → Windows cycle K keys w base n old next
-    windows-on n old preds next e s = record { long = s .long; earlier = λ m h. s .earlier m h ∙ e m h; each = s .each }
-
   -- ---- a block: the frames from `first` on, of which each has a window that begins no later than that frame
-  module _ (w base first span : ℕ) (behind : List ℕ) (t : Trail cycle K keys first w behind) (few : K ≤ 64) (narrow : w ≤ K) (part : span ≤ w) (inside : first + span ≤ K) (small : base ≤ 384) where
+  module _ (w first span : ℕ) (behind : List ℕ) (t : Trail cycle K keys first w behind) (few : K ≤ 64) (narrow : w ≤ K) (part : span ≤ w) (inside : first + span ≤ K) where
     -- the part up to `first` of the window of frame first + j
     block-part : (j frame : ℕ) → j < span → frame ≡ getD behind (w - 1 - j) 0 → Picked key K (first + K) (w - j) frame
     block-part j frame l f =
@@ -79,16 +70,16 @@ module _ (cycle K : ℕ) (keys : List ℕ) where
     block-in j frame l f = picked-in cycle K keys first (w - j) frame (omega arith) (omega arith) (block-part j frame l f)
 
     -- ONE FRAME MORE OF A BLOCK: the best of the frames from `first` on, and of it and the part up to `first` the better
-    pub block-more : (j e a x own frame value r z pick best : ℕ) (old preds : List ℕ) → 0 < j → j < span → e + 1 ≡ first + K + j → Chosen key K e j a x
+    pub block-more : (j e a x own frame value r z pick best : ℕ) (preds : List ℕ) → 0 < j → j < span → e + 1 ≡ first + K + j → Chosen key K e j a x
         → own ≡ getD keys (first + j) 0 → z ≡ cond (ltb x own) x own → r ≡ cond (ltb x own) a (first + j)
         → frame ≡ getD behind (w - 1 - j) 0 → value ≡ getD keys frame 0 + cond (ltb first frame) cycle 0
-        → best ≡ cond (ltb value z) value z → pick ≡ cond (ltb value z) frame r → Windows cycle K keys w base (first + j) old preds
-        → Windows cycle K keys w base (first + (j + 1)) old (set preds (base + (first + j)) pick) × Chosen key K (first + j + K) (j + 1) r z
-    block-more j e a x own frame value r z pick best old preds some l e-is run own-is z-is r-is f v best-is pick-is s =
+        → best ≡ cond (ltb value z) value z → pick ≡ cond (ltb value z) frame r → Windows cycle K keys w (first + j) preds
+        → Windows cycle K keys w (first + (j + 1)) (set preds (first + j) pick) × Chosen key K (first + j + K) (j + 1) r z
+    block-more j e a x own frame value r z pick best preds some l e-is run own-is z-is r-is f v best-is pick-is s =
         let next : Chosen key K (first + j + K) (j + 1) r z =
         chosen-join key K (first + j + K) e 1 1 j (j + 1) (first + j) own a x r z (omega arith) (omega arith) (omega arith) (omega arith)
         (chosen-own cycle K keys (first + j) (first + j) own (omega arith) refl own-is) run z-is r-is in
         let far : Chosen key K (first + K) (w - j) frame value = picked-seen cycle K keys first (w - j) frame value (omega arith) (omega arith) (block-part j frame l f) v in
         let both : Chosen key K (first + j + K) w pick best =
         chosen-join key K (first + j + K) (first + K) j (j + 1) (w - j) w r z frame value pick best (omega arith) (omega arith) (omega arith) (omega arith) next far best-is pick-is in
-        (windows-more w base small (first + j) (first + (j + 1)) pick old preds (omega arith) (omega arith) s (both .pick), next)
+        (windows-more w (first + j) (first + (j + 1)) pick preds (omega arith) (omega arith) s (both .pick), next)

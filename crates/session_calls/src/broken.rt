@@ -1,5 +1,6 @@
 // States built by hand. A change is written as four words: a field's name, the link or the table's place that has it, the place in the route, in the
-// frames or in the cycles, and the new value; 0 stands where a field needs no place. A field's first letter tells it: C a cycle, c closed frames.
+// frames, in the cycles or in the colours, and the new value; 0 stands where a field needs no place. A field's first letter tells it: C a cycle, c closed frames, w the colour
+// (wavelength) of a hop.
 use super::calls;
 use super::lines;
 use super::same;
@@ -28,7 +29,7 @@ fn changed_network(network: Network, field: u8, at: usize, value: usize) -> Netw
     next
 }
 
-// What is held with a new delay, or frame or cycle of a hop.
+// What is held with a new delay, or frame, cycle or colour of a hop.
 fn changed_held(held: Held, field: u8, index: usize, value: usize) -> Held
     requires { ⌜ index < 8 ⌝ }
 {
@@ -37,6 +38,7 @@ fn changed_held(held: Held, field: u8, index: usize, value: usize) -> Held
         b'd' => next.delay.0 = lines::word(value),
         b'f' => next.frames[index] = lines::byte(value),
         b'C' => next.cycles[index] = lines::byte(value),
+        b'w' => next.colours[index] = lines::byte(value),
         _ => {}
     }
     next

@@ -6,7 +6,7 @@ use state::State;
 use table::Place;
 use table::Table;
 
-// Eight places of a route, of frames or of cycles.
+// Eight places of a route, of frames, of cycles or of colours.
 fn eight(one: [u8; 8], other: [u8; 8]) -> bool {
     let mut j: usize = 0;
     while j < 8 {
@@ -24,7 +24,12 @@ fn held(one: Held, other: Held) -> bool {
     let cycles = one.cycles;
     let slots = other.frames;
     let turns = other.cycles;
-    (one.delay.0 == other.delay.0) & eight(frames, slots) & eight(cycles, turns)
+    let colours = one.colours;
+    let tints = other.colours;
+    (one.delay.0 == other.delay.0)
+        & eight(frames, slots)
+        & eight(cycles, turns)
+        & eight(colours, tints)
 }
 
 // A session as it is stored.

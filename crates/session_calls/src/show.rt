@@ -72,22 +72,26 @@ fn places(eight: [u8; 8], n: usize) {
     }
 }
 
-// The frames and the cycles of n hops.
+// The frames and the cycles of n hops. Each link has one colour, so every colour must be 0.
 fn hops(held: Held, n: usize) {
     let frames = held.frames;
     let cycles = held.cycles;
+    let colours = held.colours;
     places(frames, n);
     text(b" /");
     places(cycles, n);
+    places(colours, 0);
 }
 
-// What a refused answer holds: delay, frames and cycles must be 0.
+// What a refused answer holds: delay, frames, cycles and colours must be 0.
 fn nothing(held: Held) {
     let frames = held.frames;
     let cycles = held.cycles;
+    let colours = held.colours;
     stray(held.delay.0 as u64);
     places(frames, 0);
     places(cycles, 0);
+    places(colours, 0);
 }
 
 // The answer to a set-up or a quote over a route of n links. A refused one must have 0 for the count too.

@@ -12,15 +12,16 @@ use Rattle.network.specs.Network.{Topology, topologyOf}
 use Rattle.network.specs.Checks.{networkCheck}
 use Rattle.forwarding.specs.declared.Hop.{Hop}
 use Rattle.forwarding.specs.Hops.{AllReady}
-use Rattle.forwarding.specs.Schedule.{IsSchedule}
+use Rattle.forwarding.specs.Forwarding.{Spot}
+use Rattle.forwarding.specs.Schedule.{framesOf, IsSchedule}
 use Rattle.forwarding.specs.Cycles.{scheduleCycles, LaterHop, Keeps, Lies, Follows, NotBelow}
 use Rattle.forwarding.proofs.Cycles.{schedules-keep, cycles-lie, cycles-follow, cycles-never-fall, cycles-bounded}
-use Rattle.ledger.specs.Held.{Holding, heldPlaces}
+use Rattle.ledger.specs.Held.{Holding, spotsIn, heldPlaces}
 use Rattle.ledger.specs.Sessions.{Session, hopOf, hopsOf}
 use Rattle.ledger.specs.Routes.{routeCheck}
 use Rattle.ledger.specs.Calls.{linksOf, Reply, schedule, freed, refusal, reply, lookup}
-use Rattle.ledger.proofs.Held.{route-length, frames-over, cycles-over, cycles-free}
-use Rattle.ledger.proofs.Intact.{intact-is, on-frames, good-cycles}
+use Rattle.ledger.proofs.Held.{frames-length, frames-over, cycles-over, cycles-free}
+use Rattle.ledger.proofs.Intact.{intact-is, good-frames, good-cycles}
 use Rattle.ledger.proofs.Schedules.{schedule-unclosed}
 use Rattle.ledger.proofs.Scheduled.{scheduled}
 use Rattle.ledger.proofs.Shown.{lookup-given, shown-good}
@@ -41,7 +42,7 @@ in-eight P hops fs cs few p j h =
 
 -- what holds the frames of a schedule with their cycles, laid into eight places
 module _ (net : Topology) (route : List ℕ) (held : Holding) (passed : networkCheck net ≡ given pass) (checked : routeCheck net route ≡ given pass)
-    (s : IsSchedule (hopsOf net [] route) (held .frames)) (e : held .cycles ≡ scheduleCycles (hopsOf net [] route) (held .frames)) where
+    (xs : List Spot) (f : held .frames ≡ framesOf xs) (s : IsSchedule (hopsOf net [] route) xs) (e : held .cycles ≡ scheduleCycles (hopsOf net [] route) (framesOf xs)) where
   abbrev hops : List Hop
   hops = hopsOf net [] route
 
@@ -52,17 +53,17 @@ module _ (net : Topology) (route : List ℕ) (held : Holding) (passed : networkC
   ready = route-all-ready net [] route passed checked
 
   -- of the schedule's cycles, and so of those that are held
-  laid : (P : Hop → Hop → ℕ → ℕ → ℕ → ℕ → Type 0) → LaterHop P hops (held .frames) (scheduleCycles hops (held .frames)) → LaterHop P hops (firsts 8 (held .frames) 0) (firsts 8 (held .cycles) 0)
-  laid P p = in-eight P hops (held .frames) (held .cycles) (omega (arith, few, length-map route (hopOf net []))) (rw e p)
+  laid : (P : Hop → Hop → ℕ → ℕ → ℕ → ℕ → Type 0) → LaterHop P hops (framesOf xs) (scheduleCycles hops (framesOf xs)) → LaterHop P hops (firsts 8 (held .frames) 0) (firsts 8 (held .cycles) 0)
+  laid P p = in-eight P hops (held .frames) (held .cycles) (omega (arith, few, length-map route (hopOf net []))) (rw (e, f) p)
 
   pub beside : CyclesBeside net route (heldPlaces held)
   beside = record {
-    cycles = ap (λ (cs : List ℕ). firsts 8 cs 0) (e ∙ ap (scheduleCycles hops) (sym (so-many-back 8 (length route) (held .frames) 0 (route-length net [] route (held .frames) s) few)));
-    keep = laid Keeps (schedules-keep (net .ticks) hops (held .frames) ready s);
-    lie = laid Lies (cycles-lie (net .ticks) hops (held .frames) ready s);
-    follow = laid (Follows (net .ticks)) (cycles-follow (net .ticks) hops (held .frames) ready s);
-    neverFall = laid NotBelow (cycles-never-fall hops (held .frames) s);
-    bounded = λ j h. rw (getD-firsts 8 j (held .cycles) 0 (omega (arith, few)), e) (cycles-bounded hops (held .frames) j);
+    cycles = ap (λ (cs : List ℕ). firsts 8 cs 0) (e ∙ ap (scheduleCycles hops) (sym (ap (λ (fs : List ℕ). firsts (length route) (firsts 8 fs 0) 0) f ∙ so-many-back 8 (length route) (framesOf xs) 0 (frames-length hops xs s ∙ length-map route (hopOf net [])) few)));
+    keep = laid Keeps (schedules-keep (net .ticks) hops xs ready s);
+    lie = laid Lies (cycles-lie (net .ticks) hops xs ready s);
+    follow = laid (Follows (net .ticks)) (cycles-follow (net .ticks) hops xs ready s);
+    neverFall = laid NotBelow (cycles-never-fall hops xs s);
+    bounded = λ j h. rw (getD-firsts 8 j (held .cycles) 0 (omega (arith, few)), e) (cycles-bounded hops (framesOf xs) j);
   }
 
 -- A LOOKUP SHOWS THE CYCLES OF THE FRAMES SHOWN
@@ -75,7 +76,7 @@ lookup-cycles st n q looks p = go (lookup (viewOf st) n) refl (looks .shown)
         let g = shown-good (viewOf st) n s e in
         let net : Topology = topologyOf (st .network) in
         let there : CyclesBeside net (s .route) (heldPlaces (s .held)) =
-        beside net (s .route) (s .held) (intact-is (viewOf st) (lookup-given (viewOf st) n s e .0) .network) (g .route) (on-frames net s g) (good-cycles net s g) in
+        beside net (s .route) (s .held) (intact-is (viewOf st) (lookup-given (viewOf st) n s e .0) .network) (g .route) (spotsIn (s .held)) (good-frames net s g) (g .schedule) (good-cycles net s g ∙ ap (scheduleCycles (hopsOf net [] (s .route))) (good-frames net s g)) in
         rw (t, firsts-back 8 (s .route) 0 (route-long net (s .route) (g .route) .1)) there
     go (refused k) e t =
         let z : Passed ≡ Refused (t .0) = sym p ∙ ap (λ (a : Shown). a .verdict) (t .2) in
@@ -90,11 +91,11 @@ answer-cycles st call r serves p = go (reply (viewOf st) call) refl (serves .ans
         let a = scheduled (viewOf st) call held count e in
         let net : Topology = topologyOf (st .network) in
         let hops : List Hop = hopsOf net (viewOf st .live) (linksOf call) in
-        let f : held .frames ≡ a .nodes = ap (λ (h : Holding). h .frames) (a .gives) ∙ frames-over hops (a .delay) (a .nodes) in
-        let c : held .cycles ≡ scheduleCycles (hopsOf net [] (linksOf call)) (a .nodes) =
-        ap (λ (h : Holding). h .cycles) (a .gives) ∙ cycles-over hops (a .delay) (a .nodes) ∙ cycles-free net (viewOf st .live) (linksOf call) (a .nodes) in
-        let s : IsSchedule (hopsOf net [] (linksOf call)) (held .frames) = rw f (schedule-unclosed net (viewOf st .live) (linksOf call) (a .nodes) (a .schedule)) in
-        rw t (beside net (linksOf call) held (intact-is (viewOf st) (a .unbroken) .network) (a .passed) s (c ∙ ap (scheduleCycles (hopsOf net [] (linksOf call))) (sym f)))
+        let f : held .frames ≡ framesOf (a .spots) = ap (λ (h : Holding). h .frames) (a .gives) ∙ frames-over hops (a .delay) (a .spots) in
+        let c : held .cycles ≡ scheduleCycles (hopsOf net [] (linksOf call)) (framesOf (a .spots)) =
+        ap (λ (h : Holding). h .cycles) (a .gives) ∙ cycles-over hops (a .delay) (a .spots) ∙ cycles-free net (viewOf st .live) (linksOf call) (framesOf (a .spots)) in
+        let s : IsSchedule (hopsOf net [] (linksOf call)) (a .spots) = schedule-unclosed net (viewOf st .live) (linksOf call) (a .spots) (a .schedule) in
+        rw t (beside net (linksOf call) held (intact-is (viewOf st) (a .unbroken) .network) (a .passed) (a .spots) f s c)
     go freed e t = absurd t
     go (refusal k count) e t =
         let z : Passed ≡ Refused (t .0) = sym p ∙ ap (λ (a : Quoted). a .verdict) (t .3) in

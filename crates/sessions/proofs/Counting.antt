@@ -11,7 +11,7 @@ use Rattle.refusals.specs.declared.Verdict.{Verdict}
 use Rattle.refusals.specs.declared.Verdict.the-variants.{Passed, Refused}
 use Rattle.network.specs.Network.{topologyOf}
 use Rattle.forwarding.specs.declared.Hop.{Hop}
-use Rattle.forwarding.specs.Hops.{noHop}
+use Rattle.forwarding.specs.Hops.{noHop, blankHop}
 use Rattle.forwarding.specs.Ways.{routeWays}
 use Rattle.ledger.specs.Sessions.{hopsOf}
 use Rattle.ledger.specs.Routes.{routeCheck}
@@ -53,7 +53,7 @@ module _ (st : State) (route : List ℕ) where
     pub check-answers : (r : Refusal) → w ≡ Refused r → (q : Numbered) → q ≡ notNumbered r → Answers st route q
     check-answers r v q n = refused-answers r (unfold waysOf callCheck in rw (ok, sym e, v)) q n
 
-    pub number-answers : w ≡ Passed → (eight : List Hop) → eight ≡ firsts 8 (hopsOf (topologyOf (st .network)) (liveOf (st .table)) route) noHop
+    pub number-answers : w ≡ Passed → (eight : List Hop) → eight ≡ firsts 8 (hopsOf (topologyOf (st .network)) (liveOf (st .table)) route) blankHop
         → (n : ℕ) → n ≡ routeWays (firsts (length route) eight noHop) → Answers st route (record { verdict = Passed; ways = n })
     number-answers v eight f n b = subst (λ (o : Outcome ℕ). Tells numberedOf notNumbered o (record { verdict = Passed; ways = n })) (sym told) (ap numberedOf is)
       where

@@ -22,6 +22,7 @@ use Rattle.network.specs.Network.{Topology, topologyOf}
 use Rattle.network.specs.Checks.{badCount, badCycle, badFrames, badRange, badLeast, badClosed, linkCheck, linksCheck, networkCheck}
 use Rattle.network.specs.declared.Link.{Link}
 use Rattle.forwarding.specs.declared.Hop.{Hop}
+use Rattle.forwarding.specs.Forwarding.{Spot}
 use Rattle.forwarding.specs.Route.{routeAnswer}
 use Rattle.forwarding.specs.Ways.{routeWays}
 use Rattle.words.specs.Word.{freeFrames}
@@ -106,7 +107,7 @@ lookup-named v n = named-or (brokenCheck v) (lookIn n (v .live)) (broken-named v
 pub count-named : (v : View) (l : ℕ) → Named (freeCount v l)
 unfolding freeCount
 count-named v l =
-    let n : Outcome ℕ = given (freeFrames (linkAt (v .network) l .frames) (freeOf (v .network) (v .live) l)) in
+    let n : Outcome ℕ = given (freeFrames (linkAt (v .network) l .frames) (freeOf (v .network) (v .live) l 0)) in
     let b : Bool = unknown (length (v .network .links)) l in
     named-or (brokenCheck v) (refusedOr (refuseIf b 13) n) (broken-named v) (named-or (refuseIf b 13) n (named-if b UnknownLink refl) tt)
 
@@ -122,7 +123,7 @@ quoted-unless (refused k) r h w = (notQuoted (h .0), (h .0, h .1, no-count k h, 
 quoted-over : (T : ℕ) (hops : List Hop) → (q : Quoted) × Quotes (answerOver T hops) q
 quoted-over T hops = go (routeAnswer T hops)
   where
-    go : (a : trellis.Answer) → (q : Quoted) × Quotes (replyOf hops a) q
+    go : (a : trellis.Answer Spot) → (q : Quoted) × Quotes (replyOf hops a) q
     go (found d n w) = (quotedOf (heldOver hops d w) n, refl)
     go (blocked n) = (notQuoted (NoSchedule n), (NoSchedule n, refl, refl, refl))
 
@@ -167,7 +168,7 @@ module _ (net : Topology) (passed : networkCheck net ≡ given pass) where
       let g : GoodSession net s = session-good net s e in
       let few : length (s .route) ≤ 8 = route-long net (s .route) (g .route) .1 in
       let w : Scheduled (fresh net) (s .route) (s .held) =
-      record { unbroken = fresh-intact net passed; passed = g .route; delay = _; nodes = _; schedule = g .schedule; gives = g .held } in
+      record { unbroken = fresh-intact net passed; passed = g .route; delay = _; spots = _; schedule = g .schedule; gives = g .held } in
       ap₂ (λ (route : List ℕ) (held : Holding). record { number = s .number; route = route; held = held })
       (firsts-back 8 (s .route) 0 few) (scheduled-back (fresh net) (s .route) (s .held) w few)
 

@@ -1,5 +1,5 @@
 -- Where `begin` refused the network nothing is ever held: no session keeps the rules on the network that it gave instead. Assumes nothing.
-use mathlib.Core.Path.{_≡_, refl, sym, ap, subst, _∙_}
+use mathlib.Core.Path.{_≡_, refl, sym, ap, ap₂, subst, _∙_}
 use mathlib.Core.Bool.{true, false, true≢false}
 use mathlib.Core.List.{List, [], _∷_}
 use Prim.Native.Nat.{ℕ, _<_}
@@ -9,10 +9,10 @@ use Rattle.lists.proofs.Count as tests
 use Rattle.places.specs.Places.{firsts}
 use Rattle.words.specs.Word.{bitOf, wordOf}
 use Rattle.network.specs.Network.{Topology, topologyOf}
-use Rattle.forwarding.specs.Forwarding.{isFree}
+use Rattle.forwarding.specs.Forwarding.{Spot, IsOn, isFree}
 use Rattle.forwarding.specs.Schedule.{IsSchedule}
 use Rattle.ledger.specs.Lists.{allOf}
-use Rattle.ledger.specs.Sessions.{Session, freeOf, hopOf, hopsOf}
+use Rattle.ledger.specs.Sessions.{Session, freeOf, plain, hopOf, hopsOf}
 use Rattle.ledger.specs.Sound.{goodSession}
 use Rattle.ledger.proofs.Intact.{session-good, intact-is}
 use Rattle.ledger.proofs.Whole.{runs-network}
@@ -34,21 +34,23 @@ one-frame : hopOf shut [] 0 .frames ≡ 1
 unfolding topologyOf firsts
 one-frame = refl
 
-closed : isFree (hopOf shut [] 0) 0 ≡ false
+closed : isFree (hopOf shut [] 0) (plain 0) ≡ false
 unfolding topologyOf firsts isFree freeOf wordOf bitOf
 closed = refl
 
 -- no frame of its link is free
-none-free : (l i : ℕ) → l ≡ 0 → i < hopOf shut [] l .frames → isFree (hopOf shut [] l) i ≡ true → ⊥
-none-free l i e h f =
-    let z : i ≡ 0 = omega (arith, rw e at h, one-frame) in
-    true≢false (sym (rw (e, z) at f) ∙ closed)
+none-free : (l : ℕ) (x : Spot) → l ≡ 0 → IsOn (hopOf shut [] l) x → isFree (hopOf shut [] l) x ≡ true → ⊥
+none-free l x e h f =
+    let z : x .frame ≡ 0 = omega (arith, rw e at (h .0), one-frame) in
+    let c : x .colour ≡ 0 = omega (arith, h .1) in
+    let q : x ≡ plain 0 = ap₂ (λ (a b : ℕ). record { frame = a; colour = b }) z c in
+    true≢false (sym f ∙ ap₂ (λ (m : ℕ) (y : Spot). isFree (hopOf shut [] m) y) e q ∙ closed)
 
 -- no route over it has a schedule
-no-schedule : (route fs : List ℕ) → getD route 0 0 ≡ 0 → IsSchedule (hopsOf shut [] route) fs → ⊥
-no-schedule [] fs e s = s
+no-schedule : (route : List ℕ) (xs : List Spot) → getD route 0 0 ≡ 0 → IsSchedule (hopsOf shut [] route) xs → ⊥
+no-schedule [] xs e s = s
 no-schedule (l ∷ ls) [] e s = s
-no-schedule (l ∷ ls) (i ∷ is) e s = none-free l i e (s .0) (s .1)
+no-schedule (l ∷ ls) (x ∷ xs) e s = none-free l x e (s .0) (s .1)
 
 -- no session keeps the rules on it
 no-session : (ss : List Session) → allOf (goodSession shut) ss ≡ true → ss ≡ []

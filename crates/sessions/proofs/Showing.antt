@@ -2,7 +2,7 @@
 use mathlib.Core.Path.{_≡_, refl, sym, ap, subst, _∙_}
 use mathlib.Core.Bool.{true}
 use mathlib.Core.List.{List}
-use Prim.Native.Nat.{ℕ, _<_, _≤_}
+use Prim.Native.Nat.{ℕ, _*_, _<_, _≤_}
 use native.Mathlib.Omega.{arith}
 use lib.ListN.{length, getD}
 use Rattle.lists.specs.Count.{countBelow}
@@ -94,19 +94,19 @@ module _ (st : State) (ok : intact (viewOf st) ≡ true) where
       pub link-frames : (0 < getD (st .network .links) l noLink .frames) × (getD (st .network .links) l noLink .frames ≤ 64)
       link-frames = frames-bounded (st .network) l h passed
 
-      free-given : freeCount (viewOf st) l ≡ given (freeFrames (linkAt (topologyOf (st .network)) l .frames) (freeOf (topologyOf (st .network)) (liveOf (st .table)) l))
+      free-given : freeCount (viewOf st) l ≡ given (freeFrames (linkAt (topologyOf (st .network)) l .frames) (freeOf (topologyOf (st .network)) (liveOf (st .table)) l 0))
       unfolding freeCount
       free-given = rw (ok, many-links (st .network), known (st .network .count) l l refl h)
 
       pub link-counted : (held : List ℕ) → HeldWords held (liveOf (st .table)) → (count : ℕ)
-          → count ≡ countBelow (getD (st .network .links) l noLink .frames) (freeAt (getD (st .network .links) l noLink .closed) (getD held l 0))
+          → count ≡ countBelow (getD (st .network .links) l noLink .frames) (freeAt (getD (st .network .links) l noLink .closed) (getD held (4 * l) 0))
           → Tallies st l (record { counted = record { verdict = Passed; count = count }; state = st })
       link-counted held w count e =
           record {
             counted = subst (λ (o : Outcome ℕ). Tells countedOf notCounted o (record { verdict = Passed; count = count })) (sym free-given)
                 (ap (λ (n : ℕ). record { verdict = Passed; count = n })
-                (e ∙ sym (free-count (k .frames) (k .closed) (getD held l 0))
-                ∙ ap (λ (x : Hop). freeFrames (x .frames) (x .free)) (hop-held (st .network) held (liveOf (st .table)) l w passed h)));
+                (e ∙ sym (free-count (k .frames) (k .closed) (getD held (4 * l) 0))
+                ∙ ap (λ (x : Hop). freeFrames (x .frames) (getD (x .free) 0 0)) (hop-held (st .network) held (liveOf (st .table)) l w passed h)));
             same = refl;
           }
         where

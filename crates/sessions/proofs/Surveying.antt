@@ -21,7 +21,8 @@ use Rattle.network.specs.declared.Link.{Link}
 use Rattle.network.specs.declared.Network.{Network}
 use Rattle.forwarding.specs.Forwarding.{leastHold, choices}
 use Rattle.forwarding.specs.Ways.{routeWays, openWays}
-use Rattle.forwarding.proofs.Ways.{ways-only, ways-open, ways-most}
+use Rattle.forwarding.proofs.Ways.{ways-only, ways-open}
+use Rattle.forwarding.proofs.Narrow.{ways-one-colour}
 use Rattle.ledger.specs.Sessions.{View, hopOf, hopsOf}
 use Rattle.ledger.specs.Routes.{badLength, unknown, unknownLink, linkTwice, apart, ratesApart, routeCheck}
 use Rattle.ledger.specs.Sound.{intact}
@@ -31,7 +32,7 @@ use Rattle.ledger.specs.Demand.{fresh}
 use Rattle.ledger.proofs.Intact.{intact-is, fresh-intact}
 use Rattle.ledger.proofs.Ways.{ways-zero, ways-refused, ways-given, none-taken-free}
 use Rattle.routes.proofs.Routes.{route-long}
-use Rattle.routes.proofs.Hops.{route-all-ready}
+use Rattle.routes.proofs.Hops.{route-all-ready, one-colour}
 use Rattle.state.specs.declared.State.{State}
 use Rattle.state.specs.declared.Quoted.{Quoted}
 use Rattle.state.specs.State.{viewOf, freshState, notQuoted, Quotes}
@@ -117,7 +118,7 @@ number-open st route r n s e h =
     let v : View = viewOf st in
     g .2
     ∙ ways-open (v .network .ticks) (hopsOf (v .network) (v .live) route)
-    (route-all-ready (v .network) (v .live) route (intact-is v (g .0) .network) (g .1)) (none-taken-free v route h)
+    (route-all-ready (v .network) (v .live) route (intact-is v (g .0) .network) (g .1)) (one-colour (v .network) (v .live) route) (none-taken-free v route h)
 
 -- what no number passes, on every state
 pub ways-bounded : (v : View) (route : List ℕ) (n : ℕ) → waysOf v route ≡ given n → n ≤ 64 ^ 8
@@ -126,8 +127,8 @@ ways-bounded v route n e =
     omega (
       arith,
       g .2,
-      ways-most (v .network .ticks) (hopsOf (v .network) (v .live) route) (omega (arith, length-map route (hopOf (v .network) (v .live)), route-long (v .network) route (g .1) .1))
-          (route-all-ready (v .network) (v .live) route (intact-is v (g .0) .network) (g .1)),
+      ways-one-colour (v .network .ticks) (hopsOf (v .network) (v .live) route) (omega (arith, length-map route (hopOf (v .network) (v .live)), route-long (v .network) route (g .1) .1))
+          (route-all-ready (v .network) (v .live) route (intact-is v (g .0) .network) (g .1)) (one-colour (v .network) (v .live) route),
     )
 
 pub told-bounded : (v : View) (route : List ℕ) (q : Numbered) → Tells numberedOf notNumbered (waysOf v route) q → q .ways ≤ 64 ^ 8
@@ -177,7 +178,7 @@ widest-ways =
     rw (fresh-intact (topologyOf widest) widest-passed, longest-passed)
     (ap given
     (ways-open (topologyOf widest .ticks) (hopsOf (topologyOf widest) [] longest) (route-all-ready (topologyOf widest) [] longest widest-passed longest-passed)
-    (none-taken-free (fresh (topologyOf widest)) longest none-taken)
+    (one-colour (topologyOf widest) [] longest) (none-taken-free (fresh (topologyOf widest)) longest none-taken)
     ∙ all-open))
 
 pub number-reached : NumberReached

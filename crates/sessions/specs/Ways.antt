@@ -11,6 +11,7 @@ use Rattle.refusals.specs.declared.Refusal.the-variants.{NoSchedule}
 use Rattle.refusals.specs.declared.Verdict.the-variants.{Passed, Refused}
 use Rattle.network.specs.declared.Network.{Network}
 use Rattle.forwarding.specs.declared.Hop.{Hop}
+use Rattle.forwarding.specs.Forwarding.{Spot}
 use Rattle.forwarding.specs.Schedule.{IsSchedule}
 use Rattle.forwarding.specs.Ways.{openWays}
 use Rattle.ledger.specs.Sessions.{hopsOf}
@@ -44,7 +45,7 @@ hopsOn st route = hopsOf (viewOf st .network) (viewOf st .live) route
 -- "It is shown against the list of all schedules, each once": EVERY LIST THAT HAS EACH SCHEDULE ONCE AND NOTHING ELSE IS AS LONG AS THE NUMBER GIVEN
 abbrev pub NumberListed : Type 0
 NumberListed = (st : State) (route : List ℕ) (r : Surveyed) (n : ℕ) → Surveys st route r → r .numbered ≡ numberedOf n
-    → (list : List (List ℕ)) → EachOnce list → ((fs : List ℕ) → List·Memᴰ fs list ↔ IsSchedule (hopsOn st route) fs) → length list ≡ n
+    → (list : List (List Spot)) → EachOnce list → ((xs : List Spot) → List·Memᴰ xs list ↔ IsSchedule (hopsOn st route) xs) → length list ≡ n
 
 -- "The count is 0 exactly when a quote is refused as blocked", on the same state over the same route
 abbrev pub NumberZero : Type 0

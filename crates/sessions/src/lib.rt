@@ -239,7 +239,7 @@ pub fn free_frames(st: State, link: u8) -> Tallied
     let of = network.links[at];
     let counted = Counted {
         verdict: Verdict::Passed,
-        count: words::free_frames(of.frames, of.closed, held[at]),
+        count: words::free_frames(of.frames, of.closed, held[4 * at]),
     };
     Tallied { counted, state: st }
 }

@@ -8,7 +8,7 @@ use lib.ListN.{length}
 use lib.Dec.{leb}
 use borrow.Author.Tests.{leb-false}
 use Rattle.places.specs.Places.{firsts}
-use Rattle.places.proofs.Firsts.{firsts-back}
+use Rattle.places.proofs.Firsts.{length-firsts, firsts-back}
 use Rattle.trellis.specs.Answer.{found, nodesOf}
 use Rattle.trellis.specs.Answer as trellis
 use Rattle.refusals.specs.Refusals.{refusalNumber, refusalCount, given, pass, ruling}
@@ -24,8 +24,9 @@ use Rattle.network.specs.declared.Network.{Network}
 use Rattle.forwarding.specs.declared.Delay.{Delay}
 use Rattle.forwarding.specs.declared.Held.{Held}
 use Rattle.forwarding.specs.declared.Hop.{Hop}
-use Rattle.forwarding.specs.Hops.{noHop}
-use Rattle.forwarding.specs.Schedule.{IsSchedule}
+use Rattle.forwarding.specs.Forwarding.{Spot}
+use Rattle.forwarding.specs.Hops.{noHop, blankHop}
+use Rattle.forwarding.specs.Schedule.{framesOf, coloursOf, inColours, IsSchedule}
 use Rattle.forwarding.specs.Cycles.{scheduleCycles}
 use Rattle.forwarding.specs.Route.{routeAnswer}
 use Rattle.forwarding.proofs.Answers.{found-given}
@@ -39,7 +40,7 @@ use Rattle.ledger.specs.Routes.{routeCheck}
 use Rattle.ledger.specs.Sound.{intact}
 use Rattle.ledger.specs.Calls.{Call, SetUp, Quote, Reply, schedule, refusal, replyOf, answerOver, full, callCheck, granted, reply, enters, leaves, effect}
 use Rattle.ledger.proofs.Intact.{intact-is}
-use Rattle.ledger.proofs.Held.{places-over}
+use Rattle.ledger.proofs.Held.{frames-joined, places-over}
 use Rattle.ledger.proofs.Answered.{admitted}
 use Rattle.ledger.proofs.Refused.{not-eighteen}
 use Rattle.ledger.proofs.Scheduled.{scheduled, scheduled-back}
@@ -91,8 +92,15 @@ stored-route number route eight held e few =
 
 -- ---- what a search found over n hops, as an answer
 module _ (T n : ℕ) (hops : List Hop) (f : Finding) (s : Searched T n hops f) where
-  told : (x : Found) → f .found ≡ x → routeAnswer T hops ≡ reading n x (f .count) (f .frames)
-  told x e = sym (s .answer) ∙ ap (λ (y : Found). reading n y (f .count) (f .frames)) e
+  told : (x : Found) → f .found ≡ x → routeAnswer T hops ≡ reading n x (f .count) (f .frames) (f .colours)
+  told x e = sym (s .answer) ∙ ap (λ (y : Found). reading n y (f .count) (f .frames) (f .colours)) e
+
+  -- the frames found, in their colours
+  abbrev pub foundSpots : List Spot
+  foundSpots = inColours (firsts n (f .frames) 0) (firsts n (f .colours) 0)
+
+  pub found-frames : framesOf foundSpots ≡ firsts n (f .frames) 0
+  found-frames = frames-joined (firsts n (f .frames) 0) (firsts n (f .colours) 0) (length-firsts n (f .frames) 0 ∙ sym (length-firsts n (f .colours) 0))
 
   -- 18, with the count
   module _ (e : f .found ≡ result.Blocked) where
@@ -104,19 +112,21 @@ module _ (T n : ℕ) (hops : List Hop) (f : Finding) (s : Searched T n hops f) w
 
   -- a schedule: what it holds, and that in eight places
   module _ (d : Delay) (e : f .found ≡ result.Schedule d) where
-    pub schedule-found : IsSchedule hops (firsts n (f .frames) 0)
-    schedule-found = found-given T hops (d .0) (f .count) (firsts n (f .frames) 0) (told (result.Schedule d) e) .schedule
+    pub schedule-found : IsSchedule hops foundSpots
+    schedule-found = found-given T hops (d .0) (f .count) foundSpots (told (result.Schedule d) e) .schedule
 
     abbrev pub foundHeld : Holding
-    foundHeld = heldOver hops (d .0) (firsts n (f .frames) 0)
+    foundHeld = heldOver hops (d .0) foundSpots
 
     pub held-found : answerOver T hops ≡ schedule foundHeld (f .count)
     held-found = ap (replyOf hops) (told (result.Schedule d) e)
 
     pub found-places : foundPlaces hops n f d ≡ heldPlaces foundHeld
     found-places =
-        places-over hops d (firsts n (f .frames) 0) (f .frames) (firsts 8 (scheduleCycles hops (firsts n (f .frames) 0)) 0)
-        (s .places ∙ ap (λ (a : trellis.Answer). firsts 8 (nodesOf a) 0) (told (result.Schedule d) e)) refl
+        places-over hops d foundSpots (f .frames) (firsts 8 (scheduleCycles hops (firsts n (f .frames) 0)) 0) (f .colours)
+        (s .places ∙ ap (λ (a : trellis.Answer Spot). firsts 8 (framesOf (nodesOf a)) 0) (told (result.Schedule d) e))
+        (ap (λ (fs : List ℕ). firsts 8 (scheduleCycles hops fs) 0) (sym found-frames))
+        (s .colour-places ∙ ap (λ (a : trellis.Answer Spot). firsts 8 (coloursOf (nodesOf a)) 0) (told (result.Schedule d) e))
 
     pub quotes-found : (q : Quoted) → q ≡ foundQuoted hops n f d → Quotes (answerOver T hops) q
     quotes-found q e =
@@ -148,7 +158,7 @@ module _ (st : State) (ok : intact (viewOf st) ≡ true) where
 
   -- answered over the route's hops in eight places
   pub quote-quotes : (route : List ℕ) (checked : routeCheck (topologyOf (st .network)) route ≡ given pass) (eight : List Hop)
-      → eight ≡ firsts 8 (hopsOf (topologyOf (st .network)) (liveOf (st .table)) route) noHop → (q : Quoted)
+      → eight ≡ firsts 8 (hopsOf (topologyOf (st .network)) (liveOf (st .table)) route) blankHop → (q : Quoted)
       → Quotes (answerOver (st .network .ticks) (firsts (length route) eight noHop)) q → Quotes (reply (viewOf st) (Quote route)) q
   quote-quotes route checked eight e q w =
       subst (λ (x : Reply). Quotes x q) (sym (quote-granted route checked))
@@ -172,7 +182,7 @@ module _ (st : State) (ok : intact (viewOf st) ≡ true) where
     route-passed = admitted net ss n route passed .passed
 
     -- what the search of its hops in eight places found
-    module _ (eight : List Hop) (e8 : eight ≡ firsts 8 (hopsOf net ss route) noHop) (f : Finding) (finds : Finds (st .network .ticks) eight (length route) f) where
+    module _ (eight : List Hop) (e8 : eight ≡ firsts 8 (hopsOf net ss route) blankHop) (f : Finding) (finds : Finds (st .network .ticks) eight (length route) f) where
       checked : networkCheck net ≡ given pass
       checked = intact-is (viewOf st) ok .network
 
@@ -184,8 +194,9 @@ module _ (st : State) (ok : intact (viewOf st) ≡ true) where
 
       pub set-up-laid : (d : Delay) → f .found ≡ result.Schedule d → FramesLaid eight (f .frames) (length route)
       set-up-laid d e =
-          schedule-laid (st .network .ticks) (length route) eight (f .frames) (hops-ready (st .network) ss route checked route-passed eight e8)
-          (subst (λ (hops : List Hop). IsSchedule hops (firsts (length route) (f .frames) 0)) (sym back) (schedule-found (net .ticks) (length route) (hopsOf net ss route) f s d e))
+          schedule-laid (st .network .ticks) (length route) eight (f .frames) (foundSpots (net .ticks) (length route) (hopsOf net ss route) f s) (hops-ready (st .network) ss route checked route-passed eight e8)
+          (found-frames (net .ticks) (length route) (hopsOf net ss route) f s)
+          (subst (λ (hops : List Hop). IsSchedule hops (foundSpots (net .ticks) (length route) (hopsOf net ss route) f s)) (sym back) (schedule-found (net .ticks) (length route) (hopsOf net ss route) f s d e))
 
       -- 18 leaves the very same state
       pub set-up-blocked : f .found ≡ result.Blocked → (q : Quoted) → q ≡ notQuoted (NoSchedule (f .count)) → Serves st (SetUp n route) (record { answer = q; state = st })

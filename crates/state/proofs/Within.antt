@@ -12,12 +12,17 @@ use Rattle.network.specs.Network.{Topology, topologyOf}
 use Rattle.network.specs.Checks.{networkCheck}
 use Rattle.network.proofs.Tests.{count-passed, frames-passed}
 use Rattle.network.proofs.Checks.{network-good}
-use Rattle.forwarding.proofs.Schedules.{schedule-frame}
+use Rattle.forwarding.specs.declared.Hop.{Hop}
+use Rattle.forwarding.specs.Forwarding.{Spot}
+use Rattle.forwarding.specs.Hops.{noHop}
+use Rattle.forwarding.specs.Schedule.{coloursOf, IsSchedule}
+use Rattle.forwarding.proofs.Schedules.{schedule-frame, noSpot, schedule-on}
 use Rattle.ledger.specs.Lists.{allOf}
+use Rattle.ledger.specs.Held.{spotsIn}
 use Rattle.ledger.specs.Sessions.{Session, linkAt, hopOf, hopsOf}
 use Rattle.ledger.specs.Sound.{goodSession, intact}
 use Rattle.ledger.proofs.Lists.{all-member, member-at}
-use Rattle.ledger.proofs.Intact.{Intact, intact-is, GoodSession, session-good, on-frames}
+use Rattle.ledger.proofs.Intact.{Intact, intact-is, GoodSession, session-good, good-frames, good-colours}
 use Rattle.routes.proofs.Links.{link-passed}
 use Rattle.routes.proofs.Hops.{map-place}
 use Rattle.routes.proofs.Routes.{route-long, route-known}
@@ -29,6 +34,10 @@ use Rattle.table.proofs.Live.{in-length}
 use Rattle.state.specs.declared.State.{State}
 use Rattle.state.specs.State.{viewOf}
 
+-- the colours of a schedule are those of its hops
+schedule-colour : (hops : List Hop) (xs : List Spot) → IsSchedule hops xs → (j : ℕ) → j < length hops → getD (coloursOf xs) j 0 < getD hops j noHop .colours
+schedule-colour hops xs s j l = rw (← List·getD-map (λ (x : Spot). x .colour) xs j noSpot) at (schedule-on hops xs s j l .1)
+
 -- a good session keeps within the arrays
 module _ (net : Topology) (passed : networkCheck net ≡ given pass) where
   pub good-within : (place : Place) → GoodSession net (sessionOf place) → PlaceWithin place
@@ -38,8 +47,11 @@ module _ (net : Topology) (passed : networkCheck net ≡ given pass) where
         link = λ j h. omega (arith, known j h, count-passed (length (net .links)) (network-good net passed .count) .1, at-route j h);
         frame = λ j h.
             let f = frames-passed (net .ticks) (linkAt net (getD (sessionOf place .route) j 0) .frames) (link-passed net (getD (sessionOf place .route) j 0) passed (known j h) .frames) in
-            let of = schedule-frame (hopsOf net [] (sessionOf place .route)) (sessionOf place .held .frames) (on-frames net (sessionOf place) g) j (rw (length-map (sessionOf place .route) (hopOf net [])) (inside j h)) in
-            omega (arith, rw (map-place (hopOf net []) (sessionOf place .route) j (inside j h)) at of, f .1, getD-firsts (place .hops) j (place .held .frames) 0 h);
+            let of = schedule-frame (hopsOf net [] (sessionOf place .route)) (spotsIn (sessionOf place .held)) (g .schedule) j (rw (length-map (sessionOf place .route) (hopOf net [])) (inside j h)) in
+            omega (arith, rw (map-place (hopOf net []) (sessionOf place .route) j (inside j h)) at of, f .1, ap (λ (l : List ℕ). getD l j 0) (good-frames net (sessionOf place) g), getD-firsts (place .hops) j (place .held .frames) 0 h);
+        colour = λ j h.
+            let of = schedule-colour (hopsOf net [] (sessionOf place .route)) (spotsIn (sessionOf place .held)) (g .schedule) j (rw (length-map (sessionOf place .route) (hopOf net [])) (inside j h)) in
+            omega (arith, rw (map-place (hopOf net []) (sessionOf place .route) j (inside j h)) at of, ap (λ (l : List ℕ). getD l j 0) (good-colours net (sessionOf place) g), getD-firsts (place .hops) j (place .held .colours) 0 h);
       }
     where
       inside : (j : ℕ) → j < place .hops → j < length (sessionOf place .route)

@@ -10,9 +10,9 @@ use Rattle.forwarding.specs.Cycles.{scheduleCycles}
 use Rattle.search.specs.declared.Finding.{Finding}
 use Rattle.state.specs.declared.Quoted.{Quoted}
 
--- what a search found over n hops, in eight places: its frames with their cycles, and the delay
+-- what a search found over n hops, in eight places: its frames with their cycles and colours, and the delay
 abbrev pub foundPlaces : List Hop → ℕ → Finding → Delay → Held
-foundPlaces hops n f d = record { frames = f .frames; cycles = firsts 8 (scheduleCycles hops (firsts n (f .frames) 0)) 0; delay = d }
+foundPlaces hops n f d = record { frames = f .frames; cycles = firsts 8 (scheduleCycles hops (firsts n (f .frames) 0)) 0; delay = d; colours = f .colours }
 
 -- the answer that gives it
 abbrev pub foundQuoted : List Hop → ℕ → Finding → Delay → Quoted

@@ -19,7 +19,7 @@ ghost use Rattle.places.specs.Places.{firsts};
 ghost use Rattle.refusals.specs.Refusals.{given, pass, ruling};
 ghost use Rattle.network.specs.Network.{topologyOf};
 ghost use Rattle.network.specs.Checks.{networkCheck};
-ghost use Rattle.forwarding.specs.Hops.{noHop, Ready};
+ghost use Rattle.forwarding.specs.Hops.{noHop, blankHop, Ready};
 ghost use Rattle.ledger.specs.Held.{holdingOf};
 ghost use Rattle.ledger.specs.Sessions.{isLive, hopsOf};
 ghost use Rattle.ledger.specs.Routes.{routeCheck};
@@ -100,7 +100,7 @@ pub fn refused(refusal: Refusal) -> Quoted
 // The hops of a route that passed its checks, over the frames now free.
 pub fn free_hops(network: Network, table: Table, route: &[u8]) -> [Hop; 8]
     requires { ⌜ (networkCheck (topologyOf network) ≡ given pass) × (routeCheck (topologyOf network) (now route) ≡ given pass) × AllWithin table ⌝ }
-    ensures { λ r. ⌜ r ≡ firsts 8 (hopsOf (topologyOf network) (liveOf table) (now (route .entry))) noHop ⌝ }
+    ensures { λ r. ⌜ r ≡ firsts 8 (hopsOf (topologyOf network) (liveOf table) (now (route .entry))) blankHop ⌝ }
 {
     let held = table::held_words(table);
     routes::route_hops(network, &held, route)
@@ -113,10 +113,12 @@ fn scheduled(hops: [Hop; 8], n: usize, finding: Finding, delay: Delay) -> Quoted
 {
     let frames = finding.frames;
     let cycles = routes::cycles(hops, frames, n);
+    let colours = finding.colours;
     let held = Held {
         frames,
         cycles,
         delay,
+        colours,
     };
     Quoted {
         verdict: Verdict::Passed,

@@ -20,17 +20,19 @@ use Rattle.network.specs.Checks.{networkCheck}
 use Rattle.network.specs.declared.Network.{Network}
 use Rattle.forwarding.specs.declared.Hop.{Hop}
 use Rattle.forwarding.specs.declared.Delay.{Delay}
-use Rattle.forwarding.specs.Hops.{noHop, Ready}
-use Rattle.forwarding.specs.Schedule.{IsSchedule, isSchedule, scheduleDelay}
+use Rattle.forwarding.specs.Forwarding.{Spot}
+use Rattle.forwarding.specs.Hops.{noHop, blankHop, Ready}
+use Rattle.forwarding.specs.Schedule.{framesOf, inColours, IsSchedule, isSchedule, scheduleDelay}
 use Rattle.forwarding.specs.Cycles.{scheduleCycles}
 use Rattle.forwarding.proofs.Schedules.{told-schedule}
 use Rattle.forwarding.proofs.Cycles.{cycle-per-hop}
 use Rattle.ledger.specs.Lists.{allOf, sameList}
+use Rattle.ledger.specs.Held.{spotsIn}
 use Rattle.ledger.specs.Sessions.{hopsOf}
 use Rattle.ledger.specs.Inner.{HeldWords}
 use Rattle.ledger.specs.Routes.{badLength, routeCheck}
 use Rattle.ledger.specs.Sound.{goodHeld, goodSession}
-use Rattle.ledger.proofs.Held.{frames-in, same-held}
+use Rattle.ledger.proofs.Held.{frames-joined, same-held}
 use Rattle.routes.specs.Hops.{hopsFrom, delayIf, walkedDelay}
 use Rattle.routes.specs.Inner.{FramesLaid}
 use Rattle.routes.proofs.HopCycles.{schedule-laid}
@@ -48,8 +50,8 @@ not-passed tag h Passed e = absurd (omega (arith, h, e))
 not-passed tag h (Refused r) e = (r, refl)
 
 -- words in which nothing is held
-pub none-held : HeldWords (replicate 32 0) []
-none-held = words-none 32
+pub none-held : HeldWords (replicate 128 0) []
+none-held = words-none 128
 
 module _ (network : Network) (place : Place) where
   -- 12 refuses a route of more than 8 links
@@ -77,13 +79,13 @@ module _ (network : Network) (place : Place) where
         route-stands = sym ev ∙ ap ruling e
 
         module _ (passed : networkCheck (topologyOf network) ≡ given pass) (laid : List Hop)
-            (el : laid ≡ firsts 8 (hopsFrom (network .links) (replicate 32 0) (take (place .hops) (place .route))) noHop) where
+            (el : laid ≡ firsts 8 (hopsFrom (network .links) (replicate 128 0) (take (place .hops) (place .route))) blankHop) where
           taken : List ℕ
           taken = take (place .hops) (place .route)
 
-          eight : laid ≡ firsts 8 (hopsOf (topologyOf network) [] taken) noHop
+          eight : laid ≡ firsts 8 (hopsOf (topologyOf network) [] taken) blankHop
           unfolding taken
-          eight = hops-eight network [] taken passed route-stands (replicate 32 0) none-held laid el
+          eight = hops-eight network [] taken passed route-stands (replicate 128 0) none-held laid el
 
           pub walk-ready : Ready (network .ticks) laid (place .hops)
           unfolding taken
@@ -94,23 +96,33 @@ module _ (network : Network) (place : Place) where
           walked-hops =
               ap (λ (n : ℕ). firsts n laid noHop) taken-length ∙ hops-back network [] taken passed route-stands laid eight ∙ ap (hopsOf (topologyOf network) []) same-route
 
-          -- what a walk over the session's frames tells of it
-          module _ (w : Walked) (ew : walkedDelay w ≡ delayIf (network .ticks) (firsts (place .hops) laid noHop) (firsts (place .hops) (place .held .frames) 0)) where
+          -- the session's frames in their colours
+          abbrev spots : List Spot
+          spots = inColours (firsts (place .hops) (place .held .frames) 0) (firsts (place .hops) (place .held .colours) 0)
+
+          as-many : length (firsts (place .hops) (place .held .frames) 0) ≡ length (firsts (place .hops) (place .held .colours) 0)
+          as-many = length-firsts (place .hops) (place .held .frames) 0 ∙ sym (length-firsts (place .hops) (place .held .colours) 0)
+
+          spot-frames : framesOf spots ≡ firsts (place .hops) (place .held .frames) 0
+          spot-frames = frames-joined (firsts (place .hops) (place .held .frames) 0) (firsts (place .hops) (place .held .colours) 0) as-many
+
+          -- what a walk over them tells of it
+          module _ (w : Walked) (ew : walkedDelay w ≡ delayIf (network .ticks) (firsts (place .hops) laid noHop) spots) where
             hops : List Hop
             hops = hopsOf (topologyOf network) [] (sessionOf place .route)
 
-            walked-told : walkedDelay w ≡ delayIf (topologyOf network .ticks) hops (sessionOf place .held .frames)
-            unfolding hops
+            walked-told : walkedDelay w ≡ delayIf (topologyOf network .ticks) hops (spotsIn (sessionOf place .held))
+            unfolding hops spotsIn
             walked-told =
                 ew
-                ∙ ap (λ (T : ℕ). delayIf T (firsts (place .hops) laid noHop) (firsts (place .hops) (place .held .frames) 0)) (sym (ticks-told network))
-                ∙ ap (λ (hs : List Hop). delayIf (topologyOf network .ticks) hs (firsts (place .hops) (place .held .frames) 0)) walked-hops
+                ∙ ap (λ (T : ℕ). delayIf T (firsts (place .hops) laid noHop) spots) (sym (ticks-told network))
+                ∙ ap (λ (hs : List Hop). delayIf (topologyOf network .ticks) hs spots) walked-hops
 
             is-schedule : Bool
-            is-schedule = isSchedule hops (sessionOf place .held .frames)
+            is-schedule = isSchedule hops (spotsIn (sessionOf place .held))
 
             its-delay : ℕ
-            its-delay = scheduleDelay (topologyOf network .ticks) hops (sessionOf place .held .frames)
+            its-delay = scheduleDelay (topologyOf network .ticks) hops (spotsIn (sessionOf place .held))
 
             -- whether the stored cycles are those of the frames
             same-cycles : Bool
@@ -119,26 +131,24 @@ module _ (network : Network) (place : Place) where
             -- where the route stands, a session is good exactly when what it holds is
             by-walk : goodSession (topologyOf network) (sessionOf place) ≡ (is-schedule && (same-cycles && eqb (place .held .delay .0) its-delay))
             unfolding goodSession goodHeld is-schedule its-delay same-cycles hops
-            by-walk = rw (told (given pass) (ap ruling e), same-held hops (sessionOf place .held) _, frames-in hops (sessionOf place .held))
+            by-walk = rw (told (given pass) (ap ruling e), same-held hops (sessionOf place .held) its-delay as-many)
 
             module _ (d : Delay) (q : w ≡ Delayed d) where
               walked-fits : (is-schedule ≡ true) × (its-delay ≡ d .0)
               unfolding is-schedule its-delay
-              walked-fits = fits (isSchedule hops (sessionOf place .held .frames)) (scheduleDelay (topologyOf network .ticks) hops (sessionOf place .held .frames)) (sym walked-told ∙ ap walkedDelay q)
+              walked-fits = fits (isSchedule hops (spotsIn (sessionOf place .held))) (scheduleDelay (topologyOf network .ticks) hops (spotsIn (sessionOf place .held))) (sym walked-told ∙ ap walkedDelay q)
                 where
                   fits : (b : Bool) (x : ℕ) → cond b (some x) none ≡ some (d .0) → (b ≡ true) × (x ≡ d .0)
                   fits true x k = (refl, cc)
                   fits false x k = (cc, cc)
 
               -- the frames are a schedule over the hops in eight places
-              schedule : IsSchedule (firsts (place .hops) laid noHop) (firsts (place .hops) (place .held .frames) 0)
-              unfolding is-schedule hops
-              schedule =
-                  subst (λ (hs : List Hop). IsSchedule hs (firsts (place .hops) (place .held .frames) 0)) (sym walked-hops)
-                  (told-schedule hops (sessionOf place .held .frames) (walked-fits .0))
+              schedule : IsSchedule (firsts (place .hops) laid noHop) spots
+              unfolding is-schedule hops spotsIn
+              schedule = subst (λ (hs : List Hop). IsSchedule hs spots) (sym walked-hops) (told-schedule hops (spotsIn (sessionOf place .held)) (walked-fits .0))
 
               pub walked-laid : FramesLaid laid (place .held .frames) (place .hops)
-              walked-laid = schedule-laid (network .ticks) (place .hops) laid (place .held .frames) walk-ready schedule
+              walked-laid = schedule-laid (network .ticks) (place .hops) laid (place .held .frames) spots walk-ready spot-frames schedule
 
               -- and the first of the cycles are the schedule's
               pub session-walked : (cycles : List ℕ) → cycles ≡ firsts 8 (scheduleCycles (firsts (place .hops) laid noHop) (firsts (place .hops) (place .held .frames) 0)) 0 → (b : Bool)
@@ -153,7 +163,7 @@ module _ (network : Network) (place : Place) where
                       → firsts (place .hops) cycles 0 ≡ scheduleCycles (firsts (place .hops) laid noHop) (firsts (place .hops) (place .held .frames) 0)
                   cycles-back cycles ec =
                       let xs : List ℕ = scheduleCycles (firsts (place .hops) laid noHop) (firsts (place .hops) (place .held .frames) 0) in
-                      let many : length xs ≡ place .hops = cycle-per-hop (firsts (place .hops) laid noHop) (firsts (place .hops) (place .held .frames) 0) schedule ∙ length-firsts (place .hops) laid noHop in
+                      let many : length xs ≡ place .hops = ap (λ (fs : List ℕ). length (scheduleCycles (firsts (place .hops) laid noHop) fs)) (sym spot-frames) ∙ cycle-per-hop (firsts (place .hops) laid noHop) spots schedule ∙ length-firsts (place .hops) laid noHop in
                       ap (λ (l : List ℕ). firsts (place .hops) l 0) ec ∙ so-many-back 8 (place .hops) xs 0 many few
 
             pub session-unfit : w ≡ Unfit → false ≡ goodSession (topologyOf network) (sessionOf place)

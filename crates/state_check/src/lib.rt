@@ -35,7 +35,7 @@ fn same_places(one: [u8; 8], other: [u8; 8], n: usize) -> bool
     true
 }
 
-// Whether these cycles and this delay are held: what is stored beside the frames, by the rule that gives it.
+// Whether these cycles and this delay are held: what is stored beside the frames and their colours, by the rule that gives it.
 fn same_held(held: Held, cycles: [u8; 8], delay: Delay, n: usize) -> bool
     requires { ⌜ n ≤ 8 ⌝ }
     ensures { λ r. ⌜ r ≡ (sameList eqb (firsts n (held .cycles) 0) (firsts n cycles 0) && eqb (held .delay .0) (delay .0)) ⌝ }
@@ -44,7 +44,7 @@ fn same_held(held: Held, cycles: [u8; 8], delay: Delay, n: usize) -> bool
     same_places(stored, cycles, n) && held.delay.0 == delay.0
 }
 
-// Whether a session's route passes 12 to 15, its frames are a schedule over unclosed frames, and what it holds is what that schedule holds.
+// Whether a session's route passes 12 to 15, its frames in their colours are a schedule over unclosed frames, and what it holds is what that schedule holds.
 fn good_session(network: Network, place: Place) -> bool
     requires { ⌜ networkCheck (topologyOf network) ≡ given pass ⌝ }
     ensures { λ r. ⌜ r ≡ goodSession (topologyOf network) (sessionOf place) ⌝ }
@@ -58,11 +58,12 @@ fn good_session(network: Network, place: Place) -> bool
         Verdict::Refused(_) => return false,
         Verdict::Passed => {}
     }
-    let held = [0u64; 32];
+    let held = [0u64; 128];
     let laid = routes::route_hops(network, &held, &route[..hops]);
     let stored = place.held;
     let frames = stored.frames;
-    match routes::walk(network.ticks, laid, frames, hops) {
+    let colours = stored.colours;
+    match routes::walk(network.ticks, laid, frames, colours, hops) {
         Walked::Delayed(delay) => {
             let cycles = routes::cycles(laid, frames, hops);
             same_held(stored, cycles, delay, hops)

@@ -15,7 +15,7 @@ sessionOf p = record { number = p .number; route = firsts (p .hops) (p .route) 0
 
 -- what stands in no place of a table
 abbrev pub noPlace : Place
-noPlace = record { number = 0; hops = 0; route = []; held = record { frames = []; cycles = []; delay = record { 0 = 0 } } }
+noPlace = record { number = 0; hops = 0; route = []; held = record { frames = []; cycles = []; delay = record { 0 = 0 }; colours = [] } }
 
 -- the sessions in the first n places
 abbrev pub inPlaces : ℕ → List Place → List Session

@@ -1,12 +1,12 @@
 // The live sessions as they are stored: a table of 96 places, the first of them used, in the order of set-up.
-// What gives each `requires`: check 0, that at most 96 sessions are live (`place_of`, `without`, `number_twice`, `among`) and that the links and frames of each are
+// What gives each `requires`: check 0, that at most 96 sessions are live (`place_of`, `without`, `number_twice`, `among`) and that the links, frames and colours of each are
 // within the arrays (`held_words`, `frame_twice` and what these call); check 17, that a place is left (`with_place`); check 12, that a route has at most 8
 // links, and check 0 that a stored one has (`in_eight`, `cleared`).
 use forwarding::Delay;
 use forwarding::Held;
 ghost use mathlib.Core.Path.{_≡_};
 ghost use mathlib.Core.List.{[], _∷_, _++_};
-ghost use Prim.Native.Nat.{_<_, _≤_};
+ghost use Prim.Native.Nat.{_+_, _*_, _<_, _≤_};
 ghost use lib.ListN.{length};
 ghost use lib.Dec.{eqb};
 ghost use Rattle.places.specs.Places.{firsts};
@@ -20,7 +20,7 @@ ghost use Rattle.table.specs.Table.{sessionOf, liveOf, placeOf};
 ghost use Rattle.table.specs.Inner.{Within, PlaceWithin, AllWithin, Marked, markedIn};
 
 // A session as it is stored ("Calls on sessions"; W-205: "A session stores 32 bits"): how many hops it has, their links, hop 0 first, its number, and what it
-// holds. In this order a place has 40 bytes and no gap between its fields.
+// holds. In this order a place has 48 bytes, of which two at its end are unused.
 pub struct Place {
     pub hops: usize,
     pub route: [u8; 8],
@@ -84,37 +84,46 @@ pub fn without(table: Table, number: u32) -> Table
     next
 }
 
-// Marks a frame of each of so many links in the words of held frames.
-fn mark(words: &mut [u64; 32], hops: usize, route: [u8; 8], frames: [u8; 8])
-    requires { ⌜ (length (now words) ≡ 32) × Within hops route frames ⌝ }
-    ensures { λ r. ⌜ Marked (slotsAt (firsts hops route 0) (firsts hops frames 0)) (now (words .entry)) (now (words .exit)) ⌝ }
+// The place of the word of a link's frames in a colour.
+pub fn bank(link: u8, colour: u8) -> usize
+    requires { ⌜ (link < 32) × (colour < 4) ⌝ }
+    ensures { λ r. ⌜ r ≡ 4 * link + colour ⌝ }
+{
+    4 * places::index(link) + places::index(colour)
+}
+
+// Marks a frame of each of so many links, in its colour, in the words of held frames.
+fn mark(words: &mut [u64; 128], hops: usize, route: [u8; 8], frames: [u8; 8], colours: [u8; 8])
+    requires { ⌜ (length (now words) ≡ 128) × Within hops route frames colours ⌝ }
+    ensures { λ r. ⌜ Marked (slotsAt (firsts hops route 0) (firsts hops frames 0) (firsts hops colours 0)) (now (words .entry)) (now (words .exit)) ⌝ }
 {
     let mut j: usize = 0;
     while j < hops {
-        let link = route[j] as usize;
-        words[link] = words::set_bit(words[link], frames[j] as u16);
+        let at = bank(route[j], colours[j]);
+        words[at] = words::set_bit(words[at], frames[j] as u16);
         j += 1;
     }
 }
 
 // Marks what a session holds.
-fn mark_place(words: &mut [u64; 32], place: Place)
-    requires { ⌜ (length (now words) ≡ 32) × PlaceWithin place ⌝ }
+fn mark_place(words: &mut [u64; 128], place: Place)
+    requires { ⌜ (length (now words) ≡ 128) × PlaceWithin place ⌝ }
     ensures { λ r. ⌜ Marked (slotsOf (sessionOf place)) (now (words .entry)) (now (words .exit)) ⌝ }
 {
     let route = place.route;
     let held = place.held;
     let frames = held.frames;
-    mark(words, place.hops, route, frames);
+    let colours = held.colours;
+    mark(words, place.hops, route, frames, colours);
 }
 
-// The words of held frames of all links.
-pub fn held_words(table: Table) -> [u64; 32]
+// The words of held frames of all links, one for each colour of a link.
+pub fn held_words(table: Table) -> [u64; 128]
     requires { ⌜ AllWithin table ⌝ }
     ensures { λ r. ⌜ HeldWords r (liveOf table) ⌝ }
 {
     let live = table.live;
-    let mut words = [0u64; 32];
+    let mut words = [0u64; 128];
     let mut i: usize = 0;
     while i < live {
         let place = table.places[i];
@@ -124,15 +133,21 @@ pub fn held_words(table: Table) -> [u64; 32]
     words
 }
 
-// Whether a frame of one of so many links is marked.
-fn meets_any(words: &[u64; 32], hops: usize, route: [u8; 8], frames: [u8; 8]) -> bool
-    requires { ⌜ Within hops route frames ⌝ }
-    ensures { λ r. ⌜ r ≡ anyOf (markedIn (now (words .entry))) (slotsAt (firsts hops route 0) (firsts hops frames 0)) ⌝ }
+// Whether a frame of one of so many links is marked in its colour.
+fn meets_any(
+    words: &[u64; 128],
+    hops: usize,
+    route: [u8; 8],
+    frames: [u8; 8],
+    colours: [u8; 8],
+) -> bool
+    requires { ⌜ Within hops route frames colours ⌝ }
+    ensures { λ r. ⌜ r ≡ anyOf (markedIn (now (words .entry))) (slotsAt (firsts hops route 0) (firsts hops frames 0) (firsts hops colours 0)) ⌝ }
 {
     let mut j: usize = 0;
     while j < hops {
-        let link = route[j] as usize;
-        if words::has_bit(words[link], frames[j] as u16) {
+        let at = bank(route[j], colours[j]);
+        if words::has_bit(words[at], frames[j] as u16) {
             return true;
         }
         j += 1;
@@ -141,14 +156,15 @@ fn meets_any(words: &[u64; 32], hops: usize, route: [u8; 8], frames: [u8; 8]) ->
 }
 
 // Whether some of what a session holds is marked.
-fn meets(words: &[u64; 32], place: Place) -> bool
+fn meets(words: &[u64; 128], place: Place) -> bool
     requires { ⌜ PlaceWithin place ⌝ }
     ensures { λ r. ⌜ r ≡ anyOf (markedIn (now (words .entry))) (slotsOf (sessionOf place)) ⌝ }
 {
     let route = place.route;
     let held = place.held;
     let frames = held.frames;
-    meets_any(words, place.hops, route, frames)
+    let colours = held.colours;
+    meets_any(words, place.hops, route, frames, colours)
 }
 
 // Whether two sessions hold one frame.
@@ -157,7 +173,7 @@ pub fn frame_twice(table: Table) -> bool
     ensures { λ r. ⌜ r ≡ frameTwice (liveOf table) ⌝ }
 {
     let live = table.live;
-    let mut marks = [0u64; 32];
+    let mut marks = [0u64; 128];
     let mut i: usize = 0;
     while i < live {
         let place = table.places[i];
@@ -204,7 +220,7 @@ pub fn number_twice(table: Table) -> bool
     false
 }
 
-// A route, or the frames or cycles of its hops, in eight places, the others 0.
+// A route, or the frames, cycles or colours of its hops, in eight places, the others 0.
 pub fn in_eight(route: &[u8]) -> [u8; 8]
     requires { ⌜ length (now route) ≤ 8 ⌝ }
     ensures { λ r. ⌜ r ≡ firsts 8 (now (route .entry)) 0 ⌝ }
@@ -228,10 +244,13 @@ pub fn cleared(held: Held, n: usize) -> Held
     let every = held.cycles;
     let cycles = in_eight(&every[..n]);
     let delay = held.delay;
+    let tints = held.colours;
+    let colours = in_eight(&tints[..n]);
     Held {
         frames,
         cycles,
         delay,
+        colours,
     }
 }
 
@@ -243,5 +262,6 @@ pub fn nothing_held() -> Held
         frames: [0u8; 8],
         cycles: [0u8; 8],
         delay: Delay(0),
+        colours: [0u8; 8],
     }
 }

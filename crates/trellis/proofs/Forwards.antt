@@ -1,5 +1,5 @@
 -- A path is a path so far, gone on with; and what the answer is in the words of `ArePaths`. Assumes nothing.
-use mathlib.Core.Path.{_≡_, refl, sym, _∙_, ap, ap₂}
+use mathlib.Core.Path.{_≡_, refl, sym, _∙_, ap, ap₂, subst}
 use mathlib.Core.Bool.{true}
 use mathlib.Core.List.{List, [], _∷_, _++_, append-assoc, reverse, reverseAux, reverse-reverse}
 use Prim.Native.Nat.{ℕ, _+_, _<_}
@@ -7,7 +7,7 @@ use native.Mathlib.Omega.{arith}
 use Rattle.lists.specs.Order.{Precedes}
 use Rattle.trellis.specs.Trellis.{Reach, after, Stage, Trellis, entry, _▸_, grow, Leads, costTo, behind, IsPath, pathCost, pathKey, Least}
 use Rattle.trellis.specs.Considered.{considered}
-use Rattle.trellis.specs.Answer.{Answer, found, blocked, answer, IsAnswer}
+use Rattle.trellis.specs.Answer.{Answer, found, blocked, renamed, answer, IsAnswer}
 use Rattle.trellis.specs.Forwards.{ArePaths}
 use Rattle.trellis.proofs.Only.{answer-only}
 use Rattle.trellis.proofs.Least.{answer-right}
@@ -90,44 +90,51 @@ from-start n s sts q h = let c : Cut (entry n s) sts q = cut (entry n s) sts q h
     go (j ∷ p) c e l = absurd l
 
 -- ---- what the answer is in other words that are the paths
-module _ (t : Trellis) (S : List ℕ → Type 0) (cost : List ℕ → ℕ) (key : List ℕ → List ℕ) (r : ArePaths t S cost key) where
+module _ (A : Type 0) (t : Trellis) (S : List A → Type 0) (nodes : List A → List ℕ) (named : List ℕ → List A) (cost : List A → ℕ) (key : List A → List ℕ) (r : ArePaths A t S nodes named cost key) where
   -- one that S is of, and none comes before it
-  abbrev pub First : List ℕ → Type 0
-  First w = S w × ((v : List ℕ) → S v → Precedes (key w) (key v))
+  abbrev pub First : List A → Type 0
+  First w = S w × ((v : List A) → S v → Precedes (key w) (key v))
 
-  abbrev pub Says : Answer → Type 0
+  abbrev pub Says : Answer A → Type 0
   Says (found c m w) = First w × (cost w ≡ c) × (m ≡ considered t)
-  Says (blocked m) = ((w : List ℕ) → S w → ⊥) × (m ≡ considered t)
+  Says (blocked m) = ((w : List A) → S w → ⊥) × (m ≡ considered t)
 
-  is-one : (w : List ℕ) → IsPath t (reverse w) → S w
-  is-one w h = rw (reverse-reverse w) at (r .read (reverse w) h)
+  is-one : (w : List ℕ) → IsPath t (reverse w) → S (named w) × (nodes (named w) ≡ w)
+  is-one w h = subst (λ (x : List ℕ). S (named x) × (nodes (named x) ≡ x)) (reverse-reverse w) (r .read (reverse w) h, r .there (reverse w) h)
 
-  least-first : (w : List ℕ) → Least t (reverse w) → First w
+  least-first : (w : List ℕ) → Least t (reverse w) → First (named w)
   least-first w h =
-      let u : S w = is-one w (h .path) in
-      (u, λ v l. rw (r .keys w u, r .keys v l) at (h .first (reverse v) (r .path v l)))
+      let u = is-one w (h .path) in
+      let e : pathKey t (reverse w) ≡ pathKey t (reverse (nodes (named w))) = ap (λ (x : List ℕ). pathKey t (reverse x)) (sym (u .1)) in
+      (u .0, λ v l. r .keys (named w) v (u .0) l .0 (subst (λ (x : List ℕ). Precedes x (pathKey t (reverse (nodes v)))) e (h .first (reverse (nodes v)) (r .path v l))))
 
-  first-least : (w : List ℕ) → First w → Least t (reverse w)
+  first-least : (w : List A) → First w → Least t (reverse (nodes w))
   first-least w h =
       record {
         path = r .path w (h .0);
         first = λ q l.
-            let v : S (reverse q) = r .read q l in
-            let e : pathKey t q ≡ key (reverse q) = ap (pathKey t) (sym (reverse-reverse q)) ∙ r .keys (reverse q) v in
-            rw (r .keys w (h .0), e) (h .1 (reverse q) v);
+            let v : S (named (reverse q)) = r .read q l in
+            let e : pathKey t (reverse (nodes (named (reverse q)))) ≡ pathKey t q = ap (λ (x : List ℕ). pathKey t (reverse x)) (r .there q l) ∙ ap (pathKey t) (reverse-reverse q) in
+            subst (Precedes (pathKey t (reverse (nodes w)))) e (r .keys w (named (reverse q)) (h .0) v .1 (h .1 (named (reverse q)) v));
       }
 
-  is-said : (a : Answer) → IsAnswer t a → Says a
-  is-said (found c m w) h = let u = least-first w (h .0) in (u, sym (r .costs w (u .0)) ∙ h .1, h .2)
-  is-said (blocked m) h = (λ w l. h .0 (reverse w) (r .path w l), h .1)
+  is-said : (a : Answer ℕ) → IsAnswer t a → Says (renamed named a)
+  is-said (found c m w) h =
+      let u = is-one w (h .0 .path) in
+      (least-first w (h .0), sym (r .costs (named w) (u .0)) ∙ ap (λ (x : List ℕ). pathCost t (reverse x)) (u .1) ∙ h .1, h .2)
+  is-said (blocked m) h = (λ w l. h .0 (reverse (nodes w)) (r .path w l), h .1)
 
-  said-is : (a : Answer) → Says a → IsAnswer t a
+  said-is : (a : Answer A) → Says a → IsAnswer t (renamed nodes a)
   said-is (found c m w) h = (first-least w (h .0), r .costs w (h .0 .0) ∙ h .1, h .2)
-  said-is (blocked m) h = (λ q l. h .0 (reverse q) (r .read q l), h .1)
+  said-is (blocked m) h = (λ q l. h .0 (named (reverse q)) (r .read q l), h .1)
+
+  again-said : (a : Answer A) → Says a → renamed named (renamed nodes a) ≡ a
+  again-said (found c m w) h = ap (found c m) (r .again w (h .0 .0))
+  again-said (blocked m) h = refl
 
   -- THE ANSWER IN THOSE WORDS, AND THERE IS NO OTHER
-  pub answer-says : Says (answer t)
+  pub answer-says : Says (renamed named (answer t))
   answer-says = is-said (answer t) (answer-right t)
 
-  pub says-only : (a : Answer) → Says a → a ≡ answer t
-  says-only a h = answer-only t a (answer t) (said-is a h) (answer-right t)
+  pub says-only : (a : Answer A) → Says a → a ≡ renamed named (answer t)
+  says-only a h = sym (again-said a h) ∙ ap (renamed named) (answer-only t (renamed nodes a) (answer t) (said-is a h) (answer-right t))

@@ -69,7 +69,7 @@ first-oldest i (k ∷ p) =
     ∙ first-append (reverse p) (i ∷ []) k ∙ ap first (sym (reverse-cons k p)) ∙ first-oldest k p
 
 -- the answer after the border, with the path before it to each node of the border and the count so far
-abbrev pub joined : (ℕ → List ℕ) → ℕ → Answer → Answer
+abbrev pub joined : (ℕ → List ℕ) → ℕ → Answer ℕ → Answer ℕ
 joined earlier m (found c n w) = found c (m + n) (reverse (earlier (first w)) ++ w)
 joined earlier m (blocked n) = blocked (m + n)
 
@@ -107,7 +107,7 @@ begun-alike : (n : ℕ) (s s′ : ℕ → Reach) (f : ℕ → Stage) → ((i : �
 begun-alike n s s′ f h zero = record { rows = same-tab n s s′ h; paths = λ i. refl; counts = refl }
 begun-alike n s s′ f h (suc j) = continue-one (λ i. []) 0 (ladder (entry n s) f j) (ladder (entry n s′) f j) (f j) (begun-alike n s s′ f h j)
 
-nothing-joined : (a : Answer) → joined (λ i. []) 0 a ≡ a
+nothing-joined : (a : Answer ℕ) → joined (λ i. []) 0 a ≡ a
 nothing-joined (found c n w) = ap (λ (m : ℕ). found c m w) (zero-add n)
 nothing-joined (blocked n) = ap blocked (zero-add n)
 

@@ -82,52 +82,58 @@ pub once-if {ℓ} : {A : Type ℓ} (b : Bool) (l : List A) → EachOnce l → Ea
 once-if true l o = o
 once-if false l o = tt
 
-once-map : (k : ℕ) (l : List (List ℕ)) → EachOnce l → EachOnce (map (λ p. k ∷ p) l)
+once-map {ℓ} : {A : Type ℓ} (k : A) (l : List (List A)) → EachOnce l → EachOnce (map (λ p. k ∷ p) l)
 once-map k [] o = tt
 once-map k (x ∷ xs) o =
     (λ m. let w = Memᴰ·of-map (λ p. k ∷ p) xs m in o .0 (Memᴰ·cast (sym (tail-eq-of-cons-eq (w .2))) (w .1)), once-map k xs (o .1))
 
--- lists that begin with unlike numbers share nothing
-same-head : (j k : ℕ) (ls ms : List (List ℕ)) (x : List ℕ) → List·Memᴰ x (map (λ p. j ∷ p) ls) → List·Memᴰ x (map (λ p. k ∷ p) ms) → j ≡ k
+-- lists that begin unlike share nothing
+same-head {ℓ} : {A : Type ℓ} (j k : A) (ls ms : List (List A)) (x : List A) → List·Memᴰ x (map (λ p. j ∷ p) ls) → List·Memᴰ x (map (λ p. k ∷ p) ms) → j ≡ k
 same-head j k ls ms x a b =
     let u = Memᴰ·of-map (λ p. j ∷ p) ls a in
     let v = Memᴰ·of-map (λ p. k ∷ p) ms b in
     head-eq-of-cons-eq (u .2 ∙ sym (v .2))
 
--- ---- lists that begin with a node below K that passes a test, and go on as `rest` says: their members, each once, and how many
-module _ (K : ℕ) (p : ℕ → Bool) (rest : ℕ → List (List ℕ)) where
-  abbrev headed : ℕ → List (List ℕ)
-  headed k = listIf (p k) (map (λ is. k ∷ is) (rest k))
+-- each once by another name
+pub once-named : {A B : Type 0} (f : A → B) (d : B → A) (l : List A) → ((x : A) → d (f x) ≡ x) → EachOnce l → EachOnce (map f l)
+once-named f d [] i o = tt
+once-named f d (x ∷ xs) i o =
+    (λ m. let w = Memᴰ·of-map f xs m in o .0 (Memᴰ·cast (sym (i x) ∙ ap d (sym (w .2)) ∙ i (w .0)) (w .1)), once-named f d xs i (o .1))
 
-  pub headed-in : (k : ℕ) (is : List ℕ) → k < K → p k ≡ true → List·Memᴰ is (rest k) → List·Memᴰ (k ∷ is) (gather K headed)
-  headed-in k is l e m = gather-in K headed k l (listed-if-in (p k) (map (λ is. k ∷ is) (rest k)) e (Memᴰ·map (λ is. k ∷ is) m))
+-- ---- lists that begin with the name of a node below K that passes a test, and go on as `rest` says: their members, each once, and how many
+module _ {A : Type 0} (K : ℕ) (name : ℕ → A) (node-of : A → ℕ) (told : (k : ℕ) → node-of (name k) ≡ k) (p : ℕ → Bool) (rest : ℕ → List (List A)) where
+  abbrev headed : ℕ → List (List A)
+  headed k = listIf (p k) (map (λ is. name k ∷ is) (rest k))
 
-  pub record Headed (fs : List ℕ) : Type 0 where
+  pub headed-in : (k : ℕ) (is : List A) → k < K → p k ≡ true → List·Memᴰ is (rest k) → List·Memᴰ (name k ∷ is) (gather K headed)
+  headed-in k is l e m = gather-in K headed k l (listed-if-in (p k) (map (λ is. name k ∷ is) (rest k)) e (Memᴰ·map (λ is. name k ∷ is) m))
+
+  pub record Headed (fs : List A) : Type 0 where
     pub node : ℕ
-    pub later : List ℕ
-    pub is : node ∷ later ≡ fs
+    pub later : List A
+    pub is : name node ∷ later ≡ fs
     pub below : node < K
     pub passes : p node ≡ true
     pub goes-on : List·Memᴰ later (rest node)
 
-  pub headed-of : (fs : List ℕ) → List·Memᴰ fs (gather K headed) → Headed fs
+  pub headed-of : (fs : List A) → List·Memᴰ fs (gather K headed) → Headed fs
   headed-of fs m =
       let w = gather-of K headed m in
-      let u = listed-if-of (p (w .place)) (map (λ is. w .place ∷ is) (rest (w .place))) (w .there) in
-      let q = Memᴰ·of-map (λ is. w .place ∷ is) (rest (w .place)) (u .1) in
+      let u = listed-if-of (p (w .place)) (map (λ is. name (w .place) ∷ is) (rest (w .place))) (w .there) in
+      let q = Memᴰ·of-map (λ is. name (w .place) ∷ is) (rest (w .place)) (u .1) in
       record { node = w .place; later = q .0; is = q .2; below = w .below; passes = u .0; goes-on = q .1 }
 
   pub headed-once : ((k : ℕ) → EachOnce (rest k)) → EachOnce (gather K headed)
   headed-once o =
-      once-gather K headed (λ k. once-if (p k) (map (λ is. k ∷ is) (rest k)) (once-map k (rest k) (o k)))
-      (λ j k x a b. same-head j k (rest j) (rest k) x
-      (listed-if-of (p j) (map (λ is. j ∷ is) (rest j)) a .1) (listed-if-of (p k) (map (λ is. k ∷ is) (rest k)) b .1))
+      once-gather K headed (λ k. once-if (p k) (map (λ is. name k ∷ is) (rest k)) (once-map (name k) (rest k) (o k)))
+      (λ j k x a b. sym (told j) ∙ ap node-of (same-head (name j) (name k) (rest j) (rest k) x
+      (listed-if-of (p j) (map (λ is. name j ∷ is) (rest j)) a .1) (listed-if-of (p k) (map (λ is. name k ∷ is) (rest k)) b .1)) ∙ told k)
 
   pub headed-length : length (gather K headed) ≡ sumBelow K (λ k. oneIf (p k) * length (rest k))
   headed-length =
       length-gather K headed
       ∙ sum-cong K (λ k. length (headed k)) (λ k. oneIf (p k) * length (rest k))
-      (λ k l. length-some (p k) (map (λ is. k ∷ is) (rest k)) ∙ ap (λ (x : ℕ). oneIf (p k) * x) (length-map (rest k) (λ is. k ∷ is)))
+      (λ k l. length-some (p k) (map (λ is. name k ∷ is) (rest k)) ∙ ap (λ (x : ℕ). oneIf (p k) * x) (length-map (rest k) (λ is. name k ∷ is)))
 
 -- every listed one is a path, and every path is listed
 pub listed-leads : (t : Trellis) (i : ℕ) (p : List ℕ) → List·Memᴰ p (pathsTo t i) → Leads t i p
@@ -138,7 +144,7 @@ listed-leads (entry n s) i p m =
     rw e (ltb-true i n (v .0), reached-some (s i) (v .1))
 listed-leads (t ▸ st) i p m =
     let w = listed-if-of (ltb i (st .size)) (gather (width t) (λ k. listIf (st .allowed k i) (map (λ p. k ∷ p) (pathsTo t k)))) m in
-    let b : Headed (width t) (λ k. st .allowed k i) (pathsTo t) p = headed-of (width t) (λ k. st .allowed k i) (pathsTo t) p (w .1) in
+    let b : Headed (width t) (λ k. k) (λ k. k) (λ k. refl) (λ k. st .allowed k i) (pathsTo t) p = headed-of (width t) (λ k. k) (λ k. k) (λ k. refl) (λ k. st .allowed k i) (pathsTo t) p (w .1) in
     rw (← b .is) (ltb-true i (st .size) (w .0), b .passes, listed-leads t (b .node) (b .later) (b .goes-on))
 
 pub leads-listed : (t : Trellis) (i : ℕ) (p : List ℕ) → Leads t i p → List·Memᴰ p (pathsTo t i)
@@ -148,25 +154,25 @@ leads-listed (entry n s) i (k ∷ p) h = absurd h
 leads-listed (t ▸ st) i [] h = absurd h
 leads-listed (t ▸ st) i (k ∷ p) h =
     listed-if-in (ltb i (st .size)) (gather (width t) (λ k. listIf (st .allowed k i) (map (λ p. k ∷ p) (pathsTo t k)))) (lt-ltb i (st .size) (h .0))
-    (headed-in (width t) (λ k. st .allowed k i) (pathsTo t) k p (path-below t k p (h .2)) (h .1) (leads-listed t k p (h .2)))
+    (headed-in (width t) (λ k. k) (λ k. k) (λ k. refl) (λ k. st .allowed k i) (pathsTo t) k p (path-below t k p (h .2)) (h .1) (leads-listed t k p (h .2)))
 
 pub paths-once : (t : Trellis) (i : ℕ) → EachOnce (pathsTo t i)
 paths-once (entry n s) i = once-if (ltb i n && reached (s i)) ([] ∷ []) (λ m. List·Memᴰ·not-nil m, tt)
 paths-once (t ▸ st) i =
     once-if (ltb i (st .size)) (gather (width t) (λ k. listIf (st .allowed k i) (map (λ p. k ∷ p) (pathsTo t k))))
-    (headed-once (width t) (λ k. st .allowed k i) (pathsTo t) (λ k. paths-once t k))
+    (headed-once (width t) (λ k. k) (λ k. k) (λ k. refl) (λ k. st .allowed k i) (pathsTo t) (λ k. paths-once t k))
 
 -- each path once, and every path is in the list of all
 pub all-once : (t : Trellis) → EachOnce (allPaths t)
-all-once t = headed-once (width t) (λ i. true) (pathsTo t) (λ i. paths-once t i)
+all-once t = headed-once (width t) (λ k. k) (λ k. k) (λ k. refl) (λ i. true) (pathsTo t) (λ i. paths-once t i)
 
 pub path-listed : (t : Trellis) (p : List ℕ) → IsPath t p → List·Memᴰ p (allPaths t)
 path-listed t [] h = absurd h
-path-listed t (i ∷ p) h = headed-in (width t) (λ i. true) (pathsTo t) i p (path-below t i p h) refl (leads-listed t i p h)
+path-listed t (i ∷ p) h = headed-in (width t) (λ k. k) (λ k. k) (λ k. refl) (λ i. true) (pathsTo t) i p (path-below t i p h) refl (leads-listed t i p h)
 
 pub listed-path : (t : Trellis) (p : List ℕ) → List·Memᴰ p (allPaths t) → IsPath t p
 listed-path t p m =
-    let b : Headed (width t) (λ i. true) (pathsTo t) p = headed-of (width t) (λ i. true) (pathsTo t) p m in
+    let b : Headed (width t) (λ k. k) (λ k. k) (λ k. refl) (λ i. true) (pathsTo t) p = headed-of (width t) (λ k. k) (λ k. k) (λ k. refl) (λ i. true) (pathsTo t) p m in
     rw (← b .is) (listed-leads t (b .node) (b .later) (b .goes-on))
 
 -- `endsPath` says whether a path ends in the node

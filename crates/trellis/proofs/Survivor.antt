@@ -80,10 +80,10 @@ abbrev pub scanned : Trellis → ℕ
 scanned (entry n s) = 0
 scanned (t ▸ st) = scanned t + sumBelow (length (row t)) (λ k. countBelow (st .size) (λ i. reached (getD (row t) k never) && st .allowed k i))
 
-abbrev pub answerOf : Trellis → ℕ → Best → Answer
+abbrev pub answerOf : Trellis → ℕ → Best → Answer ℕ
 answerOf t n nobody = blocked n
 answerOf t n (best c r i) = found c n (reverse (i ∷ back t i))
 
 -- what survivor search answers (`survivor-right`)
-abbrev pub survivor : Trellis → Answer
+abbrev pub survivor : Trellis → Answer ℕ
 survivor t = answerOf t (scanned t) (final t)

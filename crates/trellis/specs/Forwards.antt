@@ -1,12 +1,17 @@
 -- Paths read from the first stage on, in the words of another vocabulary: a schedule is a path of its route's trellis. Assumes nothing.
 use mathlib.Core.Path.{_≡_}
 use mathlib.Core.List.{List, reverse}
+use mathlib.Core.Logic.{_↔_}
 use Prim.Native.Nat.{ℕ}
+use Rattle.lists.specs.Order.{Precedes}
 use Rattle.trellis.specs.Trellis.{Trellis, IsPath, pathCost, pathKey}
 
--- the lists for which S holds, a node for each stage and the first stage's first, are the paths of t, with their costs and their keys
-pub record ArePaths (t : Trellis) (S : List ℕ → Type 0) (cost : List ℕ → ℕ) (key : List ℕ → List ℕ) : Type 0 where
-  pub path : (w : List ℕ) → S w → IsPath t (reverse w)
-  pub read : (p : List ℕ) → IsPath t p → S (reverse p)
-  pub costs : (w : List ℕ) → S w → pathCost t (reverse w) ≡ cost w
-  pub keys : (w : List ℕ) → S w → pathKey t (reverse w) ≡ key w
+-- the lists for which S holds, a member for each stage and the first stage's first, are the paths of t: `nodes` gives the nodes of a list, `named` the list of the nodes.
+-- They have the costs of the paths, and the order of `key` is that of the paths' keys
+pub record ArePaths (A : Type 0) (t : Trellis) (S : List A → Type 0) (nodes : List A → List ℕ) (named : List ℕ → List A) (cost : List A → ℕ) (key : List A → List ℕ) : Type 0 where
+  pub path : (w : List A) → S w → IsPath t (reverse (nodes w))
+  pub read : (p : List ℕ) → IsPath t p → S (named (reverse p))
+  pub there : (p : List ℕ) → IsPath t p → nodes (named (reverse p)) ≡ reverse p
+  pub again : (w : List A) → S w → named (nodes w) ≡ w
+  pub costs : (w : List A) → S w → pathCost t (reverse (nodes w)) ≡ cost w
+  pub keys : (w v : List A) → S w → S v → Precedes (pathKey t (reverse (nodes w))) (pathKey t (reverse (nodes v))) ↔ Precedes (key w) (key v)

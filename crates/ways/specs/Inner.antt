@@ -6,8 +6,12 @@ use lib.ListN.{getD, length}
 use Rattle.lists.specs.Count.{oneIf, sumBelow}
 use Rattle.words.specs.Word.{bitOf}
 use Rattle.forwarding.specs.declared.Hop.{Hop}
-use Rattle.forwarding.specs.Forwarding.{isAllowed}
+use Rattle.forwarding.specs.Forwarding.{Spot, isAllowed}
 use Rattle.forwarding.specs.Hops.{HopReady}
+
+-- a frame of a link of one colour
+abbrev pub plain : ℕ → Spot
+plain i = record { frame = i; colour = 0 }
 
 -- the ways on from frame i of a hop with this word of free frames and this row, none where it is not free
 abbrev pub freeWays : ℕ → List ℕ → ℕ → ℕ
@@ -15,16 +19,16 @@ freeWays free row i = oneIf (bitOf free i) * getD row i 0
 
 -- a row of K frames whose numbers are those of at most seven later hops (check 12)
 abbrev pub SmallRow : ℕ → List ℕ → Type 0
-SmallRow K row = (i : ℕ) → i < K → getD row i 0 ≤ 64 ^ 7
+SmallRow K row = (i : ℕ) → i < K → getD row i 0 ≤ 256 ^ 7
 
 -- the sums of f over the places below m, for each m up to n
 pub record SumsTo (f : ℕ → ℕ) (n : ℕ) (sums : List ℕ) : Type 0 where
   pub long : length sums ≡ 65
   pub each : (m : ℕ) → m ≤ n → getD sums m 0 ≡ sumBelow m f
 
--- those of a whole cycle of K places; the last, and so every one, is at most 64 to the power 8
+-- those of a whole cycle of K places; the last, and so every one, is at most 64 times 256 to the power 7
 abbrev pub CycleSums : (ℕ → ℕ) → ℕ → List ℕ → Type 0
-CycleSums f K sums = SumsTo f K sums × (sumBelow K f ≤ 64 ^ 8)
+CycleSums f K sums = SumsTo f K sums × (sumBelow K f ≤ 64 * 256 ^ 7)
 
 -- what is known where frames of the hop g lead into the hop h, with the row of h
 pub record LeadsInto (g h : Hop) (row : List ℕ) : Type 0 where
@@ -37,4 +41,4 @@ pub record LeadsInto (g h : Hop) (row : List ℕ) : Type 0 where
 -- the ways on from the first n frames of the hop g, by the row of the hop h after it
 pub record RowBefore (g h : Hop) (row : List ℕ) (n : ℕ) (ways : List ℕ) : Type 0 where
   pub long : length ways ≡ 64
-  pub each : (k : ℕ) → k < n → getD ways k 0 ≡ sumBelow (h .frames) (λ i. oneIf (isAllowed g h k i) * getD row i 0)
+  pub each : (k : ℕ) → k < n → getD ways k 0 ≡ sumBelow (h .frames) (λ i. oneIf (isAllowed g h (plain k) (plain i)) * getD row i 0)

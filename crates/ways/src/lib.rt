@@ -4,6 +4,7 @@
 use forwarding::Hop;
 ghost use mathlib.Core.Path.{_≡_};
 ghost use Prim.Native.Nat.{ℕ, _+_, _*_, _%_, _<_, _≤_};
+ghost use lib.ListN.{getD};
 ghost use Rattle.lists.specs.Count.{oneIf, sumBelow};
 ghost use Rattle.words.specs.Word.{bitOf};
 ghost use Rattle.places.specs.Places.{firsts};
@@ -19,14 +20,14 @@ fn if_free(free: u64, i: u16, ways: u64) -> u64
     if words::has_bit(free, i) { ways } else { 0 }
 }
 
-// Running sums: place m has the ways on from all free frames below m. Check 7: a hop has at most 64 frames.
+// Running sums: place m has the ways on from all free frames below m, in colour 0. Check 7: a hop has at most 64 frames.
 fn running_sums(row: &[u64; 64], hop: Hop) -> [u64; 65]
     requires { ⌜ (hop .frames ≤ 64) × SmallRow (hop .frames) (now row) ⌝ }
-    ensures { λ r. ⌜ CycleSums (freeWays (hop .free) (now (row .entry))) (hop .frames) r ⌝ }
+    ensures { λ r. ⌜ CycleSums (freeWays (getD (hop .free) 0 0) (now (row .entry))) (hop .frames) r ⌝ }
 {
     let mut sums = [0u64; 65];
     let frames = hop.frames;
-    let free = hop.free;
+    let free = hop.free[0];
     let mut sum: u64 = 0;
     let mut i: u16 = 0;
     while i < frames {
@@ -70,9 +71,9 @@ fn row_before(row: &[u64; 64], before: Hop, hop: Hop) -> [u64; 64]
     ways
 }
 
-// The number of schedules over hops 0 to n - 1. Checks 7, 8, 21 and 12 have shown what is required.
+// The number of schedules over hops 0 to n - 1, each of one colour. Checks 7, 8, 21 and 12 have shown what is required.
 pub fn number_over(hops: [Hop; 8], n: usize) -> u64
-    requires { ⌜ ((T : ℕ) × Ready T hops n) ⌝ }
+    requires { ⌜ ((T : ℕ) × Ready T hops n) × ((j : ℕ) → j < n → getD hops j noHop .colours ≡ 1) ⌝ }
     ensures { λ r. ⌜ r ≡ routeWays (firsts n hops noHop) ⌝ }
 {
     let mut row = [1u64; 64];

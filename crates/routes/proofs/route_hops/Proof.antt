@@ -38,8 +38,11 @@ element-copy-out-link c = at-place (c .before .before .before .before .before .b
 mul-hop-of : tie.Need-mul-hop-of Inv-loop μ-loop
 mul-hop-of c = omega (arith, at-place (c .before .before .before .before .before .before .before .args .t1) _ (passed-place (c .before .before .before .before .before .before .before .args .t1) _ (c .before .before .before .before .before .before .before .pre .1) (c .before .before .before .before .loop .j) (c .before .before .before .loop-test .taken)) (c .before .before .before .before .before .before .before .pre .0) _ (c .before .index .ensures))
 
+mul-hop-of-2 : tie.Need-mul-hop-of-2 Inv-loop μ-loop
+mul-hop-of-2 c = omega (arith, at-place (c .before .before .before .before .before .before .before .args .t1) _ (passed-place (c .before .before .before .before .before .before .before .args .t1) _ (c .before .before .before .before .before .before .before .pre .1) (c .before .before .before .before .loop .j) (c .before .before .before .loop-test .taken)) (c .before .before .before .before .before .before .before .pre .0) _ (c .before .index .ensures))
+
 element-copy-out-hop-of : tie.Need-element-copy-out-hop-of Inv-loop μ-loop
-element-copy-out-hop-of c = at-place (c .before .before .before .before .before .before .before .args .t1) _ (passed-place (c .before .before .before .before .before .before .before .args .t1) _ (c .before .before .before .before .before .before .before .pre .1) (c .before .before .before .before .loop .j) (c .before .before .before .loop-test .taken)) (c .before .before .before .before .before .before .before .pre .0) _ (c .before .index .ensures)
+element-copy-out-hop-of c = omega (arith, at-place (c .before .before .before .before .before .before .before .args .t1) _ (passed-place (c .before .before .before .before .before .before .before .args .t1) _ (c .before .before .before .before .before .before .before .pre .1) (c .before .before .before .before .loop .j) (c .before .before .before .loop-test .taken)) (c .before .before .before .before .before .before .before .pre .0) _ (c .before .index .ensures))
 
 hop-of-requires : tie.Need-hop-of-requires Inv-loop μ-loop
 hop-of-requires c κs = at-frames (c .before .before .before .before .before .before .before .before .args .t1) _ (passed-place (c .before .before .before .before .before .before .before .before .args .t1) _ (c .before .before .before .before .before .before .before .before .pre .1) (c .before .before .before .before .before .loop .j) (c .before .before .before .before .loop-test .taken)) (c .before .before .before .before .before .before .before .before .pre .0) _ (c .before .before .index .ensures)
@@ -78,6 +81,7 @@ route-hops-spec =
     mul-link
     element-copy-out-link
     mul-hop-of
+    mul-hop-of-2
     element-copy-out-hop-of
     hop-of-requires
     mul-hops

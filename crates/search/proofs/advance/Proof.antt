@@ -1,106 +1,110 @@
--- `search::advance` meets its contract. Assumes nothing.
-use mathlib.Core.Path.{_∙_, ap}
-use Prim.Native.Nat.{ℕ, _*_}
-use lib.ListN.{length-replicate}
+-- `search::advance` meets its contract. The invariant: the colours below c are there. Assumes nothing.
+use mathlib.Core.Path.{_≡_, refl}
+use Prim.Native.Nat.{ℕ, _-_, _*_, _≤_}
 use native.Mathlib.Omega.{arith}
-use borrow.Author.Needs.{needs}
-use Rattle.forwarding.proofs.Holds.{least-range}
-use Rattle.search.proofs.Counting.{opens}
-use Rattle.search.proofs.Settling.{time-fits, least-time, begins-gathering, begins-windows, begins-settling, hop-advanced}
+use lib.ListN.{length, length-replicate}
+use borrow.Author.Needs.{needs, length-unmapped}
+use Rattle.forwarding.proofs.Ways.{nodes-few}
+use Rattle.search.specs.Inner.{SomeColours}
+use Rattle.search.proofs.Colouring.{into-few, no-colours, still-entering, one-colour, all-colours}
 use Rattle.search.proofs.advance.Statement.{statement}
 use Rattle.search.proofs.advance.Tie as tie
 
-frame-time-requires : tie.Need-frame-time-requires
-frame-time-requires c κs = search needs
+abbrev Inv-loop : tie.InvT-loop
+Inv-loop row t before hop preds₀ base colours free next₀ count₀ c₀ preds next count c =
+    (c ≤ colours) × (count ≤ c * 16384) × (length free ≡ 4) × SomeColours t before hop c row base preds₀ next preds count
 
-delay-of-requires : tie.Need-delay-of-requires
-delay-of-requires c κs =
+abbrev μ-loop : tie.MeasureT-loop
+μ-loop row t before hop preds₀ base colours free next₀ count₀ c₀ preds next count c = colours - c
+
+loop-holds : tie.Need-loop-holds Inv-loop μ-loop
+loop-holds c =
     let s = c .before in
-    time-fits (s .args .t) (s .args .hop .frames) (c .frame-time .result .0) (s .pre .cycle) (c .frame-time .ensures)
+    let a = s .args in
+    let four : length (a .hop .free) ≡ 4 = length-unmapped ℕ (a .hop .free) 4 (s .good .1 .1 .1 .0 .1 .1 .1 .1 .1 .1 .1 .0 .1 .0 .1) in
+    (omega arith, omega arith, four, no-colours (a .t) (a .before) (a .hop) (a .row .now) (a .preds .now) (a .base) _ (length-replicate {A = ℕ} 256 32768) (s .pre .long))
 
-least-hold-requires : tie.Need-least-hold-requires
-least-hold-requires c κs = search needs
+cast-word : tie.Need-cast-word Inv-loop μ-loop
+cast-word c = search needs
 
-delay-of-requires-2 : tie.Need-delay-of-requires-2
-delay-of-requires-2 c κs =
+mul-word : tie.Need-mul-word Inv-loop μ-loop
+mul-word c = search needs
+
+array-read-word : tie.Need-array-read-word Inv-loop μ-loop
+array-read-word c =
     let s = c .before .before .before in
-    let a = s .args in
-    let time = c .before .before .frame-time in
-    least-time (a .t) (a .before) (a .hop) (a .row .now) (a .preds .now) (a .base) (time .result .0) (s .pre) (time .ensures) (c .least-hold .result) (c .least-hold .ensures)
+    omega (arith, c .loop-test .taken, s .pre .ready .few-colours, c .before .loop .inv .2)
 
-choices-requires : tie.Need-choices-requires
-choices-requires c κs =
-    let s = c .before .before .before .before in
-    let r = s .pre .ready in (least-range (s .args .t) (s .args .hop) r, omega (arith, r .in-cycle, r .few-frames))
-
-window-ones-requires : tie.Need-window-ones-requires
-window-ones-requires c κs =
+colour-requires : tie.Need-colour-requires Inv-loop μ-loop
+colour-requires c κs =
     let s = c .before .before .before .before .before .before in
-    let O = opens (s .args .t) (s .args .hop) (s .pre .ready) (c .before .choices .result) (c .before .choices .ensures) in
-    (O .some, O .within, s .pre .ready .few-frames, length-replicate {A = ℕ} 64 0)
-
-gather-requires : tie.Need-gather-requires
-gather-requires c κs =
-    let s = c .before .before .before .before .before .before .before .before .before .before .before in
     let a = s .args in
-    let time = c .before .before .before .before .before .before .before .before .before .before .frame-time in
-    let wide = c .before .before .before .before .before .before .choices in
-    let O = opens (a .t) (a .hop) (s .pre .ready) (wide .result) (wide .ensures) in
-    let ones = c .before .before .before .before .window-ones in
-    begins-gathering (a .t) (a .before) (a .hop) (a .row .now) (a .preds .now) (a .base) (time .result .0) (s .pre) (time .ensures) (wide .result) (a .hop .free) _ (ones .last .1 .1 .1 .0) _ O (ones .ensures) (length-replicate {A = ℕ} 64 0)
+    let l = c .before .before .before .before .loop in
+    record {
+      entering = still-entering (a .t) (a .before) (a .hop) (a .row .now) (a .preds .now) (a .base) (l .preds) (s .pre) (l .inv .3 .long);
+      colour = c .before .before .before .loop-test .taken;
+      word = refl;
+      next-long = l .inv .3 .next-long;
+    }
 
-windows-requires : tie.Need-windows-requires
-windows-requires c κs =
-    let s = c .before .before .before .before .before .before .before .before .before .before .before .before .before .before .before in
+add-count : tie.Need-add-count Inv-loop μ-loop
+add-count c =
+    let s = c .before .before .before .before .before .before .before in
     let a = s .args in
-    let time = c .before .before .before .before .before .before .before .before .before .before .before .before .before .before .frame-time in
-    let wide = c .before .before .before .before .before .before .before .before .before .before .choices in
-    let O = opens (a .t) (a .hop) (s .pre .ready) (wide .result) (wide .ensures) in
-    let ones = c .before .before .before .before .before .before .before .before .window-ones in
-    let G = c .before .before .before .gather in
-    let keys = begins-windows (a .t) (a .before) (a .hop) (a .row .now) (a .preds .now) (a .base) (time .result .0) (s .pre) (time .ensures) (wide .result) (a .hop .free) O _ _ (G .ensures .0) (c .before .before .before .before .before .before .before .before .before .before .before .before .before .delay-of .result .0) (c .before .before .before .before .before .before .before .before .before .before .before .before .before .delay-of .ensures .product) in
-    (keys, O .some, O .within, ones .ensures .long, s .pre .within, s .pre .long)
+    let l = c .before .before .before .before .before .loop in
+    record { fits = omega (arith, l .inv .1, into-few (a .t) (a .before) (a .hop) (a .row .now) (a .preds .now) (a .base) (l .c) (s .pre), c .colour .ensures .counted, c .before .before .before .before .loop-test .taken, s .pre .ready .few-colours) }
 
-settle-requires : tie.Need-settle-requires
-settle-requires c κs =
-    let s = c .before .before .before .before .before .before .before .before .before .before .before .before .before .before .before .before .before .before .before .before in
+add-c : tie.Need-add-c Inv-loop μ-loop
+add-c c = search needs
+
+loop-less : tie.Need-loop-less Inv-loop μ-loop
+loop-less c = search needs
+
+loop-again : tie.Need-loop-again Inv-loop μ-loop
+loop-again c =
+    let s = c .before .before .before .before .before .before .before in
     let a = s .args in
-    let time = c .before .before .before .before .before .before .before .before .before .before .before .before .before .before .before .before .before .before .before .frame-time in
-    let cycle = c .before .before .before .before .before .before .before .before .before .before .before .before .before .before .before .before .before .before .delay-of in
-    let lead = c .before .before .before .before .before .before .before .before .before .before .before .before .before .before .before .before .delay-of2 in
-    let led = lead .ensures .product ∙ ap (λ (x : ℕ). x * time .result .0) (c .before .before .before .before .before .before .before .before .before .before .before .before .before .before .before .before .before .least-hold .ensures) in
-    let wide = c .before .before .before .before .before .before .before .before .before .before .before .before .before .before .before .choices in
-    let O = opens (a .t) (a .hop) (s .pre .ready) (wide .result) (wide .ensures) in
-    let G = c .before .before .before .before .before .before .before .before .gather in
-    let W = c .before .before .before .before .windows in
-    (wide .result, begins-settling (a .t) (a .before) (a .hop) (a .row .now) (a .preds .now) (a .base) (time .result .0) (s .pre) (time .ensures) (wide .result) (a .hop .free) O (G .last .1 .1 .1 .1 .1 .0) (G .last .1 .1 .1 .1 .1 .1 .0) (G .ensures .0) (cycle .result .0) (cycle .ensures .product) (lead .result .0) led (W .last .1 .1 .1 .1 .1 .0) (W .ensures))
+    let l = c .before .before .before .before .before .loop in
+    let k = c .colour in (
+      omega (arith, c .before .before .before .before .loop-test .taken),
+      omega (arith, l .inv .1, into-few (a .t) (a .before) (a .hop) (a .row .now) (a .preds .now) (a .base) (l .c) (s .pre), k .ensures .counted),
+      l .inv .2,
+      one-colour (a .t) (a .before) (a .hop) (a .row .now) (a .preds .now) (a .base) (l .c) (l .next) (l .preds) (k .last .1 .1 .1 .1 .1 .1 .0) (k .last .1 .1 .1 .1 .1 .1 .1 .0) (l .count) (k .result) (l .inv .3) (k .ensures),
+    )
 
-returns : tie.Need-returns
+mul-keep : tie.Need-mul-keep Inv-loop μ-loop
+mul-keep c =
+    let s = c .before .before .before .before .before in
+    record { fits = omega (arith, nodes-few (s .args .t) (s .args .hop) (s .pre .ready)) }
+
+keep-requires : tie.Need-keep-requires Inv-loop μ-loop
+keep-requires c κs =
+    let s = c .before .before .before .before .before .before in
+    (nodes-few (s .args .t) (s .args .hop) (s .pre .ready), s .pre .cells-long)
+
+returns : tie.Need-returns Inv-loop μ-loop
 returns c =
-    let s = c .before .before .before .before .before .before .before .before .before .before .before .before .before .before .before .before .before .before .before .before .before in
+    let s = c .before .before .before .before .before .before .before in
     let a = s .args in
-    let time = c .before .before .before .before .before .before .before .before .before .before .before .before .before .before .before .before .before .before .before .before .frame-time in
-    let cycle = c .before .before .before .before .before .before .before .before .before .before .before .before .before .before .before .before .before .before .before .delay-of in
-    let lead = c .before .before .before .before .before .before .before .before .before .before .before .before .before .before .before .before .before .delay-of2 in
-    let led = lead .ensures .product ∙ ap (λ (x : ℕ). x * time .result .0) (c .before .before .before .before .before .before .before .before .before .before .before .before .before .before .before .before .before .before .least-hold .ensures) in
-    let wide = c .before .before .before .before .before .before .before .before .before .before .before .before .before .before .before .before .choices in
-    let O = opens (a .t) (a .hop) (s .pre .ready) (wide .result) (wide .ensures) in
-    let G = c .before .before .before .before .before .before .before .before .before .gather in
-    let W = c .before .before .before .before .before .windows in
-    let ones = c .before .before .before .before .before .before .before .before .before .before .before .before .before .before .window-ones in
-    hop-advanced (a .t) (a .before) (a .hop) (a .row .now) (a .preds .now) (a .base) (time .result .0) (s .pre) (time .ensures) (wide .result) (a .hop .free) O (G .last .1 .1 .1 .1 .1 .0) (G .last .1 .1 .1 .1 .1 .1 .0) (G .ensures .0) (cycle .result .0) (cycle .ensures .product) (lead .result .0) led (W .last .1 .1 .1 .1 .1 .0) (W .ensures) _ (ones .last .1 .1 .1 .0) (G .result) (c .settle .last .1 .1 .1 .1 .1 .1 .0) (c .settle .last .1 .1 .1 .1 .1 .1 .1 .0) (ones .ensures) (G .ensures .1) (c .settle .ensures)
+    let l = c .before .before .before .before .before .loop in
+    let e : l .c ≡ a .hop .colours = omega (arith, l .inv .0, c .before .before .before .before .loop-test .left) in
+    all-colours (a .t) (a .before) (a .hop) (a .row .now) (a .preds .now) (a .base) (l .next) (l .preds) (c .keep .last .1 .1 .0) (l .count) (rw e at (l .inv .3)) (c .keep .ensures)
 
 pub advance-spec : {M : Type 1} → statement M
 advance-spec =
     tie.close
     (tie.spec
-    frame-time-requires
-    delay-of-requires
-    least-hold-requires
-    delay-of-requires-2
-    choices-requires
-    window-ones-requires
-    gather-requires
-    windows-requires
-    settle-requires
+    Inv-loop
+    μ-loop
+    loop-holds
+    cast-word
+    mul-word
+    array-read-word
+    colour-requires
+    add-count
+    add-c
+    loop-less
+    loop-again
+    mul-keep
+    keep-requires
     returns)

@@ -8,17 +8,17 @@ use borrow.Author.Needs.{needs}
 use Rattle.search.specs.Inner.{keyAt, Windows}
 use Rattle.search.proofs.Latest.{Chosen}
 use Rattle.search.proofs.Positions.{chosen-own}
-use Rattle.search.proofs.Picking.{trail-part, windows-more, windows-here, windows-on, block-in, block-more}
+use Rattle.search.proofs.Picking.{trail-part, windows-more, block-in, block-more}
 use Rattle.search.proofs.block.Statement.{statement}
 use Rattle.search.proofs.block.Tie as tie
 
 abbrev Inv-loop : tie.InvT-loop
-Inv-loop keys cycle frames width first span behind preds₀ base run₀ j₀ preds run j =
-    (0 < j) × (j ≤ span) × Windows (cycle .0) frames keys width base (first + j) preds₀ preds
+Inv-loop keys cycle frames width first span behind preds₀ run₀ j₀ preds run j =
+    (0 < j) × (j ≤ span) × Windows (cycle .0) frames keys width (first + j) preds
     × ((e : ℕ) × (e + 1 ≡ first + frames + j) × Chosen (keyAt (cycle .0) frames keys) frames e j (run .frame) (run .key))
 
 abbrev μ-loop : tie.MeasureT-loop
-μ-loop keys cycle frames width first span behind preds₀ base run₀ j₀ preds run j = span - j
+μ-loop keys cycle frames width first span behind preds₀ run₀ j₀ preds run j = span - j
 
 mul-preds : tie.Need-mul-preds Inv-loop μ-loop
 mul-preds c = search needs
@@ -38,9 +38,6 @@ cast-preds-2 c = search needs
 element-copy-out-preds-2 : tie.Need-element-copy-out-preds-2 Inv-loop μ-loop
 element-copy-out-preds-2 c = omega (arith, c .before .pre .0 .few-frames)
 
-add-preds : tie.Need-add-preds Inv-loop μ-loop
-add-preds c = record { fits = omega (arith, c .before .before .pre .0 .few-frames) }
-
 element-write-preds : tie.Need-element-write-preds Inv-loop μ-loop
 element-write-preds c = omega (arith, c .before .before .pre .0 .few-frames)
 
@@ -51,9 +48,8 @@ loop-holds c =
     let few = s .pre .0 .few-frames in (
       omega arith,
       omega arith,
-      windows-here (a .cycle .0) (a .frames) (a .keys .now) (a .width) (a .base) (s .pre .6) (a .first + 1) (a .preds .now) _
-          (windows-more (a .cycle .0) (a .frames) (a .keys .now) (a .width) (a .base) (s .pre .6) (a .first) (a .first + 1) (getD (a .behind .now) (a .width - 1) 0) (a .preds .now) (a .preds .now) refl (omega arith) (s .pre .7)
-          (trail-part (a .cycle .0) (a .frames) (a .keys .now) (a .first) (a .width) (a .width) _ (a .behind .now) (s .pre .1) (omega arith) (omega arith) refl)),
+      windows-more (a .cycle .0) (a .frames) (a .keys .now) (a .width) (a .first) (a .first + 1) (getD (a .behind .now) (a .width - 1) 0) (a .preds .now) refl (omega arith) (s .pre .6)
+          (trail-part (a .cycle .0) (a .frames) (a .keys .now) (a .first) (a .width) (a .width) _ (a .behind .now) (s .pre .1) (omega arith) (omega arith) refl),
       (a .first + a .frames, omega arith, chosen-own (a .cycle .0) (a .frames) (a .keys .now) (a .first) (a .first) _ (omega arith) refl refl),
     )
 
@@ -95,7 +91,7 @@ seen-requires c κs =
     let s = c .before .before .before .before .before .before .before .before in
     let a = s .args in
     let l = c .before .before .before .before .before .loop in
-    let inside = block-in (a .cycle .0) (a .frames) (a .keys .now) (a .width) (a .base) (a .first) (a .span) (a .behind .now) (s .pre .1) (s .pre .0 .few-frames) (s .pre .2) (s .pre .4) (s .pre .5) (s .pre .6) (l .j) (c .short .result) (c .before .before .before .before .loop-test .taken) (c .short .ensures) in
+    let inside = block-in (a .cycle .0) (a .frames) (a .keys .now) (a .width) (a .first) (a .span) (a .behind .now) (s .pre .1) (s .pre .0 .few-frames) (s .pre .2) (s .pre .4) (s .pre .5) (l .j) (c .short .result) (c .before .before .before .before .loop-test .taken) (c .short .ensures) in
     (le-trans inside (s .pre .0 .few-frames), omega (arith, s .pre .0 .small (c .short .result), s .pre .0 .short))
 
 sooner-requires-2 : tie.Need-sooner-requires-2 Inv-loop μ-loop
@@ -104,17 +100,11 @@ sooner-requires-2 c κs = search needs
 cast-preds-3 : tie.Need-cast-preds-3 Inv-loop μ-loop
 cast-preds-3 c = search needs
 
-add-preds-2 : tie.Need-add-preds-2 Inv-loop μ-loop
-add-preds-2 c =
-    let s = c .before .before .before .before .before .before .before .before .before .before in
-    let less = c .before .before .before .before .before .before .loop-test .taken in
-    record { fits = omega (arith, s .pre .0 .few-frames, s .pre .5, s .pre .6) }
-
 element-write-preds-2 : tie.Need-element-write-preds-2 Inv-loop μ-loop
 element-write-preds-2 c =
     let s = c .before .before .before .before .before .before .before .before .before .before in
     let less = c .before .before .before .before .before .before .loop-test .taken in
-    omega (arith, s .pre .0 .few-frames, s .pre .5, s .pre .6)
+    omega (arith, s .pre .0 .few-frames, s .pre .5)
 
 add-j : tie.Need-add-j Inv-loop μ-loop
 add-j c = search needs
@@ -129,20 +119,12 @@ loop-again c =
     let l = c .before .before .before .before .before .before .before .loop in
     let less : l .j < a .span = c .before .before .before .before .before .before .loop-test .taken in
     let run = c .before .before .before .before .sooner in
-    let more = block-more (a .cycle .0) (a .frames) (a .keys .now) (a .width) (a .base) (a .first) (a .span) (a .behind .now) (s .pre .1) (s .pre .0 .few-frames) (s .pre .2) (s .pre .4) (s .pre .5) (s .pre .6) (l .j) (l .inv .3 .0) (l .run .frame) (l .run .key) _ _ (c .before .seen .result) (run .result .frame) (run .result .key) (c .sooner2 .result .frame) (c .sooner2 .result .key) _ (l .preds)
+    let more = block-more (a .cycle .0) (a .frames) (a .keys .now) (a .width) (a .first) (a .span) (a .behind .now) (s .pre .1) (s .pre .0 .few-frames) (s .pre .2) (s .pre .4) (s .pre .5) (l .j) (l .inv .3 .0) (l .run .frame) (l .run .key) _ _ (c .before .seen .result) (run .result .frame) (run .result .key) (c .sooner2 .result .frame) (c .sooner2 .result .key) (l .preds)
     (l .inv .0) less (l .inv .3 .1) (l .inv .3 .2) refl (run .ensures .0) (run .ensures .1) refl (rw (c .before .before .short .ensures) at (c .before .seen .ensures)) (c .sooner2 .ensures .0) (c .sooner2 .ensures .1) (l .inv .2) in
     (omega arith, omega arith, more .0, (a .first + l .j + a .frames, omega arith, more .1))
 
 returns : tie.Need-returns Inv-loop μ-loop
-returns c =
-    let s = c .before .before .before .before in
-    let a = s .args in
-    let l = c .before .loop in
-    let few = s .pre .0 .few-frames in
-    let e : l .j ≡ a .span = omega arith in
-    let begun = windows-more (a .cycle .0) (a .frames) (a .keys .now) (a .width) (a .base) (s .pre .6) (a .first) (a .first + 1) (getD (a .behind .now) (a .width - 1) 0) (a .preds .now) (a .preds .now) refl (omega arith) (s .pre .7)
-    (trail-part (a .cycle .0) (a .frames) (a .keys .now) (a .first) (a .width) (a .width) _ (a .behind .now) (s .pre .1) (omega arith) (omega arith) refl) in
-    windows-on (a .cycle .0) (a .frames) (a .keys .now) (a .width) (a .base) (s .pre .6) (a .first + a .span) (a .preds .now) _ (l .preds) (begun .earlier) (rw e at (l .inv .2))
+returns c = let e : c .before .loop .j ≡ c .before .before .before .before .args .span = omega arith in rw e at (c .before .loop .inv .2)
 
 pub block-spec : {M : Type 1} → statement M
 block-spec =
@@ -156,7 +138,6 @@ block-spec =
     sub-preds
     cast-preds-2
     element-copy-out-preds-2
-    add-preds
     element-write-preds
     loop-holds
     add-i
@@ -173,7 +154,6 @@ block-spec =
     seen-requires
     sooner-requires-2
     cast-preds-3
-    add-preds-2
     element-write-preds-2
     add-j
     loop-less

@@ -6,22 +6,19 @@ use native.Mathlib.Numerals.{add-one}
 use native.Mathlib.Omega.{arith}
 use lib.ListN.{getD}
 use borrow.Author.Needs.{needs}
-use Rattle.lists.specs.Count.{oneIf}
-use Rattle.lists.proofs.Sums.{one-times-le}
-use Rattle.trellis.specs.Paths.{reached}
 use Rattle.forwarding.proofs.Holds.{reference-in}
 use Rattle.forwarding.proofs.Windows.{firstFrame}
-use Rattle.search.specs.Inner.{cellReach, Gathers, leadings}
-use Rattle.search.proofs.Gathering.{within-time, led-first, one-gathered}
+use Rattle.search.specs.Inner.{Gathers, leadings}
+use Rattle.search.proofs.Gathering.{within-time, few-leave, led-first, one-gathered}
 use Rattle.search.proofs.gather.Statement.{statement}
 use Rattle.search.proofs.gather.Tie as tie
 
 abbrev Inv-loop : tie.InvT-loop
-Inv-loop row before hop time ones keys₀ froms₀ frames many least count₀ k₀ keys froms count k =
-    (k ≤ many) × (count ≤ k * 64) × Gathers (firstFrame before hop) (time .0) frames row k keys froms × (count ≡ leadings (firstFrame before hop) row ones k)
+Inv-loop row before hop time many ones keys₀ froms₀ frames last least count₀ k₀ keys froms count k =
+    (k ≤ last) × (count ≤ k * 256) × Gathers (firstFrame before hop) (time .0) frames row k keys froms × (count ≡ leadings (firstFrame before hop) many ones k)
 
 abbrev μ-loop : tie.MeasureT-loop
-μ-loop row before hop time ones keys₀ froms₀ frames many least count₀ k₀ keys froms count k = many - k
+μ-loop row before hop time many ones keys₀ froms₀ frames last least count₀ k₀ keys froms count k = last - k
 
 least-hold-requires : tie.Need-least-hold-requires Inv-loop μ-loop
 least-hold-requires c κs = search needs
@@ -69,37 +66,55 @@ cast-leaving : tie.Need-cast-leaving Inv-loop μ-loop
 cast-leaving c = search needs
 
 element-copy-out-leaving : tie.Need-element-copy-out-leaving Inv-loop μ-loop
-element-copy-out-leaving c =
-    let s = c .before .before .before .before .before .before .before in
+element-copy-out-leaving c = le-trans (c .before .before .before .before .loop-test .taken) (c .before .before .before .before .before .before .before .pre .few-before)
+
+cast-leaving-2 : tie.Need-cast-leaving-2 Inv-loop μ-loop
+cast-leaving-2 c = search needs
+
+element-copy-out-leaving-2 : tie.Need-element-copy-out-leaving-2 Inv-loop μ-loop
+element-copy-out-leaving-2 c =
+    let q = c .before .before in
+    let s = q .before .before .before .before .before .before in
     let a = s .args in
-    let l = c .before .before .before .before .before .loop in
-    le-trans (led-first (a .before) (a .hop) (l .k) (c .before .before .reference .result) (c .before .before .before .before .before .before .least-hold .result) (c .before .frame-on .result) (s .pre .some-frame) (c .before .before .reference .ensures) (c .before .before .before .before .before .before .least-hold .ensures) (c .before .frame-on .ensures) .1) (s .pre .few-frames)
+    let first = q .before .before .before .before .before .least-hold in
+    le-trans (led-first (a .before) (a .hop) (q .before .before .before .before .loop .k) (q .before .reference .result) (first .result) (q .frame-on .result) (s .pre .some-frame) (q .before .reference .ensures) (first .ensures) (q .frame-on .ensures) .1) (s .pre .few-frames)
 
 leaving-requires : tie.Need-leaving-requires Inv-loop μ-loop
-leaving-requires c κs = search needs
+leaving-requires c κs =
+    let q = c .before .before .before in
+    let s = q .before .before .before .before .before .before in
+    let a = s .args in
+    let first = q .before .before .before .before .before .least-hold in (
+      s .pre .few-many (q .before .before .before .before .loop .k) (q .before .before .before .loop-test .taken),
+      s .pre .few-ones (q .frame-on .result) (led-first (a .before) (a .hop) (q .before .before .before .before .loop .k) (q .before .reference .result) (first .result) (q .frame-on .result) (s .pre .some-frame) (q .before .reference .ensures) (first .ensures) (q .frame-on .ensures) .1),
+    )
 
 add-count : tie.Need-add-count Inv-loop μ-loop
 add-count c =
-    let s = c .before .before .before .before .before .before .before .before .before in
+    let q = c .before .before .before .before in
+    let s = q .before .before .before .before .before .before in
     let a = s .args in
-    let l = c .before .before .before .before .before .before .before .loop in
-    let i = c .before .before .before .frame-on .result in
-    record { fits = omega (arith, c .before .before .before .before .before .before .loop-test .taken, c .leaving .ensures, one-times-le (reached (cellReach (getD (a .row .now) (l .k) 0))) (getD (a .ones .now) i 0), s .pre .few-ones i (led-first (a .before) (a .hop) (l .k) (c .before .before .before .before .reference .result) (c .before .before .before .before .before .before .before .before .least-hold .result) (c .before .before .before .frame-on .result) (s .pre .some-frame) (c .before .before .before .before .reference .ensures) (c .before .before .before .before .before .before .before .before .least-hold .ensures) (c .before .before .before .frame-on .ensures) .1), l .inv .1, s .pre .few-before) }
+    let l = q .before .before .before .before .loop in
+    let first = q .before .before .before .before .before .least-hold in
+    let to = led-first (a .before) (a .hop) (l .k) (q .before .reference .result) (first .result) (q .frame-on .result) (s .pre .some-frame) (q .before .reference .ensures) (first .ensures) (q .frame-on .ensures) in
+    record { fits = omega (arith, q .before .before .before .loop-test .taken, c .leaving .ensures, few-leave (getD (a .many .now) (l .k) 0) (getD (a .ones .now) (q .frame-on .result) 0) (s .pre .few-many (l .k) (q .before .before .before .loop-test .taken)) (s .pre .few-ones (q .frame-on .result) (to .1)), l .inv .1, s .pre .few-before) }
 
 add-enter : tie.Need-add-enter Inv-loop μ-loop
 add-enter c =
-    let s = c .before .before .before .before .before .before .before .before .before .before .before .before in
+    let q = c .before .before .before .before .before .before .before in
+    let s = q .before .before .before .before .before .before in
     let a = s .args in
-    let l = c .before .before .before .before .before .before .before .before .before .before .loop in
-    let i = c .before .before .before .before .before .before .frame-on .result in
-    record { fits = omega (arith, s .pre .small (l .k) (c .before .before .before .before .before .before .before .before .before .loop-test .taken) .most, c .before .before .before .before .before .delay-of .ensures .product, within-time (a .time .0) (a .hop .frames) (a .hop .frames - i) (omega arith) (s .pre .in-time)) }
+    let l = q .before .before .before .before .loop in
+    record { fits = omega (arith, s .pre .small (l .k) (q .before .before .before .loop-test .taken) .most, c .before .before .before .before .before .before .delay-of .ensures .product, within-time (a .time .0) (a .hop .frames) (a .hop .frames - q .frame-on .result) (omega arith) (s .pre .in-time)) }
 
 enter-requires : tie.Need-enter-requires Inv-loop μ-loop
 enter-requires c κs =
-    let s = c .before .before .before .before .before .before .before .before .before .before .before .before in
+    let q = c .before .before .before .before .before .before .before in
+    let s = q .before .before .before .before .before .before in
     let a = s .args in
-    let l = c .before .before .before .before .before .before .before .before .before .before .loop in
-    (l .inv .2 .keys-long, l .inv .2 .froms-long, le-trans (led-first (a .before) (a .hop) (l .k) (c .before .before .before .before .before .before .before .reference .result) (c .before .before .before .before .before .before .before .before .before .before .before .least-hold .result) (c .before .before .before .before .before .before .frame-on .result) (s .pre .some-frame) (c .before .before .before .before .before .before .before .reference .ensures) (c .before .before .before .before .before .before .before .before .before .before .before .least-hold .ensures) (c .before .before .before .before .before .before .frame-on .ensures) .1) (s .pre .few-frames), le-trans (c .before .before .before .before .before .before .before .before .before .loop-test .taken) (s .pre .few-before))
+    let l = q .before .before .before .before .loop in
+    let first = q .before .before .before .before .before .least-hold in
+    (l .inv .2 .keys-long, l .inv .2 .froms-long, le-trans (led-first (a .before) (a .hop) (l .k) (q .before .reference .result) (first .result) (q .frame-on .result) (s .pre .some-frame) (q .before .reference .ensures) (first .ensures) (q .frame-on .ensures) .1) (s .pre .few-frames), le-trans (q .before .before .before .loop-test .taken) (s .pre .few-before))
 
 add-k : tie.Need-add-k Inv-loop μ-loop
 add-k c = search needs
@@ -109,18 +124,21 @@ loop-less c = search needs
 
 loop-again : tie.Need-loop-again Inv-loop μ-loop
 loop-again c =
-    let s = c .before .before .before .before .before .before .before .before .before .before .before .before .before in
+    let q = c .before .before .before .before .before .before .before .before in
+    let s = q .before .before .before .before .before .before in
     let a = s .args in
-    let l = c .before .before .before .before .before .before .before .before .before .before .before .loop in
-    let i = c .before .before .before .before .before .before .before .frame-on .result in
-    let to = led-first (a .before) (a .hop) (l .k) (c .before .before .before .before .before .before .before .before .reference .result) (c .before .before .before .before .before .before .before .before .before .before .before .before .least-hold .result) (c .before .before .before .before .before .before .before .frame-on .result) (s .pre .some-frame) (c .before .before .before .before .before .before .before .before .reference .ensures) (c .before .before .before .before .before .before .before .before .before .before .before .before .least-hold .ensures) (c .before .before .before .before .before .before .before .frame-on .ensures) in
-    let wait = c .before .before .before .before .before .before .delay-of in
+    let l = q .before .before .before .before .loop in
+    let first = q .before .before .before .before .before .least-hold in
+    let less = q .before .before .before .loop-test .taken in
+    let i = q .frame-on .result in
+    let to = led-first (a .before) (a .hop) (l .k) (q .before .reference .result) (first .result) i (s .pre .some-frame) (q .before .reference .ensures) (first .ensures) (q .frame-on .ensures) in
+    let wait = c .before .before .before .before .before .before .before .delay-of in
     let some = c .before .before .before .before .leaving .ensures in (
-      omega (arith, c .before .before .before .before .before .before .before .before .before .before .loop-test .taken),
-      omega (arith, some, one-times-le (reached (cellReach (getD (a .row .now) (l .k) 0))) (getD (a .ones .now) i 0), s .pre .few-ones i (to .1), l .inv .1),
+      omega (arith, less),
+      omega (arith, some, few-leave (getD (a .many .now) (l .k) 0) (getD (a .ones .now) i 0) (s .pre .few-many (l .k) less) (s .pre .few-ones i (to .1)), l .inv .1),
       one-gathered (firstFrame (a .before) (a .hop)) (a .time .0) (a .hop .frames) (a .row .now) (s .pre .in-time) (l .k) i (getD (a .row .now) (l .k) 0 + wait .result .0) (l .keys) (l .froms) _ _ (l .inv .2) (to .0) (to .1) (s .pre .few-frames)
-          (ap (λ (x : ℕ). getD (a .row .now) (l .k) 0 + x) (wait .ensures .product)) (s .pre .small (l .k) (c .before .before .before .before .before .before .before .before .before .before .loop-test .taken)) (c .enter .ensures),
-      rw (add-one (l .k)) (ap₂ _+_ (l .inv .3) (some ∙ ap (λ (x : ℕ). oneIf (reached (cellReach (getD (a .row .now) (l .k) 0))) * getD (a .ones .now) x 0) (to .0))),
+          (ap (λ (x : ℕ). getD (a .row .now) (l .k) 0 + x) (wait .ensures .product)) (s .pre .small (l .k) less) (le-trans less (s .pre .few-before)) (c .enter .ensures),
+      rw (add-one (l .k)) (ap₂ _+_ (l .inv .3) (some ∙ ap (λ (x : ℕ). getD (a .many .now) (l .k) 0 * getD (a .ones .now) x 0) (to .0))),
     )
 
 returns : tie.Need-returns Inv-loop μ-loop
@@ -147,6 +165,8 @@ gather-spec =
     delay-of-requires
     cast-leaving
     element-copy-out-leaving
+    cast-leaving-2
+    element-copy-out-leaving-2
     leaving-requires
     add-count
     add-enter

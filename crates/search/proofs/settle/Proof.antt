@@ -11,12 +11,12 @@ use Rattle.search.proofs.settle.Statement.{statement}
 use Rattle.search.proofs.settle.Tie as tie
 
 abbrev Inv-loop : tie.InvT-loop
-Inv-loop keys froms time lead frames free row₀ preds₀ base cycle i₀ row preds i =
+Inv-loop keys froms time lead frames free row₀ preds₀ cycle i₀ row preds i =
     (i ≤ frames) × (cycle .0 ≡ frames * time .0)
-    × ((w : ℕ) → Settling (time .0) (lead .0) frames free w base keys froms row₀ preds₀ → Settled (time .0) (lead .0) frames free w base keys froms i preds₀ row preds)
+    × ((w : ℕ) → Settling (time .0) (lead .0) frames free w keys froms row₀ preds₀ → Settled (time .0) (lead .0) frames free w keys froms i row preds)
 
 abbrev μ-loop : tie.MeasureT-loop
-μ-loop keys froms time lead frames free row₀ preds₀ base cycle i₀ row preds i = frames - i
+μ-loop keys froms time lead frames free row₀ preds₀ cycle i₀ row preds i = frames - i
 
 delay-of-requires : tie.Need-delay-of-requires Inv-loop μ-loop
 delay-of-requires c κs = c .pre .1 .ring .short
@@ -27,11 +27,8 @@ loop-holds c = (omega arith, c .delay-of .ensures .product, λ w S. S .begun)
 cast-at : tie.Need-cast-at Inv-loop μ-loop
 cast-at c = search needs
 
-add-short : tie.Need-add-short Inv-loop μ-loop
-add-short c = record { fits = omega (arith, c .loop-test .taken, c .before .before .before .pre .1 .ring .few-frames, c .before .before .before .pre .1 .within) }
-
 element-copy-out-short : tie.Need-element-copy-out-short Inv-loop μ-loop
-element-copy-out-short c = omega (arith, c .loop-test .taken, c .before .before .before .pre .1 .ring .few-frames, c .before .before .before .pre .1 .within)
+element-copy-out-short c = omega (arith, c .loop-test .taken, c .before .before .before .pre .1 .ring .few-frames)
 
 short-requires : tie.Need-short-requires Inv-loop μ-loop
 short-requires c κs = search needs
@@ -41,7 +38,7 @@ seen-requires c κs =
     let s = c .before .before .before .before .before in
     let a = s .args in
     let l = c .before .before .before .loop in
-    let inside = pick-in (a .time .0) (a .lead .0) (a .frames) (a .free) (s .pre .0) (a .base) (a .keys .now) (a .froms .now) (a .row .now) (a .preds .now) (s .pre .1) (l .i) (l .row) (l .preds) (l .inv .2 (s .pre .0) (s .pre .1)) (c .before .before .loop-test .taken) (c .short .result) (c .short .ensures) in
+    let inside = pick-in (a .time .0) (a .lead .0) (a .frames) (a .free) (s .pre .0) (a .keys .now) (a .froms .now) (a .row .now) (a .preds .now) (s .pre .1) (l .i) (l .row) (l .preds) (l .inv .2 (s .pre .0) (s .pre .1)) (c .before .before .loop-test .taken) (c .short .result) (c .short .ensures) in
     (le-trans inside (s .pre .1 .ring .few-frames), omega (arith, s .pre .1 .ring .small (c .short .result), l .inv .1, s .pre .1 .ring .short))
 
 sub-row : tie.Need-sub-row Inv-loop μ-loop
@@ -59,14 +56,14 @@ add-smaller c =
     let s = c .before .before .before .before .before .before .before .before in
     let a = s .args in
     let l = c .before .before .before .before .before .before .loop in
-    record { fits = omega (arith, value-small (a .time .0) (a .lead .0) (a .frames) (a .free) (s .pre .0) (a .base) (a .keys .now) (a .froms .now) (a .row .now) (a .preds .now) (s .pre .1) (l .i) (l .row) (l .preds) (l .inv .2 (s .pre .0) (s .pre .1)) (c .before .before .before .before .before .loop-test .taken) (c .before .before .before .short .result) (c .before .before .before .before .before .before .before .delay-of .result .0) (c .before .before .seen .result) (c .before .before .before .short .ensures) (l .inv .1) (c .before .before .seen .ensures), s .pre .1 .led) }
+    record { fits = omega (arith, value-small (a .time .0) (a .lead .0) (a .frames) (a .free) (s .pre .0) (a .keys .now) (a .froms .now) (a .row .now) (a .preds .now) (s .pre .1) (l .i) (l .row) (l .preds) (l .inv .2 (s .pre .0) (s .pre .1)) (c .before .before .before .before .before .loop-test .taken) (c .before .before .before .short .result) (c .before .before .before .before .before .before .before .delay-of .result .0) (c .before .before .seen .result) (c .before .before .before .short .ensures) (l .inv .1) (c .before .before .seen .ensures), s .pre .1 .led) }
 
 sub-smaller : tie.Need-sub-smaller Inv-loop μ-loop
 sub-smaller c =
     let s = c .before .before .before .before .before .before .before .before .before in
     let a = s .args in
     let l = c .before .before .before .before .before .before .before .loop in
-    omega (arith, value-waits (a .time .0) (a .lead .0) (a .frames) (a .free) (s .pre .0) (a .base) (a .keys .now) (a .froms .now) (a .row .now) (a .preds .now) (s .pre .1) (l .i) (l .row) (l .preds) (l .inv .2 (s .pre .0) (s .pre .1)) (c .before .before .before .before .before .before .loop-test .taken) (c .before .before .before .before .short .result) (c .before .before .before .before .before .before .before .before .delay-of .result .0) (c .before .before .before .seen .result) (c .before .before .before .before .short .ensures) (l .inv .1) (c .before .before .before .seen .ensures) (c .before .before .delay-of2 .result .0) (c .before .before .delay-of2 .ensures .product))
+    omega (arith, value-waits (a .time .0) (a .lead .0) (a .frames) (a .free) (s .pre .0) (a .keys .now) (a .froms .now) (a .row .now) (a .preds .now) (s .pre .1) (l .i) (l .row) (l .preds) (l .inv .2 (s .pre .0) (s .pre .1)) (c .before .before .before .before .before .before .loop-test .taken) (c .before .before .before .before .short .result) (c .before .before .before .before .before .before .before .before .delay-of .result .0) (c .before .before .before .seen .result) (c .before .before .before .before .short .ensures) (l .inv .1) (c .before .before .before .seen .ensures) (c .before .before .delay-of2 .result .0) (c .before .before .delay-of2 .ensures .product))
 
 smaller-requires : tie.Need-smaller-requires Inv-loop μ-loop
 smaller-requires c κs = search needs
@@ -88,13 +85,10 @@ element-copy-out-preds c =
     let s = c .before .before .before .before .before .before .before .before .before .before .before in
     let a = s .args in
     let l = c .before .before .before .before .before .before .before .before .before .loop in
-    le-trans (pick-in (a .time .0) (a .lead .0) (a .frames) (a .free) (s .pre .0) (a .base) (a .keys .now) (a .froms .now) (a .row .now) (a .preds .now) (s .pre .1) (l .i) (l .row) (l .preds) (l .inv .2 (s .pre .0) (s .pre .1)) (c .before .before .before .before .before .before .before .before .loop-test .taken) (c .before .before .before .before .before .before .short .result) (c .before .before .before .before .before .before .short .ensures)) (s .pre .1 .ring .few-frames)
-
-add-preds : tie.Need-add-preds Inv-loop μ-loop
-add-preds c = record { fits = omega (arith, c .before .before .before .before .before .before .before .before .before .loop-test .taken, c .before .before .before .before .before .before .before .before .before .before .before .before .pre .1 .ring .few-frames, c .before .before .before .before .before .before .before .before .before .before .before .before .pre .1 .within) }
+    le-trans (pick-in (a .time .0) (a .lead .0) (a .frames) (a .free) (s .pre .0) (a .keys .now) (a .froms .now) (a .row .now) (a .preds .now) (s .pre .1) (l .i) (l .row) (l .preds) (l .inv .2 (s .pre .0) (s .pre .1)) (c .before .before .before .before .before .before .before .before .loop-test .taken) (c .before .before .before .before .before .before .short .result) (c .before .before .before .before .before .before .short .ensures)) (s .pre .1 .ring .few-frames)
 
 element-write-preds : tie.Need-element-write-preds Inv-loop μ-loop
-element-write-preds c = omega (arith, c .before .before .before .before .before .before .before .before .before .loop-test .taken, c .before .before .before .before .before .before .before .before .before .before .before .before .pre .1 .ring .few-frames, c .before .before .before .before .before .before .before .before .before .before .before .before .pre .1 .within)
+element-write-preds c = omega (arith, c .before .before .before .before .before .before .before .before .before .loop-test .taken, c .before .before .before .before .before .before .before .before .before .before .before .before .pre .1 .ring .few-frames)
 
 add-i : tie.Need-add-i Inv-loop μ-loop
 add-i c = search needs
@@ -115,9 +109,9 @@ loop-again c =
       omega arith,
       l .inv .1,
       λ w S.
-          settled-on (a .time .0) (a .lead .0) (a .frames) (a .free) w (a .base) (a .keys .now) (a .froms .now) (a .row .now) (a .preds .now) S (l .i) (l .row) (l .preds) (l .inv .2 w S) less
+          settled-on (a .time .0) (a .lead .0) (a .frames) (a .free) w (a .keys .now) (a .froms .now) (a .row .now) (a .preds .now) S (l .i) (l .row) (l .preds) (l .inv .2 w S) less
           (c .before .before .before .before .before .before .before .short .result) (c .before .before .before .before .before .before .before .before .before .before .before .delay-of .result .0) (c .before .before .before .before .before .before .seen .result) (c .before .before .before .before .before .before .before .short .ensures) (l .inv .1) (c .before .before .before .before .before .before .seen .ensures)
-          (c .before .before .before .before .before .delay-of2 .result .0) (c .before .if-free .result) (c .before .before .before .before .before .delay-of2 .ensures .product) (S .within) (omega arith) cell,
+          (c .before .before .before .before .before .delay-of2 .result .0) (c .before .if-free .result) (c .before .before .before .before .before .delay-of2 .ensures .product) (omega arith) cell,
     )
 
 returns : tie.Need-returns Inv-loop μ-loop
@@ -134,7 +128,6 @@ settle-spec =
     delay-of-requires
     loop-holds
     cast-at
-    add-short
     element-copy-out-short
     short-requires
     seen-requires
@@ -148,7 +141,6 @@ settle-spec =
     element-write-row
     cast-preds
     element-copy-out-preds
-    add-preds
     element-write-preds
     add-i
     loop-less

@@ -5,21 +5,21 @@ use native.Mathlib.Omega.{arith}
 use lib.ListN.{length}
 use borrow.Author.Needs.{needs}
 use Rattle.search.specs.Inner.{Windows}
-use Rattle.search.proofs.Picking.{windows-none, windows-here, windows-on, smaller-within}
+use Rattle.search.proofs.Picking.{windows-none, smaller-within}
 use Rattle.search.proofs.windows.Statement.{statement}
 use Rattle.search.proofs.windows.Tie as tie
 
 abbrev Inv-loop : tie.InvT-loop
-Inv-loop keys cycle frames width behind₀ preds₀ base first₀ behind preds first =
-    (first ≤ frames) × (length behind ≡ 64) × Windows (cycle .0) frames keys width base first preds₀ preds
+Inv-loop keys cycle frames width behind₀ preds₀ first₀ behind preds first =
+    (first ≤ frames) × (length behind ≡ 64) × Windows (cycle .0) frames keys width first preds
 
 abbrev μ-loop : tie.MeasureT-loop
-μ-loop keys cycle frames width behind₀ preds₀ base first₀ behind preds first = frames - first
+μ-loop keys cycle frames width behind₀ preds₀ first₀ behind preds first = frames - first
 
 loop-holds : tie.Need-loop-holds Inv-loop μ-loop
 loop-holds c =
     let a = c .args in
-    (omega arith, c .pre .3, windows-none (a .cycle .0) (a .frames) (a .keys .now) (a .width) (a .base) (c .pre .4) (a .preds .now) (c .pre .5))
+    (omega arith, c .pre .3, windows-none (a .cycle .0) (a .frames) (a .keys .now) (a .width) (a .preds .now) (c .pre .4))
 
 sub-smaller : tie.Need-sub-smaller Inv-loop μ-loop
 sub-smaller c = search needs
@@ -47,8 +47,7 @@ block-requires c κs =
       m .2 (omega arith) (omega arith),
       m .0,
       omega (arith, m .1),
-      s .pre .4,
-      windows-here (a .cycle .0) (a .frames) (a .keys .now) (a .width) (a .base) (s .pre .4) (l .first) _ (l .preds) (l .inv .2),
+      l .inv .2,
     )
 
 add-first : tie.Need-add-first Inv-loop μ-loop
@@ -79,7 +78,7 @@ loop-again c =
     let m = smaller-within (a .width) (a .frames - l .first) (c .before .before .before .before .before .smaller .result) (c .before .before .before .before .before .smaller .ensures) in (
       omega (arith, m .1),
       c .before .before .before .trail .ensures .long,
-      windows-on (a .cycle .0) (a .frames) (a .keys .now) (a .width) (a .base) (s .pre .4) (l .first + c .before .before .before .before .before .smaller .result) (a .preds .now) (l .preds) _ (l .inv .2 .earlier) (c .block .ensures),
+      c .block .ensures,
     )
 
 returns : tie.Need-returns Inv-loop μ-loop

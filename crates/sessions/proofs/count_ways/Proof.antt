@@ -4,8 +4,11 @@ use Rattle.sessions.proofs.count_ways.Statement.{statement}
 use Rattle.sessions.proofs.count_ways.Tie as tie
 use mathlib.Core.Path.{sym, ap, _∙_}
 use Rattle.refusals.specs.Refusals.{ruling}
+use Rattle.network.specs.Network.{topologyOf}
 use Rattle.ledger.proofs.Intact.{intact-is}
 use Rattle.table.specs.Table.{liveOf}
+use Rattle.routes.proofs.Routes.{route-long}
+use Rattle.routes.proofs.Hops.{one-each}
 use Rattle.state.proofs.Within.{all-within}
 use Rattle.state.proofs.Searches.{hops-ready}
 use Rattle.sessions.proofs.Counting.{check-answers, number-answers}
@@ -32,7 +35,10 @@ free-hops-requires c κs = let start = c .before .before .before .before in
 
 number-over-requires : tie.Need-number-over-requires
 number-over-requires c κs = let start = c .before .before .before .before .before in
-    (_, hops-ready _ (liveOf (start .args .st .table)) _ (intact-is _ (start .pre) .network) (sym (c .before .before .before .check-route .ensures) ∙ ap ruling (c .before .enum-told .given .1)) _ (c .free-hops .ensures))
+    let checked = sym (c .before .before .before .check-route .ensures) ∙ ap ruling (c .before .enum-told .given .1) in (
+      (_, hops-ready _ (liveOf (start .args .st .table)) _ (intact-is _ (start .pre) .network) checked _ (c .free-hops .ensures)),
+      one-each (topologyOf (start .args .st .network)) (liveOf (start .args .st .table)) (start .args .route .now) _ (c .free-hops .ensures) (route-long (topologyOf (start .args .st .network)) _ checked .1),
+    )
 
 returns-2 : tie.Need-returns-2
 returns-2 c = let start = c .before .before .before .before .before .before in

@@ -1,5 +1,6 @@
 -- `sessions::free_frames` meets its contract. Assumes nothing.
 use borrow.Author.Needs.{needs}
+use native.Mathlib.Omega.{arith}
 use Rattle.sessions.proofs.free_frames.Statement.{statement}
 use Rattle.sessions.proofs.free_frames.Tie as tie
 use mathlib.Core.Path.{refl}
@@ -38,9 +39,12 @@ element-copy-out-of c = let start = c .before .before .before .before .before in
 mul-free-frames : tie.Need-mul-free-frames
 mul-free-frames c = search needs
 
+mul-free-frames-2 : tie.Need-mul-free-frames-2
+mul-free-frames-2 c = search needs
+
 array-read-free-frames : tie.Need-array-read-free-frames
 array-read-free-frames c = let start = c .before .before .before .before .before .before in
-    link-in (start .args .st) (is-intact (start .args .st) _ (c .before .before .before .before .before .broken .ensures) (c .before .before .before .before .if1 .left)) _ (c .before .before .if2 .left)
+    omega (arith, link-in (start .args .st) (is-intact (start .args .st) _ (c .before .before .before .before .before .broken .ensures) (c .before .before .before .before .if1 .left)) _ (c .before .before .if2 .left))
 
 free-frames-requires : tie.Need-free-frames-requires
 free-frames-requires c κs = let start = c .before .before .before .before .before .before in
@@ -63,6 +67,7 @@ free-frames-spec =
     mul-of
     element-copy-out-of
     mul-free-frames
+    mul-free-frames-2
     array-read-free-frames
     free-frames-requires
     returns-3)

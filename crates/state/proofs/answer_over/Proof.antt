@@ -7,7 +7,7 @@ use Rattle.routes.proofs.HopCycles.{schedule-laid}
 use Rattle.state.proofs.answer_over.Statement.{statement}
 use Rattle.state.proofs.answer_over.Tie as tie
 use Rattle.state.proofs.Searches.{searched}
-use Rattle.state.proofs.SetUps.{quotes-blocked, schedule-found, quotes-found}
+use Rattle.state.proofs.SetUps.{found-frames, quotes-blocked, schedule-found, quotes-found}
 
 search-requires : tie.Need-search-requires
 search-requires c κs = search needs
@@ -33,7 +33,8 @@ scheduled-requires c κs =
     let made = c .before .before .before in
     let start = made .before in
     let long : length (start .args .hops) ≡ 8 = search needs in
-    schedule-laid _ _ (start .args .hops) _ (start .pre) (schedule-found _ _ _ _ (searched _ _ (start .args .hops) _ (omega (arith, long, start .pre .few-hops)) (made .search .ensures)) _ (c .before .found .given .1))
+    let s = searched _ _ (start .args .hops) _ (omega (arith, long, start .pre .few-hops)) (made .search .ensures) in
+    schedule-laid _ _ (start .args .hops) _ _ (start .pre) (found-frames _ _ _ _ s) (schedule-found _ _ _ _ s _ (c .before .found .given .1))
 
 returns-2 : tie.Need-returns-2
 returns-2 c =

@@ -7,7 +7,7 @@ cycles-requires : tie.Need-cycles-requires
 cycles-requires c κs = search needs
 
 returns : tie.Need-returns
-returns c = rw (c .cycles .ensures)
+returns c = rw (c .before .cycles .ensures)
 
 pub scheduled-spec : {M : Type 1} → statement M
 scheduled-spec = tie.close (tie.spec cycles-requires returns)

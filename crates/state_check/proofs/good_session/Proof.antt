@@ -53,7 +53,7 @@ route-hops-requires c κs = let start = c .before .before .before .before .befor
     (start .pre, route-stands _ (start .args .place) (c .before .before .before .before .before .before .before .if1 .left) long _ (c .before .before .before .before .check-route .ensures) (c .before .before .enum-told2 .given .1))
 
 walk-requires : tie.Need-walk-requires
-walk-requires c κs = let laid = c .before .before in
+walk-requires c κs = let laid = c .before .before .before in
     let start = laid .before .before .before .before .before .before .before .before .before in
     let long = mapped-length 8 _ (start .args .place .route) (start .good .1 .0 .1 .1 .1 .0 .1 .0 .1) in
     walk-ready _ (start .args .place) (laid .before .before .before .before .before .before .before .before .if1 .left) long _ (laid .before .before .before .before .before .check-route .ensures) (laid .before .before .before .enum-told2 .given .1) (start .pre) _ (laid .route-hops .ensures)
@@ -62,13 +62,13 @@ enum-known-delay : tie.Need-enum-known-delay
 enum-known-delay c = search needs
 
 cycles-requires : tie.Need-cycles-requires
-cycles-requires c κs = let laid = c .before .before .before .before .before .before in
+cycles-requires c κs = let laid = c .before .before .before .before .before .before .before in
     let start = laid .before .before .before .before .before .before .before .before .before in
     let long = mapped-length 8 _ (start .args .place .route) (start .good .1 .0 .1 .1 .1 .0 .1 .0 .1) in
     walked-laid _ (start .args .place) (laid .before .before .before .before .before .before .before .before .if1 .left) long _ (laid .before .before .before .before .before .check-route .ensures) (laid .before .before .before .enum-told2 .given .1) (start .pre) _ (laid .route-hops .ensures) _ (c .before .before .before .walk .ensures) _ (c .before .delay .given .1)
 
 same-held-requires : tie.Need-same-held-requires
-same-held-requires c κs = let laid = c .before .before .before .before .before .before .before in
+same-held-requires c κs = let laid = c .before .before .before .before .before .before .before .before in
     let start = laid .before .before .before .before .before .before .before .before .before in
     omega (arith, laid .before .before .before .before .before .before .before .before .if1 .left)
 
@@ -76,13 +76,13 @@ enum-told-3 : tie.Need-enum-told-3
 enum-told-3 c = search needs
 
 returns-3 : tie.Need-returns-3
-returns-3 c = let laid = c .before .before .before .before .before .before .before .before in
+returns-3 c = let laid = c .before .before .before .before .before .before .before .before .before in
     let start = laid .before .before .before .before .before .before .before .before .before in
     let long = mapped-length 8 _ (start .args .place .route) (start .good .1 .0 .1 .1 .1 .0 .1 .0 .1) in
     session-walked _ (start .args .place) (laid .before .before .before .before .before .before .before .before .if1 .left) long _ (laid .before .before .before .before .before .check-route .ensures) (laid .before .before .before .enum-told2 .given .1) (start .pre) _ (laid .route-hops .ensures) _ (c .before .before .before .before .before .walk .ensures) _ (c .before .before .before .delay .given .1) _ (c .before .cycles .ensures) _ (c .same-held .ensures)
 
 returns-4 : tie.Need-returns-4
-returns-4 c = let laid = c .before .before .before .before .before in
+returns-4 c = let laid = c .before .before .before .before .before .before in
     let start = laid .before .before .before .before .before .before .before .before .before in
     let long = mapped-length 8 _ (start .args .place .route) (start .good .1 .0 .1 .1 .1 .0 .1 .0 .1) in
     session-unfit _ (start .args .place) (laid .before .before .before .before .before .before .before .before .if1 .left) long _ (laid .before .before .before .before .before .check-route .ensures) (laid .before .before .before .enum-told2 .given .1) (start .pre) _ (laid .route-hops .ensures) _ (c .before .before .walk .ensures) (c .enum-told3 .given .1)

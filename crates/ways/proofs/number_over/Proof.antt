@@ -14,18 +14,18 @@ abbrev μ-loop : tie.MeasureT-loop
 μ-loop n hops row₀ j₀ row j = j
 
 sub-j : tie.Need-sub-j Inv-loop μ-loop
-sub-j c = c .pre .1 .some-hop
+sub-j c = c .pre .0 .1 .some-hop
 
 loop-holds : tie.Need-loop-holds Inv-loop μ-loop
 loop-holds c =
-    let r = c .pre .1 in
-    (omega (arith, r .some-hop), last-counts (c .args .t1) (c .args .n) (c .pre .0) r (c .args .n - 1) (omega (arith, r .some-hop)))
+    let r = c .pre .0 .1 in
+    (omega (arith, r .some-hop), last-counts (c .args .t1) (c .args .n) (c .pre .0 .0) r (c .args .n - 1) (omega (arith, r .some-hop)))
 
 mul-hop : tie.Need-mul-hop Inv-loop μ-loop
 mul-hop c = search needs
 
 array-copy-out-hop : tie.Need-array-copy-out-hop Inv-loop μ-loop
-array-copy-out-hop c = omega (arith, c .before .before .pre .1 .few-hops)
+array-copy-out-hop c = omega (arith, c .before .before .pre .0 .1 .few-hops)
 
 sub-j-2 : tie.Need-sub-j-2 Inv-loop μ-loop
 sub-j-2 c = search needs
@@ -34,13 +34,13 @@ mul-before : tie.Need-mul-before Inv-loop μ-loop
 mul-before c = search needs
 
 array-copy-out-before : tie.Need-array-copy-out-before Inv-loop μ-loop
-array-copy-out-before c = omega (arith, c .before .before .before .pre .1 .few-hops)
+array-copy-out-before c = omega (arith, c .before .before .before .pre .0 .1 .few-hops)
 
 row-before-requires : tie.Need-row-before-requires Inv-loop μ-loop
 row-before-requires c κs =
     let s = c .before .before .before .before .before in
     let l = c .before .before .before .before .loop in
-    counts-entered (s .args .t1) (s .args .n) (s .pre .0) (s .pre .1) (l .j) (l .row) (l .inv .0) (l .inv .1)
+    counts-entered (s .args .t1) (s .args .n) (s .pre .0 .0) (s .pre .0 .1) (l .j) (l .row) (l .inv .0) (l .inv .1)
 
 loop-less : tie.Need-loop-less Inv-loop μ-loop
 loop-less c = let t : 0 < c .before .before .before .before .before .loop .j = c .before .before .before .before .loop-test .taken in omega arith
@@ -50,7 +50,7 @@ loop-again c =
     let a = c .before .before .before .before .before .before .args in
     let l = c .before .before .before .before .before .loop in (
       omega (arith, l .inv .0),
-      counts-before (a .t1) (a .n) (l .j) (l .row) (c .row-before .result) (c .before .before .before .before .loop-test .taken) (l .inv .0) (l .inv .1) (c .row-before .ensures),
+      counts-before (a .t1) (a .n) (l .j) (l .row) (c .row-before .result) (c .before .before .before .before .loop-test .taken) (l .inv .0) (c .before .before .before .before .before .before .pre .1 (l .j) (l .inv .0)) (l .inv .1) (c .row-before .ensures),
     )
 
 array-copy-out-start : tie.Need-array-copy-out-start Inv-loop μ-loop
@@ -61,8 +61,8 @@ running-sums-requires c κs =
     let s = c .before .before .before .before in
     let l = c .before .before .before .loop in
     let e : l .j ≡ 0 = omega arith in (
-      s .pre .1 .each 0 (s .pre .1 .some-hop) .few-frames,
-      counts-small (s .args .t1) (s .args .n) (s .pre .0) (s .pre .1) 0 (l .row) (rw e at (l .inv .1)),
+      s .pre .0 .1 .each 0 (s .pre .0 .1 .some-hop) .few-frames,
+      counts-small (s .args .t1) (s .args .n) (s .pre .0 .0) (s .pre .0 .1) 0 (l .row) (rw e at (l .inv .1)),
     )
 
 cast-result : tie.Need-cast-result Inv-loop μ-loop
@@ -72,14 +72,14 @@ mul-result : tie.Need-mul-result Inv-loop μ-loop
 mul-result c = search needs
 
 array-read-result : tie.Need-array-read-result Inv-loop μ-loop
-array-read-result c = let r = c .before .before .before .before .before .before .pre .1 in omega (arith, r .each 0 (r .some-hop) .few-frames)
+array-read-result c = let r = c .before .before .before .before .before .before .pre .0 .1 in omega (arith, r .each 0 (r .some-hop) .few-frames)
 
 returns : tie.Need-returns Inv-loop μ-loop
 returns c =
     let s = c .before .before .before .before .before .before in
     let l = c .before .before .before .before .before .loop in
     let e : l .j ≡ 0 = omega arith in
-    counts-all (s .args .t1) (s .args .n) (l .row) (c .before .running-sums .result) (s .pre .1 .some-hop) (rw e at (l .inv .1)) (c .before .running-sums .ensures)
+    counts-all (s .args .t1) (s .args .n) (l .row) (c .before .running-sums .result) (s .pre .0 .1 .some-hop) (s .pre .1 0 (s .pre .0 .1 .some-hop)) (rw e at (l .inv .1)) (c .before .running-sums .ensures)
 
 pub number-over-spec : {M : Type 1} → statement M
 number-over-spec =

@@ -2,6 +2,7 @@
 use mathlib.Core.Path.{_≡_}
 use Prim.Native.Nat.{_+_, _-_, _≤_}
 use native.Mathlib.Nat.{mod-lt}
+use lib.ListN.{getD}
 use native.Mathlib.Omega.{arith}
 use borrow.Author.Needs.{needs}
 use Rattle.forwarding.proofs.Holds.{reference-in, least-range, least-in, choices-in}
@@ -60,7 +61,7 @@ window-requires c κs =
       mod-lt (c .before .reference-frame .result + c .before .before .before .before .before .least-hold .result) (p .ready .some-frame),
       omega (arith, c .before .before .before .before .choices .ensures, choices-in (p .ticks) (a .hop) (p .ready)),
       p .ready .few-frames,
-      (freeWays (a .hop .free) (a .row .now), c .before .before .before .before .before .before .running-sums .ensures),
+      (freeWays (getD (a .hop .free) 0 0) (a .row .now), c .before .before .before .before .before .before .running-sums .ensures),
     )
 
 cast-ways : tie.Need-cast-ways Inv-loop μ-loop
@@ -84,7 +85,7 @@ loop-again c =
     let p = s .pre in
     let a = s .args in
     let l = c .before .before .before .before .loop in
-    let f = freeWays (a .hop .free) (a .row .now) in (
+    let f = freeWays (getD (a .hop .free) 0 0) (a .row .now) in (
       omega arith,
       one-before (a .before) (a .hop) (a .row .now) (l .k) (l .ways) (c .window .result) (omega (arith, p .few-before)) (l .inv .1)
           (row-window (a .before) (a .hop) (a .row .now) (l .k) (c .before .before .reference-frame .result) (c .before .before .before .before .before .before .least-hold .result)
