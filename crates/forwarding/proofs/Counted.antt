@@ -18,7 +18,7 @@ use Rattle.trellis.proofs.Ladder.{ladder}
 use Rattle.forwarding.specs.declared.Hop.{Hop}
 use Rattle.forwarding.specs.Forwarding.{Spot, IsOn, isAllowed}
 use Rattle.forwarding.specs.Hops.{noHop}
-use Rattle.forwarding.specs.Schedule.{GoesOn, IsSchedule, Transition, IsConsidered, CountOf, CountOnly}
+use Rattle.forwarding.specs.Schedule.{IsSchedule, Transition, IsConsidered, CountOf, CountOnly}
 use Rattle.forwarding.specs.Route.{nodes, nodeAt, spotAt, nodesOn, spotsOn, starts, routeTrellis, transitions, TransitionsCounted}
 use Rattle.forwarding.specs.Inner.{hopAt, stageAfter}
 use Rattle.forwarding.proofs.Spots.{spot-back, node-back, node-in, spot-on}

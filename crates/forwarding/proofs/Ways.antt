@@ -2,14 +2,14 @@
 use mathlib.Core.Path.{_≡_, refl, sym, _∙_, ap, subst}
 use mathlib.Core.Bool.{Bool, true}
 use mathlib.Core.List.{List, [], _∷_, map, List·Memᴰ, List·Memᴰ·head, List·Memᴰ·not-nil, List·Memᴰ·eq-of-singleton}
-use Prim.Native.Nat.{ℕ, _+_, _*_, _%_, _^_, _<_, _≤_}
-use native.Mathlib.Nat.{le-trans, zero-add, mod-lt, mul-one, one-mul, mul-le-mul, pow-suc, pow-le-pow-right}
+use Prim.Native.Nat.{ℕ, _+_, _*_, _^_, _<_, _≤_}
+use native.Mathlib.Nat.{le-trans, zero-add, mod-lt, mul-one, one-mul, mul-le-mul, pow-zero, pow-suc, pow-le-pow-right}
 use native.Mathlib.Omega.{arith}
 use lib.ListN.{length}
 use Rattle.lists.specs.Count.{oneIf, sumBelow}
 use Rattle.lists.specs.Once.{EachOnce}
-use Rattle.lists.proofs.Count.{sum-cong, sum-const, sum-bound, count-all}
-use Rattle.lists.proofs.Sums.{sum-times, one-times-le}
+use Rattle.lists.proofs.Count.{sum-cong, sum-const, count-all}
+use Rattle.lists.proofs.Sums.{sum-times, sum-most}
 use Rattle.lists.proofs.Once.{same-members, empty-none, none-empty}
 use Rattle.words.specs.Word.{bitOf, wordOf}
 use Rattle.trellis.specs.Paths.{listIf, gather}
@@ -146,36 +146,45 @@ ways-open T (h ∷ hs) p one o =
     ∙ sum-times (nodes h) (laterChoices hs) (λ k. oneIf (isFree h (spotAt h k)))
     ∙ ap (λ (n : ℕ). n * laterChoices hs) (count-all (nodes h) (λ k. isFree h (spotAt h k)) (λ k l. o .0 (spotAt h k) (spot-on h k l)) ∙ ap (λ (n : ℕ). h .frames * n) (one .0) ∙ mul-one (h .frames))
 
--- ---- THE BOUND: at most 64 frames in 4 colours at each hop
+-- ---- THE BOUND: where each hop has at most b frames in colours, b to the power of the hops
+abbrev pub EachFew : ℕ → List Hop → Type 0
+EachFew b [] = Unit {0}
+EachFew b (h ∷ hs) = (nodes h ≤ b) × EachFew b hs
+
+module _ (b : ℕ) where
+  on-few : (g : Hop) (x : Spot) (hs : List Hop) → EachFew b hs → length (waysOn g x hs) ≤ b ^ length hs
+  on-few g x [] p = omega (arith, pow-zero b)
+  on-few g x (h ∷ hs) p =
+      omega (
+        arith,
+        on-ways g x h hs,
+        sum-most b (nodes h) (b ^ length hs) (λ i. isAllowed g h x (spotAt h i)) (λ i. length (waysOn h (spotAt h i) hs)) (p .0) (λ i l. on-few h (spotAt h i) hs (p .1)),
+        pow-suc b (length hs),
+      )
+
+  pub ways-few : (hops : List Hop) → EachFew b hops → routeWays hops ≤ b ^ length hops
+  ways-few [] p = unfold routeWays schedules in omega arith
+  ways-few (h ∷ hs) p =
+      omega (
+        arith,
+        all-ways h hs,
+        sum-most b (nodes h) (b ^ length hs) (λ k. isFree h (spotAt h k)) (λ k. length (waysOn h (spotAt h k) hs)) (p .0) (λ k l. on-few h (spotAt h k) hs (p .1)),
+        pow-suc b (length hs),
+      )
+
+-- at most 64 frames in 4 colours at each hop
 pub nodes-few : (T : ℕ) (h : Hop) → HopReady T h → nodes h ≤ 256
 nodes-few T h p = mul-le-mul {n₁ = h .frames} {m₁ = h .colours} {n₂ = 64} {m₂ = 4} (p .few-frames) (p .few-colours)
 
-pub sum-most : (K w : ℕ) (p : ℕ → Bool) (f : ℕ → ℕ) → K ≤ 256 → ((i : ℕ) → i < K → f i ≤ w) → sumBelow K (λ i. oneIf (p i) * f i) ≤ 256 * w
-sum-most K w p f h l =
-    le-trans (sum-bound K w (λ i. oneIf (p i) * f i) (λ i m. le-trans (one-times-le (p i) (f i)) (l i m))) (mul-le-mul h (omega arith))
+each-few : (T : ℕ) (hs : List Hop) → AllReady T hs → EachFew 256 hs
+each-few T [] p = tt
+each-few T (h ∷ hs) p = (nodes-few T h (p .0), each-few T hs (p .1))
 
-on-most : (T : ℕ) (g : Hop) (x : Spot) (hs : List Hop) → AllReady T hs → length (waysOn g x hs) ≤ 256 ^ length hs
-on-most T g x [] p = omega arith
-on-most T g x (h ∷ hs) p =
-    omega (
-      arith,
-      on-ways g x h hs,
-      sum-most (nodes h) (256 ^ length hs) (λ i. isAllowed g h x (spotAt h i)) (λ i. length (waysOn h (spotAt h i) hs)) (nodes-few T h (p .0)) (λ i l. on-most T h (spotAt h i) hs (p .1)),
-      pow-suc 256 (length hs),
-    )
-
--- of at most seven later hops
 pub on-within : (T : ℕ) (g : Hop) (x : Spot) (hs : List Hop) → AllReady T hs → length hs ≤ 7 → length (waysOn g x hs) ≤ 256 ^ 7
-on-within T g x hs p l = le-trans (on-most T g x hs p) (pow-le-pow-right (omega arith) l)
+on-within T g x hs p l = le-trans (on-few 256 g x hs (each-few T hs p)) (pow-le-pow-right (omega arith) l)
 
 pub ways-most : WaysMost
-ways-most T [] l p = unfold routeWays schedules in omega arith
-ways-most T (h ∷ hs) l p =
-    omega (
-      arith,
-      all-ways h hs,
-      sum-most (nodes h) (256 ^ 7) (λ k. isFree h (spotAt h k)) (λ k. length (waysOn h (spotAt h k) hs)) (nodes-few T h (p .0)) (λ k m. on-within T h (spotAt h k) hs (p .1) (omega arith)),
-    )
+ways-most T hops l p = le-trans (ways-few 256 hops (each-few T hops p)) (pow-le-pow-right (omega arith) l)
 
 -- THE STARRED ROUTES, computed by the rule
 pub starred-ways : StarredWays

@@ -1,13 +1,14 @@
--- Laws of sums: a common factor, a part of a sum, and sums that go round a cycle. Assumes nothing.
+-- Laws of sums: a common factor, a bound, a part of a sum, sums that go round a cycle, and sums of
+-- sums. Assumes nothing.
 use mathlib.Core.Path.{_≡_, refl, sym, _∙_, ap}
 use mathlib.Core.Bool.{Bool, true, false}
 use Prim.Native.Nat.{ℕ, zero, suc, _+_, _-_, _*_, _%_, _<_, _≤_}
-use native.Mathlib.Nat.{mul-comm, mul-suc, suc-mul, add-mul, zero-mul, one-mul, add-mod-right, mod-eq-of-lt}
+use native.Mathlib.Nat.{le-trans, mul-le-mul, suc-mul, add-mul, zero-mul, one-mul, add-mod-right, mod-eq-of-lt}
 use native.Mathlib.Omega.{arith}
 use lib.Dec.{ltb}
 use borrow.Author.Tests.{lt-ltb, le-ltb}
 use Rattle.lists.specs.Count.{oneIf, sumBelow}
-use Rattle.lists.proofs.Count.{sum-cong, sum-split, sum-const}
+use Rattle.lists.proofs.Count.{sum-cong, sum-split, sum-const, sum-bound}
 
 pub sum-times : (n c : ℕ) (f : ℕ → ℕ) → sumBelow n (λ k. f k * c) ≡ sumBelow n f * c
 sum-times zero c f = sym (zero-mul c)
@@ -16,6 +17,13 @@ sum-times (suc n) c f = rw (add-mul (sumBelow n f) (f n) c) (ap (λ (x : ℕ). x
 pub one-times-le : (b : Bool) (x : ℕ) → oneIf b * x ≤ x
 one-times-le true x = omega (arith, one-mul x)
 one-times-le false x = omega (arith, zero-mul x)
+
+-- over at most b numbers, each at most w
+pub sum-most : (b n w : ℕ) (p : ℕ → Bool) (f : ℕ → ℕ) → n ≤ b → ((k : ℕ) → k < n → f k ≤ w) → sumBelow n (λ k. oneIf (p k) * f k) ≤ b * w
+sum-most b n w p f h l =
+    le-trans
+    (sum-bound n w (λ k. oneIf (p k) * f k) (λ k m. le-trans (one-times-le (p k) (f k)) (l k m)))
+    (mul-le-mul {n₁ = n} {m₁ = w} {n₂ = b} {m₂ = w} h (omega arith))
 
 -- the first members of a sum
 pub sum-first : (n m : ℕ) (f : ℕ → ℕ) → n ≤ m → sumBelow n f ≤ sumBelow m f

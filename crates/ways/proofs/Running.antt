@@ -2,13 +2,12 @@
 use mathlib.Core.Path.{_≡_, refl, _∙_, ap₂}
 use mathlib.Core.List.{List}
 use Prim.Native.Nat.{ℕ, _+_, _-_, _*_, _%_, _^_, _<_, _≤_}
-use native.Mathlib.Nat.{le-trans, mul-le-mul}
+use native.Mathlib.Nat.{le-trans}
 use native.Mathlib.Numerals.{add-one}
 use native.Mathlib.Omega.{arith}
 use lib.ListN.{getD, set, replicate, length-set, length-replicate}
 use Rattle.lists.specs.Count.{sumBelow}
-use Rattle.lists.proofs.Count.{sum-bound}
-use Rattle.lists.proofs.Sums.{sum-first, round-within, round-across, one-times-le}
+use Rattle.lists.proofs.Sums.{sum-first, round-within, round-across, sum-most}
 use Rattle.words.specs.Word.{bitOf}
 use Rattle.places.proofs.Firsts.{one-stored}
 use Rattle.ways.specs.Inner.{freeWays, SmallRow, SumsTo, CycleSums}
@@ -28,8 +27,7 @@ module _ (f : ℕ → ℕ) where
 
 -- no sum over a row passes 64 times 256 to the power 7
 pub sum-small : (K free : ℕ) (row : List ℕ) → K ≤ 64 → SmallRow K row → (i : ℕ) → i ≤ K → sumBelow i (freeWays free row) ≤ 64 * 256 ^ 7
-sum-small K free row h small i l =
-    le-trans (sum-bound i (256 ^ 7) (freeWays free row) (λ k m. le-trans (one-times-le (bitOf free k) (getD row k 0)) (small k (omega arith)))) (mul-le-mul {n₁ = i} {m₁ = 256 ^ 7} {n₂ = 64} {m₂ = 256 ^ 7} (le-trans l h) (omega arith))
+sum-small K free row h small i l = sum-most 64 i (256 ^ 7) (bitOf free) (λ k. getD row k 0) (le-trans l h) (λ k m. small k (omega arith))
 
 -- ---- of a whole cycle no sum is smaller than one before it, and none passes 64 times 256 to the power 7
 module _ (f : ℕ → ℕ) (K : ℕ) (sums : List ℕ) (s : CycleSums f K sums) where
