@@ -1,6 +1,7 @@
--- Lists without repetition that have the same members are equally long; and lists without members. Assumes nothing.
+-- Lists without repetition that have the same members are equally long; lists without members; and
+-- maps that are equal on a list, member by member. Assumes nothing.
 use mathlib.Core.Path.{_≡_, refl, sym, ap}
-use mathlib.Core.List.{List, [], _∷_, _++_, List·Memᴰ, List·Memᴰ·head, List·Memᴰ·tail, List·Memᴰ·cases-cons, List·Memᴰ·not-nil, List·Memᴰ·append-cases, Memᴰ·append-left, Memᴰ·append-right, Memᴰ·cast}
+use mathlib.Core.List.{List, [], _∷_, _++_, List·Memᴰ, List·Memᴰ·head, List·Memᴰ·tail, List·Memᴰ·cases-cons, List·Memᴰ·not-nil, List·Memᴰ·append-cases, map, head-eq-of-cons-eq, tail-eq-of-cons-eq, Memᴰ·append-left, Memᴰ·append-right, Memᴰ·cast}
 use mathlib.Core.Logic.{⊎-elim}
 use Prim.Native.Nat.{_≤_}
 use native.Mathlib.Nat.{le-antisymm}
@@ -47,3 +48,8 @@ module _ {A : Type 0} where
   pub none-empty : (l : List A) → ((x : A) → List·Memᴰ x l → ⊥) → length l ≡ 0
   none-empty [] h = refl
   none-empty (y ∷ l) h = absurd (h y (List·Memᴰ·head refl))
+
+-- maps that are equal on a list are equal at each of its members
+pub map-at : {A X : Type 0} (f g : A → X) (l : List A) → map f l ≡ map g l → (x : A) → List·Memᴰ x l → f x ≡ g x
+map-at f g [] e x m = absurd (List·Memᴰ·not-nil m)
+map-at f g (y ∷ l) e x m = ⊎-elim (λ q. rw q (head-eq-of-cons-eq e)) (map-at f g l (tail-eq-of-cons-eq e) x) (List·Memᴰ·cases-cons m)
