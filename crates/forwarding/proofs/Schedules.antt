@@ -1,4 +1,5 @@
--- The schedules of a route are the paths of its trellis, with their delays and keys; and the test of a schedule. Assumes nothing.
+-- The schedules of a route are the paths of its trellis, with their delays and keys; and the test
+-- of a schedule. Assumes nothing.
 use mathlib.Core.Path.{_≡_, refl, sym, _∙_, ap, ap₂, subst}
 use mathlib.Core.Bool.{Bool, true, false, false≢true, _&&_}
 use mathlib.Core.List.{List, [], _∷_, _++_, reverse, append-nil, append-assoc}
@@ -64,7 +65,12 @@ module _ (T : ℕ) where
   steps-delay g x (h ∷ hs) (y ∷ ys) c o =
       ap₂ _+_ (ap (delay T (h .frames)) (same-hold g h x y c (o .0 .1))) (steps-delay h y hs ys (o .0 .1) (o .2))
 
-  -- two ways back, and what follows them
+  -- a step back: the hold, the preceding frame, the preceding colour
+  step-back : (g h : Hop) (x y : Spot) (hs : List Hop) (ys : List Spot) (t : List ℕ)
+      → goingBack g x (h ∷ hs) (y ∷ ys) ++ t ≡ goingBack h y hs ys ++ (holdInto g h (x .frame) (y .frame) ∷ x .frame ∷ x .colour ∷ t)
+  step-back g h x y hs ys t = append-assoc (goingBack h y hs ys) (holdInto g h (x .frame) (y .frame) ∷ x .frame ∷ x .colour ∷ []) t
+
+  -- two ways back and their tails: the trellis orders them as the rule does
   steps-back : (g : Hop) (x x′ : Spot) (hs : List Hop) (ys ys′ : List Spot) (s s′ t t′ : List ℕ) → x .colour < g .colours → x′ .colour < g .colours → GoesOn g x hs ys → GoesOn g x′ hs ys′
       → Precedes s s′ ↔ Precedes t t′
       → Precedes (onwardBack (nodeAt g x) (stages T g hs) (nodesOn hs ys) ++ s) (onwardBack (nodeAt g x′) (stages T g hs) (nodesOn hs ys′) ++ s′)
@@ -76,8 +82,8 @@ module _ (T : ℕ) where
       rw (
         append-assoc (onwardBack (nodeAt h y) (stages T h hs) (nodesOn hs ys)) (holdInto g h (nodeAt g x / g .colours) (nodeAt h y / h .colours) ∷ nodeAt g x ∷ []) s,
         append-assoc (onwardBack (nodeAt h y′) (stages T h hs) (nodesOn hs ys′)) (holdInto g h (nodeAt g x′ / g .colours) (nodeAt h y′ / h .colours) ∷ nodeAt g x′ ∷ []) s′,
-        append-assoc (goingBack h y hs ys) (holdInto g h (x .frame) (y .frame) ∷ x .frame ∷ x .colour ∷ []) t,
-        append-assoc (goingBack h y′ hs ys′) (holdInto g h (x′ .frame) (y′ .frame) ∷ x′ .frame ∷ x′ .colour ∷ []) t′,
+        step-back g h x y hs ys t,
+        step-back g h x′ y′ hs ys′ t′,
         same-hold g h x y c (o .0 .1),
         same-hold g h x′ y′ c′ (o′ .0 .1),
       )
@@ -219,7 +225,7 @@ schedule-frame (h ∷ hs) [] s j l = absurd s
 schedule-frame (h ∷ hs) (k ∷ is) s zero l = s .0 .0
 schedule-frame (h ∷ hs) (k ∷ is) s (suc j) l = onward-frame h k hs is (s .2) j (le-of-suc-le-suc l)
 
--- ---- each frame of a schedule is one of its hop, in one of its colours; and it has one for each hop
+-- ---- a schedule has a spot for each hop, each one of its hop's
 abbrev pub noSpot : Spot
 noSpot = record { frame = 0; colour = 0 }
 
