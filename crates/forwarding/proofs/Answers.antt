@@ -34,7 +34,8 @@ module _ (T : ℕ) (hops : List Hop) where
   answer-said (found d n fs) r = ((r .0 .schedule, r .0 .first), r .1, is-count n (r .2))
   answer-said (blocked n) r = (r .0, is-count n (r .1))
 
--- THE ANSWER IS THE LEAST SCHEDULE, ties as written, or blocked where there is none; and it is the only one
+-- THE ANSWER IS THE LEAST SCHEDULE, ties as written, or blocked where there is none; and it is the
+-- only one
 pub answer-rules : AnswerRules
 unfolding routeAnswer
 answer-rules T hops =

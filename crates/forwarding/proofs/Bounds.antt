@@ -1,4 +1,4 @@
--- The bounds of document 01: a schedule's delay is at most 7 × 960, the count at most the sum of K × Z. Assumes nothing.
+-- The bounds of a schedule's delay (document 01) and of the count (W-211). Assumes nothing.
 use mathlib.Core.Path.{_≡_, refl, ap, ap₂}
 use mathlib.Core.List.{List, [], _∷_}
 use Prim.Native.Nat.{ℕ, _+_, _*_, _≤_}

@@ -1,4 +1,5 @@
--- The count of transitions considered is the number of those that document 01 names. Assumes nothing.
+-- The count of transitions considered is the number of those that document 01 names.
+-- Assumes nothing.
 use mathlib.Core.Path.{_≡_, refl, sym, _∙_, ap, ap₂, subst}
 use mathlib.Core.Bool.{Bool, true, _&&_}
 use mathlib.Core.List.{List, [], _∷_, _++_, map, Memᴰ·map, Memᴰ·of-map, Memᴰ·cast, reverse, reverse-cons, reverse-append, List·Memᴰ, List·Memᴰ·head, List·Memᴰ·not-nil, List·Memᴰ·eq-of-singleton}

@@ -1,4 +1,5 @@
--- The cycles of a schedule: the frame of each hop lies in its cycle, after the one before it, and cycles rise by one at most (W-202). Assumes nothing.
+-- The cycles of a schedule: the frame of each hop lies in its cycle, after the one before it, and
+-- cycles rise by one at most (W-202). Assumes nothing.
 use mathlib.Core.Path.{_≡_, refl, sym, _∙_, ap}
 use mathlib.Core.Bool.{Bool, true, false, cond}
 use mathlib.Core.List.{List, [], _∷_}
@@ -97,7 +98,7 @@ every-hop : (hops : List Hop) → Every (λ h. Unit {0}) hops
 every-hop [] = tt
 every-hop (h ∷ hs) = (tt, every-hop hs)
 
--- what holds of every transition of a schedule and the cycles of its two hops, where Q holds of both hops, holds of every later hop
+-- P of every transition whose two hops have Q, with their cycles, gives P of every later hop
 module _ (Q : Hop → Type 0) (P : Hop → Hop → ℕ → ℕ → ℕ → ℕ → Type 0) where
   abbrev Each : Type 0
   Each = (g h : Hop) (x y : Spot) (c : ℕ) → Q g → Q h → x .frame < g .frames → y .frame < h .frames → isAllowed g h x y ≡ true → P g h (x .frame) (y .frame) c (nextCycle g h (x .frame) (y .frame) c)

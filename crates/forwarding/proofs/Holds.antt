@@ -1,4 +1,5 @@
--- The hold is the only number from the least hold on that fits; the frames within a range of holds are counted. Assumes nothing.
+-- The hold is the only number from the least hold on that fits; the frames within a range of holds
+-- are counted. Assumes nothing.
 use mathlib.Core.Path.{_≡_, refl, sym, _∙_, ap, subst}
 use mathlib.Core.Bool.{Bool, true, false}
 use Prim.Native.Nat.{ℕ, _+_, _-_, _*_, _%_, _<_, _≤_}
@@ -14,7 +15,8 @@ use Rattle.forwarding.specs.declared.Hop.{Hop}
 use Rattle.forwarding.specs.Forwarding.{reference, referenceInto, leastHold, gap, hold, holdInto, choices, ChoicesAreZ}
 use Rattle.forwarding.specs.Hops.{HopReady}
 
--- D leads from the reference frame r to the frame i of a link with K frames, and is one of the K numbers from Y on
+-- D leads from the reference frame r to the frame i of a link with K frames, and is one of the K
+-- numbers from Y on
 pub record FitsFrom (Y K r i D : ℕ) : Type 0 where
   pub least : Y ≤ D
   pub most : D < Y + K

@@ -1,4 +1,5 @@
--- The bound of the number of ways over links of one colour, at most 64 frames each. Assumes nothing.
+-- The bound of the number of ways over links of one colour, at most 64 frames each.
+-- Assumes nothing.
 use mathlib.Core.Path.{_≡_, _∙_, ap}
 use mathlib.Core.List.{List, [], _∷_}
 use Prim.Native.Nat.{ℕ, _*_, _≤_}

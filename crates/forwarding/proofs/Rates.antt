@@ -1,4 +1,5 @@
--- The reference frame at equal rates and where rates change, and that it waits for the whole frame (W-201). Assumes nothing.
+-- The reference frame at equal rates and where rates change, and that it waits for the whole frame
+-- (W-201). Assumes nothing.
 use mathlib.Core.Path.{_≡_, sym, _∙_, ap}
 use Prim.Native.Nat.{ℕ, _+_, _-_, _*_, _/_, _<_, _≤_}
 use native.Mathlib.Nat.{add-zero, mod-eq-of-lt, zero-div, div-eq-of-lt-le, div-div-eq-div-mul, div-mul-le-self, lt-div-mul-add, le-div-iff-mul-le, mul-assoc, mul-comm, mul-right-comm, add-mul, zero-mul, one-mul, mul-le-mul-right, mul-lt-mul-of-pos-right, le-of-mul-le-mul-right, lt-of-mul-lt-mul-right}
@@ -43,7 +44,8 @@ pub never-earlier : NeverEarlier
 unfolding reference
 never-earlier k K K′ p q = le-div-iff-mul-le q .1 (omega (arith, div-mul-le-self (k * K) K′, next-mul k K))
 
--- two adjacent hops, for a cycle of T ticks: frame k of the first ends at tick (k + 1) × T / K', frame j of the second begins at tick j × T / K
+-- two adjacent hops, for a cycle of T ticks: frame k of the first ends at tick (k + 1) × T / K',
+-- frame j of the second begins at tick j × T / K
 module _ (T : ℕ) (g h : Hop) (k : ℕ) (pg : HopReady T g) (ph : HopReady T h) where
   abbrev r : ℕ
   r = referenceInto g h k

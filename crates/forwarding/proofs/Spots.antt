@@ -1,4 +1,5 @@
--- A frame in a colour and its node: each tells the other, and a sum over the nodes of a hop is one over its frames and its colours. Assumes nothing.
+-- A spot and its node determine each other; a sum over the nodes of a hop is one over its frames
+-- and its colours. Assumes nothing.
 use mathlib.Core.Path.{_≡_, refl, _∙_, ap, ap₂}
 use mathlib.Core.List.{List, [], _∷_}
 use Prim.Native.Nat.{ℕ, _<_}
@@ -23,7 +24,7 @@ node-in h x o = digits-below (h .frames) (h .colours) (x .frame) (x .colour) (o 
 pub spot-on : (h : Hop) (n : ℕ) → n < nodes h → IsOn h (spotAt h n)
 spot-on h n l = (below-first (h .frames) (h .colours) n l, below-second (h .frames) (h .colours) n l)
 
--- FRAMES AND COLOURS TELL THE LIST
+-- FRAMES AND COLOURS DETERMINE THE LIST
 pub colours-joined : ColoursJoined
 colours-joined [] = refl
 colours-joined (x ∷ xs) = ap (λ (l : List Spot). x ∷ l) (colours-joined xs)

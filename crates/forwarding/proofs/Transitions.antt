@@ -1,4 +1,5 @@
--- Laws of a single transition: its hold, its delay in frames' times, and what it is allowed by. Assumes nothing.
+-- Laws of a single transition: its hold, its delay, its colours, and where it is allowed.
+-- Assumes nothing.
 use mathlib.Core.Path.{_≡_, refl, sym, _∙_, ap}
 use mathlib.Core.Bool.{Bool, true, false, _&&_}
 use Prim.Native.Nat.{ℕ, zero, suc, _+_, _-_, _*_, _/_, _%_, _<_, _≤_}
@@ -77,7 +78,7 @@ two-fit h r l y z = (
   record { least = omega (arith, y); most = omega (arith, z); fits = add-mod-right r (h .frames) ∙ mod-eq-of-lt l },
 )
 
--- colours that may be come to
+-- the test of a change of colour
 pub may-turn : (h : Hop) (c d : ℕ) → mayTurn h c d ≡ true → MayTurn h c d
 unfolding mayTurn
 may-turn h c d e = let b = and-both (leb c (d + h .turn)) (leb d (c + h .turn)) e in (leb-true c (d + h .turn) (b .0), leb-true d (c + h .turn) (b .1))
@@ -103,7 +104,7 @@ allowed g h x y a =
     both-and (mayHold h (holdInto g h (x .frame) (y .frame))) (mayTurn h (x .colour) (y .colour) && isFree h y) (a .holds)
     (both-and (mayTurn h (x .colour) (y .colour)) (isFree h y) (a .turns) (a .into-free))
 
--- A TRANSITION IS ALLOWED EXACTLY WHERE THERE IS SUCH A NUMBER, the colour may change so and the frame is free
+-- ALLOWED EXACTLY WHERE A NUMBER FITS, the colour may change so, and the spot is free
 pub allowed-where : AllowedWhere
 unfolding holdInto
 allowed-where T g h x y p l = (
@@ -123,7 +124,7 @@ allowed-cap T g h x y p a =
     delay-le T (h .frames) (holdInto g h (x .frame) (y .frame))
     (le-trans (may-hold h (holdInto g h (x .frame) (y .frame)) (allows g h x y a .holds)) (p .in-cycle))
 
--- ---- how many: at most 2R + 1 colours, and as many frames as there are holds
+-- ---- a spot leads to at most 2R + 1 colours, and to as many frames as there are holds
 near-few : (h : Hop) (c n : ℕ) → (countBelow n (λ d. mayTurn h c d) ≤ n + h .turn - c) × (countBelow n (λ d. mayTurn h c d) ≤ 2 * h .turn + 1)
 near-few h c zero = (omega arith, omega arith)
 near-few h c (suc n) = go (mayTurn h c n) refl (near-few h c n)
@@ -147,7 +148,7 @@ three-ones true true c = omega (arith, one-le c)
 three-ones true false c = omega arith
 three-ones false b c = omega arith
 
--- from a frame in a colour at most as many frames in colours of the next hop are led to as there are holds, times 2R + 1
+-- and to at most as many spots as there are holds, times 2R + 1
 pub allowed-narrow : (T : ℕ) (g h : Hop) (x : Spot) → HopReady T h → countBelow (nodes h) (λ n. isAllowed g h x (spotAt h n)) ≤ choices h * turnChoices h
 allowed-narrow T g h x p =
     le-trans

@@ -1,8 +1,9 @@
--- The list of all schedules has each schedule, nothing else, and nothing twice; and its length, hop by hop. Assumes nothing.
+-- The list of all schedules has each schedule, nothing else, and nothing twice; and its length, hop
+-- by hop. Assumes nothing.
 use mathlib.Core.Path.{_≡_, refl, sym, _∙_, ap, subst}
 use mathlib.Core.Bool.{Bool, true}
 use mathlib.Core.List.{List, [], _∷_, map, List·Memᴰ, List·Memᴰ·head, List·Memᴰ·not-nil, List·Memᴰ·eq-of-singleton}
-use Prim.Native.Nat.{ℕ, _+_, _*_, _^_, _<_, _≤_}
+use Prim.Native.Nat.{ℕ, _+_, _*_, _^_, _≤_}
 use native.Mathlib.Nat.{le-trans, zero-add, mod-lt, mul-one, one-mul, mul-le-mul, pow-zero, pow-suc, pow-le-pow-right}
 use native.Mathlib.Omega.{arith}
 use lib.ListN.{length}
@@ -27,12 +28,12 @@ use Rattle.forwarding.proofs.Windows.{firstFrame, at, window-sum}
 use Rattle.forwarding.proofs.Counted.{transitions-counted}
 use Rattle.forwarding.proofs.Answers.{blocked-none, none-blocked}
 
--- ---- the ways on from a frame in a colour are the lists that go on from it, each once
+-- ---- the ways on from a spot are the lists that go on from it, each once
 on-once : (g : Hop) (x : Spot) (hs : List Hop) → EachOnce (waysOn g x hs)
 on-once g x [] = (λ m. List·Memᴰ·not-nil m, tt)
 on-once g x (h ∷ hs) = headed-once (nodes h) (spotAt h) (nodeAt h) (node-back h) (λ i. isAllowed g h x (spotAt h i)) (λ i. waysOn h (spotAt h i) hs) (λ i. on-once h (spotAt h i) hs)
 
--- a list that begins with a free frame, or one that is led to, and goes on
+-- the lists that begin with a spot that passes p and go on from it
 abbrev begun : Hop → (Spot → Bool) → List Hop → List (List Spot)
 begun h p hs = gather (nodes h) (λ i. listIf (p (spotAt h i)) (map (λ ys. spotAt h i ∷ ys) (waysOn h (spotAt h i) hs)))
 
@@ -55,7 +56,7 @@ on-listed g x [] (y ∷ ys) o = absurd o
 on-listed g x (h ∷ hs) [] o = absurd o
 on-listed g x (h ∷ hs) (y ∷ ys) o = begun-in h (isAllowed g h x) hs y ys (o .0) (o .1) (on-listed h y hs ys (o .2))
 
--- A LIST STANDS IN THE LIST EXACTLY WHEN IT IS A SCHEDULE
+-- A LIST OF SPOTS IS A MEMBER EXACTLY WHEN IT IS A SCHEDULE
 listed-schedule : (hops : List Hop) (xs : List Spot) → List·Memᴰ xs (schedules hops) → IsSchedule hops xs
 unfolding schedules
 listed-schedule [] xs m = absurd (List·Memᴰ·not-nil m)
@@ -100,7 +101,7 @@ pub on-ways : (g : Hop) (x : Spot) (h : Hop) (hs : List Hop)
     → length (waysOn g x (h ∷ hs)) ≡ sumBelow (nodes h) (λ i. oneIf (isAllowed g h x (spotAt h i)) * length (waysOn h (spotAt h i) hs))
 on-ways g x h hs = headed-length (nodes h) (spotAt h) (nodeAt h) (node-back h) (λ i. isAllowed g h x (spotAt h i)) (λ i. waysOn h (spotAt h i) hs)
 
--- by colours: for each that may be come to, the window of frames of the hop entered (for a loop that goes through colours and windows)
+-- by colours: the window of frames of the hop entered, for each colour that x leads to
 pub on-windows : (T : ℕ) (g : Hop) (x : Spot) (h : Hop) (hs : List Hop) → HopReady T h
     → length (waysOn g x (h ∷ hs))
     ≡ sumBelow (h .colours) (λ c. sumBelow (choices h) (λ d. oneIf (isFree h (at h (firstFrame g h (x .frame) + d) c)) * length (waysOn h (at h (firstFrame g h (x .frame) + d) c) hs)) * oneIf (mayTurn h (x .colour) c))
@@ -146,7 +147,7 @@ ways-open T (h ∷ hs) p one o =
     ∙ sum-times (nodes h) (laterChoices hs) (λ k. oneIf (isFree h (spotAt h k)))
     ∙ ap (λ (n : ℕ). n * laterChoices hs) (count-all (nodes h) (λ k. isFree h (spotAt h k)) (λ k l. o .0 (spotAt h k) (spot-on h k l)) ∙ ap (λ (n : ℕ). h .frames * n) (one .0) ∙ mul-one (h .frames))
 
--- ---- THE BOUND: where each hop has at most b frames in colours, b to the power of the hops
+-- ---- THE BOUND: b to the power of the number of hops, where each hop has at most b spots
 abbrev pub EachFew : ℕ → List Hop → Type 0
 EachFew b [] = Unit {0}
 EachFew b (h ∷ hs) = (nodes h ≤ b) × EachFew b hs

@@ -1,4 +1,5 @@
--- The frames that a transition leads to are a window of the link's frames, going round the cycle: sums over them. Assumes nothing.
+-- The frames that a frame leads to are a window of the next link's frames, modulo its cycle: sums
+-- over windows. Assumes nothing.
 use mathlib.Core.Path.{_≡_, sym, _∙_, ap}
 use mathlib.Core.Bool.{Bool, true, false, _&&_}
 use Prim.Native.Nat.{ℕ, _+_, _*_, _%_, _<_}
@@ -23,7 +24,7 @@ both-times false b x = zero-mul x ∙ sym (zero-mul (oneIf b * x))
 abbrev pub firstFrame : Hop → Hop → ℕ → ℕ
 firstFrame g h k = (referenceInto g h k + leastHold h) % h .frames
 
--- a frame number going round the cycle, in a colour
+-- the spot of a frame number modulo the cycle, in a colour
 abbrev pub at : Hop → ℕ → ℕ → Spot
 at h i c = record { frame = i % h .frames; colour = c }
 
@@ -34,13 +35,14 @@ module _ (T : ℕ) (g h : Hop) (k : ℕ) (p : HopReady T h) where
   first-in : first < h .frames
   first-in = mod-lt (referenceInto g h k + leastHold h) (p .some-frame)
 
-  -- within the range exactly where so near after it
+  -- the hold is within the range exactly where the frame is in the window
   pub near : (i : ℕ) → mayHold h (holdInto g h k i) ≡ ltb (gap (h .frames) first i) (choices h)
   near i =
       may-choice T h (holdInto g h k i) p ∙ ap (λ (D : ℕ). ltb D (leastHold h + choices h)) (into-gap g h k i)
       ∙ test-shift (leastHold h) (gap (h .frames) first i) (choices h)
 
-  -- A SUM OVER THE FRAMES THAT ARE LED TO IS ONE OVER A WINDOW of as many as there are holds, whatever else is asked of a frame
+  -- A SUM OVER THE FRAMES THAT k LEADS TO IS ONE OVER A WINDOW of as many as there are holds, for
+  -- any further test of a frame
   pub frame-window : (free? : ℕ → Bool) (f : ℕ → ℕ) → sumBelow (h .frames) (λ i. oneIf (mayHold h (holdInto g h k i) && free? i) * f i)
       ≡ sumBelow (choices h) (λ d. oneIf (free? ((first + d) % h .frames)) * f ((first + d) % h .frames))
   frame-window free? f =
@@ -59,14 +61,14 @@ module _ (T : ℕ) (g h : Hop) (k : ℕ) (p : HopReady T h) where
       G : ℕ → ℕ
       G x = oneIf (ltb x (choices h)) * F ((first + x) % K)
 
--- one colour's part of a test that asks for the colour between two others
+-- the colour's test taken out of the three tests of a transition
 between : (a b c : Bool) (x : ℕ) → oneIf (a && (b && c)) * x ≡ oneIf (a && c) * x * oneIf b
 between true true c x = sym (mul-one (oneIf c * x))
 between true false c x = zero-mul x ∙ sym (mul-zero (oneIf c * x))
 between false true c x = sym (mul-one (0 * x))
 between false false c x = zero-mul x ∙ sym (mul-zero (0 * x))
 
--- A SUM OVER ALL THAT IS LED TO: for each colour that may be come to, the window of frames
+-- A SUM OVER THE SPOTS THAT x LEADS TO: for each colour that x leads to, the window of frames
 pub window-sum : (T : ℕ) (g h : Hop) (x : Spot) → HopReady T h → (f : Spot → ℕ)
     → sumBelow (nodes h) (λ n. oneIf (isAllowed g h x (spotAt h n)) * f (spotAt h n))
     ≡ sumBelow (h .colours) (λ c. sumBelow (choices h) (λ d. oneIf (isFree h (at h (firstFrame g h (x .frame) + d) c)) * f (at h (firstFrame g h (x .frame) + d) c)) * oneIf (mayTurn h (x .colour) c))

@@ -1,4 +1,5 @@
--- W-202, "Cycle numbers written out": the cycle of each hop of a schedule, and that its frame lies there; and what W-206 says of every later hop. Assumes nothing.
+-- W-202, "Cycle numbers written out": the cycle of each hop of a schedule, in which its frame lies,
+-- and what W-206 says of every later hop. Assumes nothing.
 use mathlib.Core.Path.{_≡_}
 use mathlib.Core.Bool.{cond}
 use mathlib.Core.List.{List, [], _∷_}
@@ -10,7 +11,8 @@ use Rattle.forwarding.specs.Forwarding.{Spot, referenceInto, IsHold, hol
 use Rattle.forwarding.specs.Hops.{noHop, AllReady}
 use Rattle.forwarding.specs.Schedule.{framesOf, IsSchedule}
 
--- "If the hop before lies at frame k of cycle c, the next has cycle c when r + D is below K, else c + 1": from the hop g to frame i of the hop h
+-- "If the hop before lies at frame k of cycle c, the next has cycle c when r + D is below K, else
+-- c + 1": from the hop g to frame i of the hop h
 unfoldable pub nextCycle : Hop → Hop → ℕ → ℕ → ℕ → ℕ
 nextCycle g h k i c = cond (ltb (referenceInto g h k + holdInto g h k i) (h .frames)) c (c + 1)
 
@@ -34,7 +36,7 @@ scheduleCycles (h ∷ hs) (k ∷ is) = 0 ∷ onwardCycles h k 0 hs is
 abbrev pub CyclePerHop : Type 0
 CyclePerHop = (hops : List Hop) (xs : List Spot) → IsSchedule hops xs → length (scheduleCycles hops (framesOf xs)) ≡ length hops
 
--- ---- what holds of every later hop: g and h are the hop before and the hop, k and i their frames, c and d their cycles
+-- ---- P of every later hop h and the hop g before it, with frames i and k, cycles d and c
 abbrev pub LaterHop : (Hop → Hop → ℕ → ℕ → ℕ → ℕ → Type 0) → List Hop → List ℕ → List ℕ → Type 0
 LaterHop P hops fs cs = (j : ℕ) → suc j < length hops
     → P (getD hops j noHop) (getD hops (suc j) noHop) (getD fs j 0) (getD fs (suc j) 0) (getD cs j 0) (getD cs (suc j) 0)
@@ -59,11 +61,13 @@ CyclesLie = (T : ℕ) (hops : List Hop) (xs : List Spot) → AllReady T hops →
 abbrev pub beginsAt : ℕ → Hop → ℕ → ℕ → ℕ
 beginsAt T h c i = (c * h .frames + i) * frameTime T (h .frames)
 
--- a frame in its cycle ends as many of its frames as its hold has, or more, after the one on the hop before has ended; so after a hold of 1 or more it begins no earlier than that
+-- a frame ends at least D frame times after the preceding hop's frame, D being its hold; so with
+-- D ≥ 1 it begins no earlier than that frame ends
 abbrev pub Follows : ℕ → Hop → Hop → ℕ → ℕ → ℕ → ℕ → Type 0
 Follows T g h k i c d = beginsAt T g c (k + 1) + holdInto g h k i * frameTime T (h .frames) ≤ beginsAt T h d (i + 1)
 
--- EACH FRAME IN ITS CYCLE COMES ITS HOLD AFTER THE ONE BEFORE: "send nothing of a frame before its last bit has arrived" (W-201) and "need two frames to turn round" (W-206), over all cycles
+-- EACH FRAME IN ITS CYCLE COMES ITS HOLD AFTER THE ONE BEFORE, over all cycles: "send nothing of a
+-- frame before its last bit has arrived" (W-201), "need two frames to turn round" (W-206)
 abbrev pub CyclesFollow : Type 0
 CyclesFollow = (T : ℕ) (hops : List Hop) (xs : List Spot) → AllReady T hops → IsSchedule hops xs → LaterHop (Follows T) hops (framesOf xs) (scheduleCycles hops (framesOf xs))
 

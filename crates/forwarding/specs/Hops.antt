@@ -1,11 +1,11 @@
--- What the search asks of a route's hops, part of what the checks of document 01 show. Assumes nothing.
+-- Preconditions of the search on a route's hops, from the checks of document 01. Assumes nothing.
 use mathlib.Core.Path.{_≡_}
 use mathlib.Core.List.{List, [], _∷_}
 use Prim.Native.Nat.{ℕ, _+_, _%_, _<_, _≤_}
 use lib.ListN.{getD}
 use Rattle.forwarding.specs.declared.Hop.{Hop}
 
--- what a place past the end of an array is read as; and what stands in a place that no hop stands in
+-- the default of a read past an array's end; and the hop in an array's unused places
 abbrev pub noHop : Hop
 noHop = record { frames = 0; range = 0; least = 0; colours = 0; turn = 0; free = [] }
 
@@ -20,7 +20,8 @@ pub record HopReady (T : ℕ) (h : Hop) : Type 0 where
   pub divides : T % h .frames ≡ 0
   -- from check 8: Z is not above K
   pub in-cycle : h .range ≤ h .frames
-  -- check 21: Y is not above Z, and is not 0 where Z is K, so that of the numbers from Y up to Z no two lead to the same frame
+  -- check 21: Y is not above Z, and is not 0 where Z is K: no two numbers from Y up to Z lead to
+  -- the same frame
   pub ordered : h .least ≤ h .range
   pub narrow : h .range < h .least + h .frames
   -- check 23: C is 1 to 4; check 24: R is below C

@@ -1,4 +1,5 @@
--- Words of the contracts of inner functions. They are no part of what is promised: `sessions` and `search` promise in the words of the other files. Assumes nothing.
+-- Words of the contracts of inner functions, no part of what is promised: `sessions` and `search`
+-- promise in the words of the other files. Assumes nothing.
 use mathlib.Core.List.{List}
 use Prim.Native.Nat.{ℕ, suc}
 use lib.ListN.{getD}

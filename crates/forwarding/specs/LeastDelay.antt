@@ -10,7 +10,8 @@ use Rattle.forwarding.specs.Schedule.{IsSchedule, scheduleDelay, LeastSc
 use Rattle.forwarding.specs.Hops.{AllReady}
 use Rattle.forwarding.specs.Route.{routeAnswer}
 
--- an answer is `found delay count frames-in-their-colours` or `blocked count`. Found: these are the least schedule, with its delay; blocked: there is no schedule; either comes with the count
+-- `found d n xs`: xs is the least schedule, d its delay; `blocked n`: there is no schedule; n is
+-- the count of transitions considered
 abbrev pub RouteAnswer : ℕ → List Hop → Answer Spot → Type 0
 RouteAnswer T hops (found d n xs) = LeastSchedule T hops xs × (scheduleDelay T hops xs ≡ d) × CountOf hops n
 RouteAnswer T hops (blocked n) = ((xs : List Spot) → IsSchedule hops xs → ⊥) × CountOf hops n
@@ -40,11 +41,11 @@ BlockedNone = (T : ℕ) (hops : List Hop) (n : ℕ) → routeAnswer T hops ≡ b
 abbrev pub NoneBlocked : Type 0
 NoneBlocked = (T : ℕ) (hops : List Hop) (n : ℕ) → ((xs : List Spot) → IsSchedule hops xs → ⊥) → CountOf hops n → routeAnswer T hops ≡ blocked n
 
--- "The transition bound is summed over K × C of the hop before times the hold choices times 2R + 1" (W-211)
+-- THE COUNT'S BOUND: "over K × C of the hop before times the hold choices times 2R + 1" (W-211)
 abbrev pub CountBound : Type 0
 CountBound = (T : ℕ) (hops : List Hop) (n : ℕ) → AllReady T hops → CountOf hops n → n ≤ transitionBound hops
 
--- FOR ROUTES OF ONE COLOUR it is the bound of before
+-- OVER LINKS OF ONE COLOUR it is the sum of K of hop j−1 times the hold choices of hop j
 abbrev pub BoundOneColour : Type 0
 BoundOneColour = (T : ℕ) (hops : List Hop) → AllReady T hops → OneColour hops → transitionBound hops ≡ plainBound hops
 

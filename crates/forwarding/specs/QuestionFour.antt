@@ -1,4 +1,5 @@
--- Document 01, "Question four": the starred cases, for a cycle of 48 ticks, with the answers of W-201, the cycles of W-202 and the case of W-206. Assumes nothing.
+-- Document 01, "Question four": the starred cases, for a cycle of 48 ticks, with the answers of
+-- W-201, the cycles of W-202 and the case of W-206. Assumes nothing.
 use mathlib.Core.Path.{_≡_}
 use mathlib.Core.Bool.{Bool, true, false, _||_}
 use mathlib.Core.List.{List, [], _∷_, map, List·Memᴰ}
@@ -12,7 +13,7 @@ use Rattle.forwarding.specs.Schedule.{framesOf}
 use Rattle.forwarding.specs.Route.{routeAnswer}
 use Rattle.forwarding.specs.Cycles.{scheduleCycles}
 
--- a route, and its answer: delay, count and frames, or blocked (18) with the count; and the cycles of the frames
+-- a route, its answer (delay, count and frames, or blocked, 18, and count), the frames' cycles
 pub record Case : Type 0 where
   pub route : List Hop
   pub expected : Answer Spot
@@ -37,7 +38,7 @@ noneFree i = false
 abbrev link : ℕ → ℕ → ℕ → (ℕ → Bool) → Hop
 link K Z Y free = record { frames = K; range = Z; least = Y; colours = 1; turn = 0; free = wordOf K free ∷ 0 ∷ 0 ∷ 0 ∷ [] }
 
--- "links A, B, E have K 8, Z 2; C 16, 4; D 4, 2"; Y has its absent value, 1, and so have C, 1, and R, 0
+-- "links A, B, E have K 8, Z 2; C 16, 4; D 4, 2", with the absent values: Y 1, one colour, R 0
 abbrev A : (ℕ → Bool) → Hop
 A = link 8 2 1
 
@@ -69,8 +70,9 @@ in-0 fs = map (λ (i : ℕ). record { frame = i; colour = 0 }) fs
 abbrev computed {ℓ} : {X : Type ℓ} → X → X
 computed x = x
 
--- row by row as in the document, and the case of W-206 after A B: "the route A B all free gives 0 0, delay 0, count 24"; W-201: "A{3} C{7} is now refused as blocked, A{3} C{10} has delay 9 and A{3} C{11} has delay 12"; W-202: A B, which is the
--- first line of the example, "ends 7 0 / 0 1"
+-- row by row as in the document, and the case of W-206 after A B: "the route A B all free gives 0
+-- 0, delay 0, count 24"; W-201: "A{3} C{7} is now refused as blocked, A{3} C{10} has delay 9 and
+-- A{3} C{11} has delay 12"; W-202: A B, which is the first line of the example, "ends 7 0 / 0 1"
 unfoldable pub starred : List Case
 starred =
     case (A allFree ∷ []) (found 0 0 (in-0 (0 ∷ []))) (computed (0 ∷ []))

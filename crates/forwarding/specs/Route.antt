@@ -1,4 +1,5 @@
--- A route as a trellis: a stage for each hop, a node for each frame in each colour; its schedules are the paths. Assumes nothing.
+-- A route as a trellis: a stage for each hop, a node for each frame in each colour; its schedules
+-- are the paths. Of this crate's statements only `SchedulesArePaths` names nodes. Assumes nothing.
 use mathlib.Core.Bool.{Bool, true, false}
 use mathlib.Core.List.{List, [], _∷_}
 use Prim.Native.Nat.{ℕ, _+_, _*_, _/_, _%_}
@@ -10,7 +11,7 @@ use Rattle.forwarding.specs.declared.Hop.{Hop}
 use Rattle.forwarding.specs.Forwarding.{Spot, isFree, holdInto, isAllowed, delay}
 use Rattle.forwarding.specs.Schedule.{IsSchedule, scheduleDelay, scheduleKey, CountOf}
 
--- the nodes of a hop: frame × C + colour, so that their order is by frame and then by colour
+-- nodes are numbered frame × C + colour, which orders them by frame and then by colour
 abbrev pub nodes : Hop → ℕ
 nodes h = h .frames * h .colours
 
@@ -20,7 +21,7 @@ nodeAt h x = x .frame * h .colours + x .colour
 abbrev pub spotAt : Hop → ℕ → Spot
 spotAt h n = record { frame = n / h .colours; colour = n % h .colours }
 
--- and those of a list, one for each hop
+-- the nodes of a list of spots and back, hop by hop
 abbrev pub nodesOn : List Hop → List Spot → List ℕ
 nodesOn [] xs = []
 nodesOn (h ∷ hs) [] = []
@@ -31,7 +32,7 @@ spotsOn [] ns = []
 spotsOn (h ∷ hs) [] = []
 spotsOn (h ∷ hs) (n ∷ ns) = spotAt h n ∷ spotsOn hs ns
 
--- hop 0: a free frame is begun at, at no delay
+-- hop 0: a schedule begins at a free spot, at no delay
 abbrev pub startIf : Bool → Reach
 startIf true = after 0
 startIf false = never
@@ -39,7 +40,8 @@ startIf false = never
 abbrev pub starts : Hop → ℕ → Reach
 starts h n = startIf (isFree h (spotAt h n))
 
--- the hop h after the hop g: a step for each allowed transition, the smaller hold first among equal costs; `cost` is what a hold costs
+-- from the hop g into the hop h: a step for each allowed transition, at the cost of its hold, the
+-- smaller hold first among equal costs
 abbrev pub stageOf : (ℕ → ℕ) → Hop → Hop → Stage
 stageOf cost g h = record {
   size = nodes h;
@@ -57,7 +59,7 @@ abbrev pub stages : ℕ → Hop → List Hop → List Stage
 stages T g [] = []
 stages T g (h ∷ hs) = stage T g h ∷ stages T h hs
 
--- a route has a link at least (refusal 12), so none is a trellis without nodes
+-- without links, which refusal 12 excludes: a trellis without nodes
 abbrev pub routeTrellis : ℕ → List Hop → Trellis
 routeTrellis T [] = entry 0 (λ i. never)
 routeTrellis T (h ∷ hs) = grow (entry (nodes h) (starts h)) (stages T h hs)
@@ -66,13 +68,14 @@ routeTrellis T (h ∷ hs) = grow (entry (nodes h) (starts h)) (stages T h hs)
 abbrev pub SchedulesArePaths : Type 0
 SchedulesArePaths = (T : ℕ) (hops : List Hop) → ArePaths Spot (routeTrellis T hops) (IsSchedule hops) (nodesOn hops) (spotsOn hops) (scheduleDelay T hops) (scheduleKey T hops)
 
--- the count of transitions considered as a number, and that it is theirs
+-- the count of transitions considered, by the trellis; it is the rule's
 abbrev pub transitions : ℕ → List Hop → ℕ
 transitions T hops = considered (routeTrellis T hops)
 
 abbrev pub TransitionsCounted : Type 0
 TransitionsCounted = (T : ℕ) (hops : List Hop) → CountOf hops (transitions T hops)
 
--- the answer of a route over its free frames, the least of the list of all paths; what it is in document 01's words: `specs/LeastDelay`
+-- the answer of a route: the least of the list of all paths; `specs/LeastDelay` states it in
+-- document 01's words
 unfoldable pub routeAnswer : ℕ → List Hop → Answer Spot
 routeAnswer T hops = renamed (spotsOn hops) (answer (routeTrellis T hops))

@@ -1,4 +1,5 @@
--- Document 01, "Least-delay schedule", in its own words and in those of W-211: schedules, their delay, their order, and the transitions considered. Assumes nothing.
+-- Document 01, "Least-delay schedule", with W-211: schedules, their delay, their order, and the
+-- transitions considered. Assumes nothing.
 use mathlib.Core.Path.{_≡_}
 use mathlib.Core.Bool.{Bool, true, false, _&&_}
 use mathlib.Core.List.{List, [], _∷_, _++_, map, List·Memᴰ}
@@ -12,31 +13,32 @@ use Rattle.forwarding.specs.declared.Hop.{Hop}
 use Rattle.forwarding.specs.Forwarding.{Spot, IsOn, isFree, holdInto, isAllowed, choices, turnChoices, delay}
 use Rattle.forwarding.specs.Hops.{noHop}
 
--- the frames and the colours of a list of frames in their colours
+-- the frames and the colours of a list of spots
 abbrev pub framesOf : List Spot → List ℕ
 framesOf xs = map (λ (x : Spot). x .frame) xs
 
 abbrev pub coloursOf : List Spot → List ℕ
 coloursOf xs = map (λ (x : Spot). x .colour) xs
 
--- and back: frames and their colours, place by place
+-- the spots of frames and colours, place by place
 abbrev pub inColours : List ℕ → List ℕ → List Spot
 inColours [] cs = []
 inColours (i ∷ is) [] = []
 inColours (i ∷ is) (c ∷ cs) = record { frame = i; colour = c } ∷ inColours is cs
 
--- FRAMES AND COLOURS TELL THE LIST
+-- FRAMES AND COLOURS DETERMINE THE LIST
 abbrev pub ColoursJoined : Type 0
 ColoursJoined = (xs : List Spot) → inColours (framesOf xs) (coloursOf xs) ≡ xs
 
--- on from x on the hop g: "an allowed transition into each later hop", to a frame of it in a colour of it
+-- ys go on from x on the hop g: "an allowed transition into each later hop", to a spot of that hop
 abbrev pub GoesOn : Hop → Spot → List Hop → List Spot → Type 0
 GoesOn g x [] [] = Unit {0}
 GoesOn g x [] (y ∷ ys) = ⊥
 GoesOn g x (h ∷ hs) [] = ⊥
 GoesOn g x (h ∷ hs) (y ∷ ys) = IsOn h y × (isAllowed g h x y ≡ true) × GoesOn h y hs ys
 
--- A SCHEDULE over the hops of a route, a frame and a colour for each, hop 0 first: "a free frame at hop 0 and an allowed transition into each later hop"
+-- A SCHEDULE, a spot for each hop of a route, hop 0 first: "a free frame at hop 0 and an allowed
+-- transition into each later hop"
 abbrev pub IsSchedule : List Hop → List Spot → Type 0
 IsSchedule [] xs = ⊥
 IsSchedule (h ∷ hs) [] = ⊥
@@ -61,7 +63,8 @@ isSchedule (h ∷ hs) (x ∷ ys) = isOn h x && (isFree h x && goesOn h x hs ys)
 abbrev pub TestTells : Type 0
 TestTells = (hops : List Hop) (xs : List Spot) → (isSchedule hops xs ≡ true) ↔ IsSchedule hops xs
 
--- "Its delay is the sum, 0 for one hop", for a cycle of T ticks: the delays of the holds, from x on the hop g on
+-- "Its delay is the sum, 0 for one hop": the sum of the holds' delays after x on the hop g, for a
+-- cycle of T ticks
 abbrev pub onwardDelay : ℕ → Hop → Spot → List Hop → List Spot → ℕ
 onwardDelay T g x [] ys = 0
 onwardDelay T g x (h ∷ hs) [] = 0
@@ -72,14 +75,14 @@ scheduleDelay T [] xs = 0
 scheduleDelay T (h ∷ hs) [] = 0
 scheduleDelay T (h ∷ hs) (x ∷ ys) = onwardDelay T h x hs ys
 
--- "Among equals: last frame, last colour, then going back the hold, the preceding frame, the preceding colour, smaller first" (W-211): the last frame, the last colour, the hold into it,
--- the frame before, its colour, and so on, back to x on the hop g
+-- "Among equals: last frame, last colour, then going back the hold, the preceding frame, the
+-- preceding colour, smaller first" (W-211): these numbers in this order, back to x on the hop g
 abbrev pub goingBack : Hop → Spot → List Hop → List Spot → List ℕ
 goingBack g x [] ys = x .frame ∷ x .colour ∷ []
 goingBack g x (h ∷ hs) [] = x .frame ∷ x .colour ∷ []
 goingBack g x (h ∷ hs) (y ∷ ys) = goingBack h y hs ys ++ (holdInto g h (x .frame) (y .frame) ∷ x .frame ∷ x .colour ∷ [])
 
--- what decides between schedules, by the first difference: the delay, and then those
+-- the key of a schedule: its delay, then those; the first difference decides
 abbrev pub scheduleKey : ℕ → List Hop → List Spot → List ℕ
 scheduleKey T [] xs = []
 scheduleKey T (h ∷ hs) [] = []
@@ -96,7 +99,8 @@ pub record Transition : Type 0 where
   pub from : Spot
   pub to : Spot
 
--- "a frame of hop j−1 that ends some schedule of hops 0 to j−1, and a frame of hop j to which a transition is allowed": "counting ... run over pairs of frame and colour" (W-211)
+-- "a frame of hop j−1 that ends some schedule of hops 0 to j−1, and a frame of hop j to which a
+-- transition is allowed", "over pairs of frame and colour" (W-211)
 pub record IsConsidered (hops : List Hop) (t : Transition) : Type 0 where
   pub later : suc (t .hop) < length hops
   pub before : List Spot
@@ -104,7 +108,8 @@ pub record IsConsidered (hops : List Hop) (t : Transition) : Type 0 where
   pub on : IsOn (getD hops (suc (t .hop)) noHop) (t .to)
   pub allowed : isAllowed (getD hops (t .hop) noHop) (getD hops (suc (t .hop)) noHop) (t .from) (t .to) ≡ true
 
--- "the count of transitions considered": how many there are, the length of a list that has each of them once and nothing else
+-- "the count of transitions considered": the length of a list that has each of them once and
+-- nothing else
 pub record CountOf (hops : List Hop) (n : ℕ) : Type 0 where
   pub pairs : List Transition
   pub once : EachOnce pairs
@@ -115,7 +120,7 @@ pub record CountOf (hops : List Hop) (n : ℕ) : Type 0 where
 abbrev pub CountOnly : Type 0
 CountOnly = (hops : List Hop) (n m : ℕ) → CountOf hops n → CountOf hops m → n ≡ m
 
--- "summed over K × C of the hop before times the hold choices times 2R + 1" (W-211, for 01's "K of hop j−1 times Z of hop j"): from the hop g on
+-- "summed over K × C of the hop before times the hold choices times 2R + 1" (W-211), after g
 abbrev pub boundFrom : Hop → List Hop → ℕ
 boundFrom g [] = 0
 boundFrom g (h ∷ hs) = g .frames * g .colours * (choices h * turnChoices h) + boundFrom h hs
@@ -129,7 +134,7 @@ abbrev pub OneColour : List Hop → Type 0
 OneColour [] = Unit {0}
 OneColour (h ∷ hs) = (h .colours ≡ 1) × OneColour hs
 
--- the bound before W-211: "the sum of K of hop j−1 times" Z − Y + 1
+-- the bound over links of one colour: "the sum of K of hop j−1 times" Z − Y + 1 of hop j
 abbrev pub plainFrom : Hop → List Hop → ℕ
 plainFrom g [] = 0
 plainFrom g (h ∷ hs) = g .frames * choices h + plainFrom h hs

@@ -1,4 +1,5 @@
--- W-203, "How many ways through": the list of all schedules of a route, and how many they are. Assumes nothing.
+-- W-203, "How many ways through": the list of all schedules of a route, and its length.
+-- Assumes nothing.
 use mathlib.Core.Path.{_≡_}
 use mathlib.Core.Bool.{true}
 use mathlib.Core.List.{List, [], _∷_, map, List·Memᴰ}
@@ -15,9 +16,10 @@ use Rattle.forwarding.specs.Schedule.{IsSchedule, OneColour}
 use Rattle.forwarding.specs.Route.{nodes, spotAt, routeAnswer}
 use Rattle.forwarding.specs.QuestionFour.{Case, starred}
 
--- `gather n` puts the lists of the numbers below n one after the other (those of a hop stand for its frames in their colours, each once), and `listIf` leaves out those of a frame that fails its test
+-- `gather n` appends the lists of the numbers below n, the nodes of a hop; `listIf` leaves out
+-- those of a spot that fails its test. `SchedulesListed` and `SchedulesOnce` state what the list is
 
--- all ways on from x on the hop g, each as its frames in their colours: "an allowed transition into each later hop", to a frame of it
+-- all lists of spots that go on from x on the hop g: "an allowed transition into each later hop"
 abbrev pub waysOn : Hop → Spot → List Hop → List (List Spot)
 waysOn g x [] = [] ∷ []
 waysOn g x (h ∷ hs) = gather (nodes h) (λ i. listIf (isAllowed g h x (spotAt h i)) (map (λ ys. spotAt h i ∷ ys) (waysOn h (spotAt h i) hs)))
@@ -27,7 +29,7 @@ unfoldable pub schedules : List Hop → List (List Spot)
 schedules [] = []
 schedules (h ∷ hs) = gather (nodes h) (λ k. listIf (isFree h (spotAt h k)) (map (λ ys. spotAt h k ∷ ys) (waysOn h (spotAt h k) hs)))
 
--- A LIST OF FRAMES STANDS IN IT EXACTLY WHEN IT IS A SCHEDULE, whatever the numbers of frames
+-- A LIST OF SPOTS IS A MEMBER EXACTLY WHEN IT IS A SCHEDULE
 abbrev pub SchedulesListed : Type 0
 SchedulesListed = (hops : List Hop) (xs : List Spot) → List·Memᴰ xs (schedules hops) ↔ IsSchedule hops xs
 
@@ -35,7 +37,7 @@ SchedulesListed = (hops : List Hop) (xs : List Spot) → List·Memᴰ xs (schedu
 abbrev pub SchedulesOnce : Type 0
 SchedulesOnce = (hops : List Hop) → EachOnce (schedules hops)
 
--- THE NUMBER OF WAYS: "the exact number of schedules over a route in the frames now free", the length of that list
+-- THE NUMBER OF WAYS: "the exact number of schedules over a route in the frames now free"
 unfoldable pub routeWays : List Hop → ℕ
 routeWays hops = length (schedules hops)
 
@@ -47,7 +49,7 @@ WaysOnly = (hops : List Hop) (list : List (List Spot)) → EachOnce list → ((x
 abbrev pub WaysBlocked : Type 0
 WaysBlocked = (T : ℕ) (hops : List Hop) → (routeWays hops ≡ 0) ↔ ((n : ℕ) × (routeAnswer T hops ≡ blocked n))
 
--- "no frame on it is closed or held": each frame of each hop is free
+-- "no frame on it is closed or held": each frame of each hop is free in each colour
 abbrev pub EveryFrameFree : List Hop → Type 0
 EveryFrameFree [] = Unit {0}
 EveryFrameFree (h ∷ hs) = ((x : Spot) → IsOn h x → isFree h x ≡ true) × EveryFrameFree hs
@@ -62,7 +64,8 @@ abbrev pub openWays : List Hop → ℕ
 openWays [] = 0
 openWays (h ∷ hs) = h .frames * laterChoices hs
 
--- "Where no frame on it is closed or held this equals K of hop 0 times the product of the later" Z − Y + 1; "its product formula remains for routes of one colour" (W-211)
+-- "Where no frame on it is closed or held this equals K of hop 0 times the product of the later"
+-- Z − Y + 1; "its product formula remains for routes of one colour" (W-211)
 abbrev pub WaysOpen : Type 0
 WaysOpen = (T : ℕ) (hops : List Hop) → AllReady T hops → OneColour hops → EveryFrameFree hops → routeWays hops ≡ openWays hops
 

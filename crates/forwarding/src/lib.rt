@@ -1,4 +1,5 @@
-// Forwarding (document 01, with the reference frame of W-201, the cycles of W-202 and the least holds of W-206): holds, delays, reference frames and cycles of the hops of a route.
+// Forwarding: holds, delays, reference frames and cycles of the hops of a route (document 01,
+// "Forwarding"; W-201, W-202, W-206).
 ghost use mathlib.Core.Path.{_≡_};
 ghost use Prim.Native.Nat.{_+_, _*_, _<_, _≤_};
 ghost use Rattle.forwarding.specs.Forwarding.{referenceInto, leastHold, holdInto, choices, frameTime, IsDelay};
@@ -12,7 +13,8 @@ pub struct Hold(pub u16);
 // A delay counts ticks.
 pub struct Delay(pub u16);
 
-// What an answer, a session and a lookup hold: a frame, its cycle and its colour for each hop, hop 0 first, in eight places, and the delay. A field that is added later stands here.
+// An answer's, a session's and a lookup's schedule: a frame, its cycle and its colour for each hop,
+// hop 0 first, in eight places, and the delay.
 pub struct Held {
     pub frames: [u8; 8],
     pub cycles: [u8; 8],
@@ -20,8 +22,8 @@ pub struct Held {
     pub colours: [u8; 8],
 }
 
-// A hop of a route: its link's frames per cycle (K), its forwarding range (Z), its least hold (Y), its colours (C) and its conversion range (R), and its free frames, a word for each
-// colour: bit i of word c for frame i in colour c.
+// A hop of a route: its link's frames per cycle (K), forwarding range (Z), least hold (Y), colours
+// (C) and conversion range (R), and its free frames: bit i of word c for frame i in colour c.
 pub struct Hop {
     pub frames: u16,
     pub range: u16,
@@ -31,7 +33,7 @@ pub struct Hop {
     pub free: [u64; 4],
 }
 
-// What stands in a place of an array that no hop stands in.
+// The hop in unused places of an array.
 pub fn no_hop() -> Hop
     ensures { λ r. ⌜ r ≡ blankHop ⌝ }
 {
@@ -46,8 +48,8 @@ pub fn no_hop() -> Hop
     }
 }
 
-// The reference frame, on a hop, of frame k of the hop before: the one in which k's last bit arrives.
-// Check 7 bounds both links' frames; k is a frame of the hop before.
+// The reference frame, on a hop, of frame k of the hop before: the one in which k's last bit
+// arrives. Check 7 bounds both links' frames; k is a frame of the hop before.
 pub fn reference_frame(k: u16, before: Hop, hop: Hop) -> u16
     requires { ⌜ (k < before .frames) × (before .frames ≤ 64) × (0 < hop .frames) × (hop .frames ≤ 64) ⌝ }
     ensures { λ r. ⌜ r ≡ referenceInto before hop k ⌝ }
@@ -63,7 +65,8 @@ pub fn least_hold(hop: Hop) -> u16
     hop.least
 }
 
-// The number of holds into a hop, from the least to Z. Checks 7 and 8 bound Z, check 21 the least hold.
+// The number of holds into a hop, from the least to Z. Checks 7 and 8 bound Z, check 21 the least
+// hold.
 pub fn choices(hop: Hop) -> u16
     requires { ⌜ (leastHold hop ≤ hop .range) × (hop .range ≤ 64) ⌝ }
     ensures { λ r. ⌜ r ≡ choices hop ⌝ }
@@ -84,7 +87,8 @@ pub fn hold_into(k: u16, before: Hop, hop: Hop, i: u16) -> Hold
 }
 
 // The cycle of frame i of a hop, where frame k of the hop before lies in this one.
-// Check 7 bounds both links' frames, checks 8 and 21 the least hold; k and i are frames of theirs. Check 12: there are at most 8 hops, and no hop's cycle passes its number.
+// Check 7 bounds both links' frames, checks 8 and 21 the least hold; k and i are frames of theirs.
+// Check 12: there are at most 8 hops, and no hop's cycle is above its number.
 pub fn next_cycle(k: u16, before: Hop, hop: Hop, i: u16, cycle: u8) -> u8
     requires { ⌜ (k < before .frames) × (before .frames ≤ 64) × (i < hop .frames) × (hop .frames ≤ 64) × (leastHold hop ≤ hop .frames) × (cycle < 8) ⌝ }
     ensures { λ r. ⌜ r ≡ nextCycle before hop k i cycle ⌝ }
@@ -105,8 +109,8 @@ pub fn frame_time(t: u16, frames: u16) -> Delay
     Delay(t / frames)
 }
 
-// The delay of a hold on a link whose frame lasts so long: the one place where a hold becomes a delay.
-// Checks 3, 7, 8 and 21: a hold, also the least, is at most Z, Z at most K, and K frames last T ticks, at most 960.
+// The delay of a hold by its link's frame time: the one place where a hold becomes a delay.
+// Checks 3, 7, 8 and 21: a hold is at most Z, Z at most K, and K frames last T ticks, at most 960.
 pub fn delay_of(hold: Hold, frame: Delay) -> Delay
     requires { ⌜ hold .0 * frame .0 ≤ 960 ⌝ }
     ensures { λ r. ⌜ IsDelay (hold .0) (frame .0) (r .0) ⌝ }

@@ -1,4 +1,5 @@
--- Numbers of two digits, first × C + second, are ordered as their digits, the first first. Assumes nothing.
+-- Numbers of two digits, first × C + second, are ordered as their digits, the first first.
+-- Assumes nothing.
 use mathlib.Core.Path.{_≡_, _∙_, ap}
 use mathlib.Core.List.{List, _∷_}
 use mathlib.Core.Logic.{_↔_, inl, inr}
@@ -59,7 +60,7 @@ module _ (C : ℕ) where
         ]
       ]
 
--- what follows matters only behind equal numbers
+-- a tail decides only behind equal numbers
 pub precedes-behind : (x y : ℕ) (ks ks′ ls ls′ : List ℕ) → (Precedes ks ks′ → Precedes ls ls′) → Precedes (x ∷ ks) (y ∷ ks′) → Precedes (x ∷ ls) (y ∷ ls′)
 precedes-behind x y ks ks′ ls ls′ f (inl a) = inl a
 precedes-behind x y ks ks′ ls ls′ f (inr (e, r)) = inr (e, f r)
@@ -67,7 +68,7 @@ precedes-behind x y ks ks′ ls ls′ f (inr (e, r)) = inr (e, f r)
 pub precedes-same : (x y : ℕ) (ks ks′ ls ls′ : List ℕ) → Precedes ks ks′ ↔ Precedes ls ls′ → Precedes (x ∷ ks) (y ∷ ks′) ↔ Precedes (x ∷ ls) (y ∷ ls′)
 precedes-same x y ks ks′ ls ls′ f = (precedes-behind x y ks ks′ ls ls′ (f .0), precedes-behind x y ls ls′ ks ks′ (f .1))
 
--- A NUMBER OF TWO DIGITS decides as its digits do, and what follows after
+-- A NUMBER OF TWO DIGITS decides as its digits do, and the tail after it
 pub digits-behind : (C x y x′ y′ : ℕ) (ks ks′ ls ls′ : List ℕ) → y < C → y′ < C → Precedes ks ks′ ↔ Precedes ls ls′
     → Precedes ((x * C + y) ∷ ks) ((x′ * C + y′) ∷ ks′) ↔ Precedes (x ∷ y ∷ ls) (x′ ∷ y′ ∷ ls′)
 digits-behind C x y x′ y′ ks ks′ ls ls′ h h′ f = (

@@ -1,4 +1,5 @@
--- The order of keys is one: reflexive, transitive, antisymmetric, total, and the test says the same. Assumes nothing.
+-- The order of keys is one: reflexive, transitive, antisymmetric, total, and the test says the
+-- same. Assumes nothing.
 use mathlib.Core.Path.{_≡_, refl, sym, ap₂}
 use mathlib.Core.Bool.{Bool, true, false, _&&_, _||_}
 use mathlib.Core.List.{List, [], _∷_}
@@ -38,7 +39,8 @@ pub precedes-head : (x y : ℕ) (xs ys : List ℕ) → Precedes (x ∷ xs) (y �
 precedes-head x y xs ys (inl a) = omega arith
 precedes-head x y xs ys (inr a) = omega arith
 
--- the same number added to both first numbers, and the same numbers put in behind both, leave the order
+-- the same number added to both first numbers, and the same numbers put in behind both, leave the
+-- order
 pub precedes-add : (c x y : ℕ) (xs ys : List ℕ) → Precedes (x ∷ xs) (y ∷ ys) → Precedes ((x + c) ∷ xs) ((y + c) ∷ ys)
 precedes-add c x y xs ys (inl a) = inl (omega arith)
 precedes-add c x y xs ys (inr a) = inr (omega arith, a .1)

@@ -6,7 +6,8 @@ use mathlib.Core.Logic.{_⊎_}
 use Prim.Native.Nat.{ℕ, _<_}
 use lib.Dec.{ltb, eqb}
 
--- xs comes before ys or is ys: the first place at which they differ decides, the smaller number first
+-- xs comes before ys or is ys: the first place at which they differ decides, the smaller number
+-- first
 abbrev pub Precedes : List ℕ → List ℕ → Type 0
 Precedes [] ys = Unit {0}
 Precedes (x ∷ xs) [] = ⊥

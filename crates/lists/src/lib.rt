@@ -1,1 +1,2 @@
-// Lists of numbers: their order, members each once, sums and counts. It stands in specs/ and proofs/: this crate has no code.
+// Lists of numbers: their order, members each once, sums and counts. This crate has specs and
+// proofs, and no code.

@@ -13,7 +13,8 @@ use Rattle.trellis.specs.Considered.{endsPath, considered}
 use Rattle.trellis.proofs.Survivor.{row, back}
 use Rattle.trellis.proofs.Optimal.{Survives, survives}
 
--- THE COUNT'S BOUND: a stage to which each node before has at most w steps adds at most w for each of those nodes
+-- THE COUNT'S BOUND: a stage to which each node before has at most w steps adds at most w for each
+-- of those nodes
 pub step-bound : (t : Trellis) (st : Stage) (w : ℕ) → ((k : ℕ) → k < width t → countBelow (st .size) (λ i. st .allowed k i) ≤ w)
     → considered (t ▸ st) ≤ considered t + width t * w
 step-bound t st w h =

@@ -1,4 +1,5 @@
--- A path is a path so far, gone on with; and what the answer is in the words of `ArePaths`. Assumes nothing.
+-- A path is a path so far, gone on with; and what the answer is in the words of `ArePaths`.
+-- Assumes nothing.
 use mathlib.Core.Path.{_≡_, refl, sym, _∙_, ap, ap₂, subst}
 use mathlib.Core.Bool.{true}
 use mathlib.Core.List.{List, [], _∷_, _++_, append-assoc, reverse, reverseAux, reverse-reverse}
@@ -12,7 +13,8 @@ use Rattle.trellis.specs.Forwards.{ArePaths}
 use Rattle.trellis.proofs.Only.{answer-only}
 use Rattle.trellis.proofs.Least.{answer-right}
 
--- the nodes `is` go on from the node k through the stages; what that costs; and the ranks and nodes back to k, the last node first
+-- the nodes `is` go on from the node k through the stages; their cost; and their ranks and nodes
+-- back to k, the last node first
 abbrev pub Onward : ℕ → List Stage → List ℕ → Type 0
 Onward k [] [] = Unit {0}
 Onward k [] (i ∷ is) = ⊥
@@ -73,7 +75,8 @@ go-on-key t (st ∷ sts) k p (i ∷ is) o =
     go-on-key (t ▸ st) sts i (k ∷ p) is (o .2)
     ∙ ap₂ (λ (x : ℕ) (l : List ℕ). x ∷ l) (omega arith) (sym (append-assoc (onwardBack i sts is) (st .rank k i ∷ k ∷ []) (behind t k p)))
 
--- a path of stages after a first one, read from the first on: a node that may be begun at, and on through the others
+-- a path of stages after a first one, read from the first on: a node that may be begun at, and on
+-- through the others
 pub record FromStart (n : ℕ) (s : ℕ → Reach) (sts : List Stage) (w : List ℕ) : Type 0 where
   pub node : ℕ
   pub rest : List ℕ

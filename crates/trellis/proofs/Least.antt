@@ -1,4 +1,5 @@
--- Survivor search gives the least of the list of all paths: the answer that the rules ask for. Assumes nothing.
+-- Survivor search gives the least of the list of all paths: the answer that the rules ask for.
+-- Assumes nothing.
 use mathlib.Core.Path.{_≡_, refl, sym, _∙_, ap₂, subst}
 use mathlib.Core.Bool.{Bool, true, false, cond}
 use mathlib.Core.List.{List, [], _∷_, reverse-reverse, List·Memᴰ, List·Memᴰ·head, List·Memᴰ·tail, List·Memᴰ·cases-cons, List·Memᴰ·not-nil}
@@ -120,7 +121,8 @@ from-list t (p ∷ l) all listed =
     rw (reverse-reverse (leastBy (pathKey t) p l))
     (record { path = listed (leastBy (pathKey t) p l) (least-in (pathKey t) p l); first = λ q h. least-first (pathKey t) p l q (all q h) }, refl, refl)
 
--- THE RULE'S ANSWER is the least path with its cost and the count, or blocked where there is no path
+-- THE RULE'S ANSWER is the least path with its cost and the count, or blocked where there is no
+-- path
 pub answer-right : AnswerRight
 answer-right t = from-list t (allPaths t) (λ p h. path-listed t p h) (λ p m. listed-path t p m)
 

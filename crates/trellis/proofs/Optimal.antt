@@ -1,4 +1,5 @@
--- The survivors are least: the row and the predecessors give the least path to each node. Assumes nothing.
+-- The survivors are least: the row and the predecessors give the least path to each node.
+-- Assumes nothing.
 use mathlib.Core.Path.{_≡_, refl, sym, _∙_, ap, subst}
 use mathlib.Core.Bool.{Bool, true, false}
 use mathlib.Core.List.{List, [], _∷_}
@@ -41,7 +42,8 @@ pub record LeastTo (t : Trellis) (i : ℕ) (p : List ℕ) (c : ℕ) : Type 0 whe
   pub costs : costTo t i p ≡ c
   pub first : (q : List ℕ) → Leads t i q → Precedes (key t i p) (key t i q)
 
--- what a row says of the node i, with p as its survivor: no path leads there, or p is least of those that do
+-- what a row says of the node i, with p as its survivor: no path leads there, or p is least of
+-- those that do
 abbrev pub Survives : Trellis → ℕ → List ℕ → Reach → Type 0
 Survives t i p never = (q : List ℕ) → Leads t i q → ⊥
 Survives t i p (after c) = LeastTo t i p c

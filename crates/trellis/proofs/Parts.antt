@@ -1,4 +1,5 @@
--- A path cut in two: what is found after a border needs only the costs handed over at it. Assumes nothing.
+-- A path cut in two: what is found after a border needs only the costs handed over at it.
+-- Assumes nothing.
 use mathlib.Core.Path.{_≡_, refl, sym, _∙_, ap, ap₂}
 use mathlib.Core.List.{List, [], _∷_, _++_, reverse, reverse-cons, reverse-append}
 use Prim.Native.Nat.{ℕ, zero, suc, _+_, _<_}
@@ -46,8 +47,8 @@ module _ (back₁ : ℕ → List ℕ) (m : ℕ) where
   continues t u [] h = h
   continues t u (st ∷ sts) h = continues (t ▸ st) (u ▸ st) sts (continue-one t u st h)
 
--- THE PARTS OF A SEARCH MAKE UP THE WHOLE: the later part has the whole's row, hence its answer; its path is gone on with in the earlier part;
--- and the counts add up
+-- THE PARTS OF A SEARCH MAKE UP THE WHOLE: the later part has the whole's row, hence its answer;
+-- its path is gone on with in the earlier part; and the counts add up
 pub split : (t : Trellis) (sts : List Stage) → Continues (back t) (scanned t) (grow t sts) (grow (handover (row t)) sts)
 split t sts =
     continues (back t) (scanned t) t (handover (row t)) sts
@@ -68,7 +69,8 @@ first-oldest i (k ∷ p) =
     ap first (reverse-cons i (k ∷ p) ∙ ap (λ (l : List ℕ). l ++ (i ∷ [])) (reverse-cons k p))
     ∙ first-append (reverse p) (i ∷ []) k ∙ ap first (sym (reverse-cons k p)) ∙ first-oldest k p
 
--- the answer after the border, with the path before it to each node of the border and the count so far
+-- the answer after the border, with the path before it to each node of the border and the count so
+-- far
 abbrev pub joined : (ℕ → List ℕ) → ℕ → Answer ℕ → Answer ℕ
 joined earlier m (found c n w) = found c (m + n) (reverse (earlier (first w)) ++ w)
 joined earlier m (blocked n) = blocked (m + n)
@@ -91,13 +93,14 @@ module _ (back₁ : ℕ → List ℕ) (m : ℕ) (t u : Trellis) (c : Continues b
       same nobody e = rw (ends-same, e) (ap blocked (c .counts))
       same (best d r i) e = rw (ends-same, e) (ap₂ (found d) (c .counts) (path-same i))
 
--- THE ANSWER OVER A PATH CUT IN TWO is the later part's, begun at the costs handed over, and gone on with in the earlier part
+-- THE ANSWER OVER A PATH CUT IN TWO is the later part's, begun at the costs handed over, and gone
+-- on with in the earlier part
 pub split-answer : (t : Trellis) (sts : List Stage) → answer (grow t sts) ≡ joined (back t) (considered t) (answer (grow (handover (row t)) sts))
 split-answer t sts =
     let u : Trellis = grow (handover (row t)) sts in
     sym (survivor-least (grow t sts)) ∙ survivor-joined (back t) (scanned t) (grow t sts) u (split t sts) ∙ ap₂ (joined (back t)) (scanned-right t) (survivor-least u)
 
--- ---- two trellises that begin at the same costs, whatever is said of nodes that they don't have, and go on alike
+-- ---- two trellises with the same starting costs at their nodes and the same stages
 same-tab : (n : ℕ) (s s′ : ℕ → Reach) → ((i : ℕ) → i < n → s i ≡ s′ i) → tab n s ≡ tab n s′
 same-tab zero s s′ h = refl
 same-tab (suc n) s s′ h = ap₂ (λ (l : List Reach) (x : Reach). l ++ (x ∷ [])) (same-tab n s s′ (λ i l. h i (omega arith))) (h n (omega arith))

@@ -1,4 +1,5 @@
--- The list of all paths has each path, nothing else, and nothing twice; and `endsPath` says where paths end. Assumes nothing.
+-- The list of all paths has each path, nothing else, and nothing twice; `endsPath` is true exactly
+-- where paths end. Assumes nothing.
 use mathlib.Core.Path.{_≡_, refl, sym, _∙_, ap}
 use mathlib.Core.Bool.{Bool, true, false, _&&_}
 use mathlib.Core.List.{List, [], _∷_, _++_, map, List·Memᴰ, List·Memᴰ·head, List·Memᴰ·tail, Memᴰ·append-left, Memᴰ·append-right, List·Memᴰ·append-cases, List·Memᴰ·eq-of-singleton, List·Memᴰ·not-nil, Memᴰ·map, Memᴰ·of-map, Memᴰ·cast, head-eq-of-cons-eq, tail-eq-of-cons-eq}
@@ -100,7 +101,8 @@ once-named f d [] i o = tt
 once-named f d (x ∷ xs) i o =
     (λ m. let w = Memᴰ·of-map f xs m in o .0 (Memᴰ·cast (sym (i x) ∙ ap d (sym (w .2)) ∙ i (w .0)) (w .1)), once-named f d xs i (o .1))
 
--- ---- lists that begin with the name of a node below K that passes a test, and go on as `rest` says: their members, each once, and how many
+-- ---- lists that begin with the name of a node below K that passes a test and go on by `rest`:
+-- their members, each once, and their number
 module _ {A : Type 0} (K : ℕ) (name : ℕ → A) (node-of : A → ℕ) (told : (k : ℕ) → node-of (name k) ≡ k) (p : ℕ → Bool) (rest : ℕ → List (List A)) where
   abbrev headed : ℕ → List (List A)
   headed k = listIf (p k) (map (λ is. name k ∷ is) (rest k))

@@ -1,4 +1,5 @@
--- The best offer of a run of nodes is least by cost, rank and node, and there is no other. Assumes nothing.
+-- The best offer of a run of nodes is least by cost, rank and node, and there is no other.
+-- Assumes nothing.
 use mathlib.Core.Path.{_≡_, refl, sym, _∙_, ap}
 use mathlib.Core.Bool.{Bool, true, false, _&&_, cond}
 use mathlib.Core.List.{List, [], _∷_}
@@ -108,7 +109,8 @@ pub is-best : (f : ℕ → Offer) (n : ℕ) → IsBest f n (bestOf f n)
 is-best f zero = λ k h. absurd (not-suc-le-zero h)
 is-best f (suc n) = next f n (bestOf f n) (f n) refl (is-best f n)
 
--- and there is only one best: whatever the order in which offers are looked at, what is best of all is `bestOf`
+-- and there is only one best: whatever the order in which offers are looked at, what is best of all
+-- is `bestOf`
 pub best-only : (f : ℕ → Offer) (n : ℕ) (a b : Best) → IsBest f n a → IsBest f n b → a ≡ b
 best-only f n nobody nobody h l = refl
 best-only f n nobody (best c r k) h l = offer-not-none (f k) c r (h k (l .0)) (l .1)

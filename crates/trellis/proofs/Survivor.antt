@@ -1,4 +1,5 @@
--- Survivor search (source document 000): for each stage the least cost to each of its nodes, from that of the stage before. Assumes nothing.
+-- Survivor search (source document 000): for each stage the least cost to each of its nodes, from
+-- that of the stage before. Assumes nothing.
 use mathlib.Core.Bool.{Bool, true, false, _&&_, cond}
 use mathlib.Core.List.{List, [], _∷_, _++_, reverse}
 use Prim.Native.Nat.{ℕ, zero, suc, _+_}
@@ -24,7 +25,8 @@ pub data Best : Type 0 where
   nobody : Best
   best : (cost rank node : ℕ) → Best
 
--- a later node's offer is taken if its cost is smaller, or the cost is equal and its rank is smaller
+-- a later node's offer is taken if its cost is smaller, or the cost is equal and its rank is
+-- smaller
 abbrev pub better : Best → Offer → ℕ → Best
 better b none k = b
 better nobody (offer c r) k = best c r k

@@ -1,4 +1,5 @@
--- The answer that the rules ask for: the least of the list of all paths, with no search in it. Assumes nothing.
+-- The answer that the rules ask for: the least of the list of all paths, with no search in it.
+-- Assumes nothing.
 use mathlib.Core.Path.{_≡_}
 use mathlib.Core.Bool.{cond}
 use mathlib.Core.List.{List, [], _∷_, reverse}
@@ -8,7 +9,8 @@ use Rattle.trellis.specs.Trellis.{Trellis, IsPath, pathCost, pathKey, Le
 use Rattle.trellis.specs.Paths.{allPaths}
 use Rattle.trellis.specs.Considered.{considered}
 
--- a path's cost, the count of steps considered and the path's nodes, first stage first; or that there is no path, and the count
+-- a path's cost, the count of steps considered and the path's nodes, first stage first; or no path,
+-- and the count
 pub data Answer (A : Type 0) : Type 0 where
   found : (cost count : ℕ) (nodes : List A) → Answer A
   blocked : (count : ℕ) → Answer A
@@ -18,7 +20,7 @@ abbrev pub nodesOf : {A : Type 0} → Answer A → List A
 nodesOf (found c n nodes) = nodes
 nodesOf (blocked n) = []
 
--- the same answer with its nodes named otherwise
+-- the same answer with its nodes renamed
 abbrev pub renamed : {A B : Type 0} → (List A → List B) → Answer A → Answer B
 renamed f (found c n nodes) = found c n (f nodes)
 renamed f (blocked n) = blocked n
@@ -36,7 +38,7 @@ answerFrom t (p ∷ l) = let q = leastBy (pathKey t) p l in found (pathCost t q)
 abbrev pub answer : Trellis → Answer ℕ
 answer t = answerFrom t (allPaths t)
 
--- the same in words: a path that is found is the least path, with its cost; blocked means that there is no path; either comes with the count
+-- `found c n nodes`: the least path, its cost c; `blocked n`: there is no path; n is the count
 abbrev pub IsAnswer : Trellis → Answer ℕ → Type 0
 IsAnswer t (found c n nodes) = Least t (reverse nodes) × (pathCost t (reverse nodes) ≡ c) × (n ≡ considered t)
 IsAnswer t (blocked n) = ((p : List ℕ) → IsPath t p → ⊥) × (n ≡ considered t)

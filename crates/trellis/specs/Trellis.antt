@@ -1,17 +1,18 @@
--- A trellis of stages, its paths and their keys. A route is one: a stage for each hop, a node for each frame. Assumes nothing.
+-- A trellis of stages, its paths and their keys. A route is one: a stage for each hop, a node for
+-- each frame in each colour. Assumes nothing.
 use mathlib.Core.Path.{_≡_}
 use mathlib.Core.Bool.{Bool, true}
 use mathlib.Core.List.{List, [], _∷_}
 use Prim.Native.Nat.{ℕ, _+_, _<_}
 use Rattle.lists.specs.Order.{Precedes}
 
--- what a node costs to come to: nothing leads there, or so much
+-- the cost of reaching a node: unreachable, or a cost
 pub data Reach : Type 0 where
   never : Reach
   after : (cost : ℕ) → Reach
 
--- a stage with `size` nodes, numbered from 0, and the steps into it from a node k of the stage before to a node i:
--- whether there is one, what it costs, and its rank among steps of equal cost
+-- a stage with `size` nodes, numbered from 0, and the steps into it from a node k of the stage
+-- before to a node i: whether there is one, what it costs, and its rank among steps of equal cost
 pub record Stage : Type 0 where
   pub size : ℕ
   pub allowed : ℕ → ℕ → Bool
@@ -57,7 +58,8 @@ behind (entry n s) i p = []
 behind (t ▸ st) i [] = []
 behind (t ▸ st) i (k ∷ p) = st .rank k i ∷ k ∷ behind t k p
 
--- what decides between paths, first things first: the cost, the last node, then going back the rank of the step and the node before
+-- the key of a path: the cost, the last node, then going back the rank of the step and the node
+-- before
 abbrev pub key : Trellis → ℕ → List ℕ → List ℕ
 key t i p = costTo t i p ∷ i ∷ behind t i p
 

@@ -1,4 +1,5 @@
--- Going through the hops of a route from the last back, each row has the number of ways on from each frame of its hop. Assumes nothing.
+-- From the last hop of a route back, each row has the number of ways on from each frame of its hop.
+-- Assumes nothing.
 use mathlib.Core.Path.{_≡_, sym, _∙_, ap, subst}
 use mathlib.Core.List.{List}
 use Prim.Native.Nat.{ℕ, _+_, _-_, _*_, _<_, _≤_}

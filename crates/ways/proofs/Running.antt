@@ -29,7 +29,7 @@ module _ (f : ℕ → ℕ) where
 pub sum-small : (K free : ℕ) (row : List ℕ) → K ≤ 64 → SmallRow K row → (i : ℕ) → i ≤ K → sumBelow i (freeWays free row) ≤ 64 * 256 ^ 7
 sum-small K free row h small i l = sum-most 64 i (256 ^ 7) (bitOf free) (λ k. getD row k 0) (le-trans l h) (λ k m. small k (omega arith))
 
--- ---- of a whole cycle no sum is smaller than one before it, and none passes 64 times 256 to the power 7
+-- ---- over a whole cycle sums never fall, and none is above 64 times 256 to the power 7
 module _ (f : ℕ → ℕ) (K : ℕ) (sums : List ℕ) (s : CycleSums f K sums) where
   pub rising : (m n : ℕ) → m ≤ n → n ≤ K → (getD sums m 0 ≤ getD sums n 0) × (getD sums n 0 ≤ 64 * 256 ^ 7)
   rising m n l h = (

@@ -1,4 +1,5 @@
--- Words of the contracts of inner functions. They are no part of what is promised: `ways::number_over` promises in the words of `forwarding/specs/Ways`. Assumes nothing.
+-- Words of the contracts of inner functions, no part of what is promised: `ways::number_over`
+-- promises in the words of `forwarding/specs/Ways`. Assumes nothing.
 use mathlib.Core.Path.{_≡_}
 use mathlib.Core.List.{List}
 use Prim.Native.Nat.{ℕ, _*_, _^_, _<_, _≤_}
@@ -13,7 +14,8 @@ use Rattle.forwarding.specs.Hops.{HopReady}
 abbrev pub plain : ℕ → Spot
 plain i = record { frame = i; colour = 0 }
 
--- the ways on from frame i of a hop with this word of free frames and this row, none where it is not free
+-- the ways on from frame i of a hop with this word of free frames and this row, none where it is
+-- not free
 abbrev pub freeWays : ℕ → List ℕ → ℕ → ℕ
 freeWays free row i = oneIf (bitOf free i) * getD row i 0
 
@@ -26,7 +28,7 @@ pub record SumsTo (f : ℕ → ℕ) (n : ℕ) (sums : List ℕ) : Type 0 where
   pub long : length sums ≡ 65
   pub each : (m : ℕ) → m ≤ n → getD sums m 0 ≡ sumBelow m f
 
--- those of a whole cycle of K places; the last, and so every one, is at most 64 times 256 to the power 7
+-- those of a whole cycle of K places; none is above 64 times 256 to the power 7
 abbrev pub CycleSums : (ℕ → ℕ) → ℕ → List ℕ → Type 0
 CycleSums f K sums = SumsTo f K sums × (sumBelow K f ≤ 64 * 256 ^ 7)
 

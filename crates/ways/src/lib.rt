@@ -1,6 +1,6 @@
-// The number of ways through a route (W-203): how many schedules it has in the frames that are free.
-// The hops are gone through from the last back to hop 0. A row has, for each frame of a hop, the number of ways on from it. The frames that a transition leads to are
-// a window of the next hop's frames, going round the cycle, so that running sums over those that are free give it by a difference: the work goes with the frames, whatever Z is.
+// The number of ways through a route (W-203): its schedules in the frames that are free. Processes
+// hops from last to first; a row has the ways on from each frame of a hop. A frame leads to a
+// window of the next hop's frames, a difference of running sums: the work does not grow with Z.
 use forwarding::Hop;
 ghost use mathlib.Core.Path.{_≡_};
 ghost use Prim.Native.Nat.{ℕ, _+_, _*_, _%_, _<_, _≤_};
@@ -20,7 +20,8 @@ fn if_free(free: u64, i: u16, ways: u64) -> u64
     if words::has_bit(free, i) { ways } else { 0 }
 }
 
-// Running sums: place m has the ways on from all free frames below m, in colour 0. Check 7: a hop has at most 64 frames.
+// Running sums: place m has the ways on from all free frames below m, in colour 0. Check 7: a hop
+// has at most 64 frames.
 fn running_sums(row: &[u64; 64], hop: Hop) -> [u64; 65]
     requires { ⌜ (hop .frames ≤ 64) × SmallRow (hop .frames) (now row) ⌝ }
     ensures { λ r. ⌜ CycleSums (freeWays (getD (hop .free) 0 0) (now (row .entry))) (hop .frames) r ⌝ }
@@ -38,7 +39,8 @@ fn running_sums(row: &[u64; 64], hop: Hop) -> [u64; 65]
     sums
 }
 
-// The sum over so many places of a cycle, from the place `first` on, by running sums. Check 7: a cycle has at most 64 frames.
+// The sum over `count` places of a cycle from the place `first` on, by running sums. Check 7: a
+// cycle has at most 64 frames.
 fn window(sums: &[u64; 65], first: u16, count: u16, frames: u16) -> u64
     requires { ⌜ (first < frames) × (count ≤ frames) × (frames ≤ 64) × ((f : ℕ → ℕ) × CycleSums f frames (now sums)) ⌝ }
     ensures { λ r. ⌜ ((f : ℕ → ℕ) → CycleSums f frames (now (sums .entry)) → r ≡ sumBelow count (λ d. f ((first + d) % frames))) ⌝ }
@@ -51,7 +53,7 @@ fn window(sums: &[u64; 65], first: u16, count: u16, frames: u16) -> u64
     sums[frames as usize] + sums[(end - frames) as usize] - before
 }
 
-// The row of the hop before, from the row of a hop. Checks 7, 8 and 21 have shown what is required.
+// The row of the hop before, from the row of a hop. Callers guarantee checks 7, 8 and 21.
 fn row_before(row: &[u64; 64], before: Hop, hop: Hop) -> [u64; 64]
     requires { ⌜ LeadsInto before hop (now row) ⌝ }
     ensures { λ r. ⌜ RowBefore before hop (now (row .entry)) (before .frames) r ⌝ }
@@ -71,7 +73,8 @@ fn row_before(row: &[u64; 64], before: Hop, hop: Hop) -> [u64; 64]
     ways
 }
 
-// The number of schedules over hops 0 to n - 1, each of one colour. Checks 7, 8, 21 and 12 have shown what is required.
+// The number of schedules over hops 0 to n - 1, each of one colour. Callers guarantee checks 7, 8,
+// 12 and 21.
 pub fn number_over(hops: [Hop; 8], n: usize) -> u64
     requires { ⌜ ((T : ℕ) × Ready T hops n) × ((j : ℕ) → j < n → getD hops j noHop .colours ≡ 1) ⌝ }
     ensures { λ r. ⌜ r ≡ routeWays (firsts n hops noHop) ⌝ }

@@ -1,4 +1,5 @@
--- `ways::number_over` meets its contract. The invariant: the row has the ways on from each frame of hop j. Assumes nothing.
+-- `ways::number_over` meets its contract. The invariant: the row has the ways on from each frame of
+-- hop j. Assumes nothing.
 use mathlib.Core.Path.{_≡_}
 use Prim.Native.Nat.{_-_, _<_}
 use native.Mathlib.Omega.{arith}

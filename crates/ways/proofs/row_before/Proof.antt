@@ -1,4 +1,5 @@
--- `ways::row_before` meets its contract. The invariant: the frames below k have their numbers. Assumes nothing.
+-- `ways::row_before` meets its contract. The invariant: the frames below k have their numbers.
+-- Assumes nothing.
 use mathlib.Core.Path.{_≡_}
 use Prim.Native.Nat.{_+_, _-_, _≤_}
 use native.Mathlib.Nat.{mod-lt}

@@ -1,4 +1,5 @@
--- `ways::running_sums` meets its contract. The invariant: the sums up to place i are there, and the last is `sum`. Assumes nothing.
+-- `ways::running_sums` meets its contract. The invariant: the sums up to place i are there, and the
+-- last is `sum`. Assumes nothing.
 use mathlib.Core.Path.{_≡_, refl}
 use Prim.Native.Nat.{_+_, _-_, _≤_}
 use native.Mathlib.Omega.{arith}
