@@ -51,16 +51,16 @@ fn changed_place(place: Place, field: u8, index: usize, value: usize) -> Place
     let mut next = place;
     match field {
         b'n' => next.number = lines::session_number(value),
-        b'h' => next.hops = value,
+        b'h' => next.hops = lines::byte(value),
         b'r' => next.route[index] = lines::byte(value),
         _ => {}
     }
     let route = next.route;
     let held = changed_held(place.held, field, index, value);
     Place {
+        route,
         number: next.number,
         hops: next.hops,
-        route,
         held,
     }
 }

@@ -170,7 +170,7 @@ fn shown_place(place: Place) -> Shown
     requires { ⌜ place .hops ≤ 8 ⌝ }
     ensures { λ r. ⌜ r ≡ shownOf (sessionOf place) ⌝ }
 {
-    let hops = place.hops;
+    let hops = place.hops as usize;
     let links = place.route;
     let route = table::in_eight(&links[..hops]);
     let held = table::cleared(place.held, hops);

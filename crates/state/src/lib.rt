@@ -63,9 +63,9 @@ fn no_sessions() -> Table
 {
     let held = table::nothing_held();
     let none = Place {
+        route: [0u8; 8],
         number: 0,
         hops: 0,
-        route: [0u8; 8],
         held,
     };
     Table {
@@ -194,10 +194,11 @@ fn new_place(number: u32, route: &[u8], held: Held) -> Place
     requires { ⌜ length (now route) ≤ 8 ⌝ }
     ensures { λ r. ⌜ sessionOf r ≡ record { number = number; route = now (route .entry); held = holdingOf (length (now (route .entry))) held } ⌝ }
 {
+    let hops = route.len() as u8;
     Place {
-        number,
-        hops: route.len(),
         route: table::in_eight(route),
+        number,
+        hops,
         held,
     }
 }

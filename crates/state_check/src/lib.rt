@@ -49,7 +49,7 @@ fn good_session(network: Network, place: Place) -> bool
     requires { ⌜ networkCheck (topologyOf network) ≡ given pass ⌝ }
     ensures { λ r. ⌜ r ≡ goodSession (topologyOf network) (sessionOf place) ⌝ }
 {
-    let hops = place.hops;
+    let hops = place.hops as usize;
     if 8 < hops {
         return false;
     }

@@ -19,12 +19,13 @@ ghost use Rattle.ledger.specs.Calls.{otherThan};
 ghost use Rattle.table.specs.Table.{sessionOf, liveOf, placeOf};
 ghost use Rattle.table.specs.Inner.{Within, PlaceWithin, AllWithin, Marked, markedIn};
 
-// A session as it is stored ("Calls on sessions"; W-205: "A session stores 32 bits"): how many hops it has, their links, hop 0 first, its number, and what it
-// holds. In this order a place has 48 bytes, of which two at its end are unused.
+// A session as it is stored ("Calls on sessions"; W-205: "A session stores 32 bits"): its links,
+// hop 0 first, its number, its number of hops and what it holds.
+// A place has 40 bytes. Only the byte after `hops` is padding: `held` begins at an even offset.
 pub struct Place {
-    pub hops: usize,
     pub route: [u8; 8],
     pub number: u32,
+    pub hops: u8,
     pub held: Held,
 }
 
@@ -114,7 +115,7 @@ fn mark_place(words: &mut [u64; 128], place: Place)
     let held = place.held;
     let frames = held.frames;
     let colours = held.colours;
-    mark(words, place.hops, route, frames, colours);
+    mark(words, place.hops as usize, route, frames, colours);
 }
 
 // The words of held frames of all links, one for each colour of a link.
@@ -164,7 +165,7 @@ fn meets(words: &[u64; 128], place: Place) -> bool
     let held = place.held;
     let frames = held.frames;
     let colours = held.colours;
-    meets_any(words, place.hops, route, frames, colours)
+    meets_any(words, place.hops as usize, route, frames, colours)
 }
 
 // Whether two sessions hold one frame.
