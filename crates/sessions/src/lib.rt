@@ -263,7 +263,8 @@ fn count_ways(st: State, route: &[u8]) -> Numbered
         Verdict::Refused(refusal) => return not_numbered(refusal),
         Verdict::Passed => {}
     }
-    let hops = state::free_hops(st.network, st.table, route);
+    let held = table::held_words(st.table);
+    let hops = routes::route_hops(st.network, &held, route);
     Numbered {
         verdict: Verdict::Passed,
         ways: ways::number_over(hops, route.len()),

@@ -1,5 +1,6 @@
 -- The search over the frames that the sessions of a state leave free. Assumes nothing.
 use mathlib.Core.Path.{_≡_, refl, sym, ap, subst, _∙_}
+use mathlib.Core.Bool.{true}
 use mathlib.Core.List.{List}
 use Prim.Native.Nat.{ℕ, _≤_}
 use native.Mathlib.Omega.{arith}
@@ -20,9 +21,14 @@ use Rattle.search.specs.declared.Finding.{Finding}
 use Rattle.ledger.specs.Sessions.{Session, hopOf, hopsOf}
 use Rattle.ledger.specs.Inner.{HeldWords}
 use Rattle.ledger.specs.Routes.{routeCheck}
+use Rattle.ledger.specs.Sound.{intact}
+use Rattle.ledger.proofs.Intact.{intact-is}
 use Rattle.routes.specs.Hops.{hopsFrom}
 use Rattle.routes.proofs.Routes.{route-long, route-all-known}
 use Rattle.routes.proofs.Hops.{hops-held, route-ready}
+use Rattle.table.specs.Table.{liveOf}
+use Rattle.state.specs.declared.State.{State}
+use Rattle.state.specs.State.{viewOf}
 
 pub ticks-told : (network : Network) → topologyOf network .ticks ≡ network .ticks
 unfolding topologyOf
@@ -71,3 +77,13 @@ module _ (network : Network) (ss : List Session) (route : List ℕ) (passed : ne
         subst (λ (T : ℕ). Searched T (length route) hops r) (sym (ticks-told network))
         (subst (λ (l : List Hop). Searched (network .ticks) (length route) l r) hops-back
         (searched (network .ticks) (length route) eight r (omega (arith, ap length e, length-firsts 8 hops blankHop, route-long (topologyOf network) route checked .1)) a))
+
+-- ---- the hops of a route that passed, by the words of the frames that a state holds
+module _ (st : State) (ok : intact (viewOf st) ≡ true) (route : List ℕ) (checked : routeCheck (topologyOf (st .network)) route ≡ given pass) (held : List ℕ)
+    (w : HeldWords held (liveOf (st .table))) (eight : List Hop) (e : eight ≡ firsts 8 (hopsFrom (st .network .links) held route) blankHop) where
+  -- they are those over the frames now free
+  pub free-hops : eight ≡ firsts 8 (hopsOf (topologyOf (st .network)) (liveOf (st .table)) route) blankHop
+  free-hops = hops-eight (st .network) (liveOf (st .table)) route (intact-is (viewOf st) ok .network) checked held w eight e
+
+  pub free-ready : Ready (st .network .ticks) eight (length route)
+  free-ready = hops-ready (st .network) (liveOf (st .table)) route (intact-is (viewOf st) ok .network) checked eight free-hops

@@ -19,15 +19,13 @@ ghost use Rattle.places.specs.Places.{firsts};
 ghost use Rattle.refusals.specs.Refusals.{given, pass, ruling};
 ghost use Rattle.network.specs.Network.{topologyOf};
 ghost use Rattle.network.specs.Checks.{networkCheck};
-ghost use Rattle.forwarding.specs.Hops.{noHop, blankHop, Ready};
+ghost use Rattle.forwarding.specs.Hops.{noHop, Ready};
 ghost use Rattle.ledger.specs.Held.{holdingOf};
-ghost use Rattle.ledger.specs.Sessions.{isLive, hopsOf};
-ghost use Rattle.ledger.specs.Routes.{routeCheck};
+ghost use Rattle.ledger.specs.Sessions.{isLive};
 ghost use Rattle.ledger.specs.Sound.{intact};
 ghost use Rattle.ledger.specs.Calls.{SetUp, Quote, answerOver, callCheck, reply};
 ghost use Rattle.routes.specs.Inner.{FramesLaid};
 ghost use Rattle.table.specs.Table.{sessionOf, liveOf};
-ghost use Rattle.table.specs.Inner.{AllWithin};
 ghost use Rattle.state.specs.State.{viewOf, emptyTable, freshState, notQuoted, Quotes, Serves, Releases};
 ghost use Rattle.state.specs.Inner.{foundQuoted};
 
@@ -97,15 +95,6 @@ pub fn refused(refusal: Refusal) -> Quoted
     }
 }
 
-// The hops of a route that passed its checks, over the frames now free.
-pub fn free_hops(network: Network, table: Table, route: &[u8]) -> [Hop; 8]
-    requires { ⌜ (networkCheck (topologyOf network) ≡ given pass) × (routeCheck (topologyOf network) (now route) ≡ given pass) × AllWithin table ⌝ }
-    ensures { λ r. ⌜ r ≡ firsts 8 (hopsOf (topologyOf network) (liveOf table) (now (route .entry))) blankHop ⌝ }
-{
-    let held = table::held_words(table);
-    routes::route_hops(network, &held, route)
-}
-
 // The answer that gives the schedule that a search found over the first n hops, with this delay: the one place where what is held is made.
 fn scheduled(hops: [Hop; 8], n: usize, finding: Finding, delay: Delay) -> Quoted
     requires { ⌜ FramesLaid hops (finding .frames) n ⌝ }
@@ -150,7 +139,8 @@ pub fn quote(st: State, route: &[u8]) -> Quoted
         Verdict::Passed => {}
     }
     let network = st.network;
-    let hops = free_hops(network, st.table, route);
+    let held = table::held_words(st.table);
+    let hops = routes::route_hops(network, &held, route);
     answer_over(network.ticks, hops, route.len())
 }
 
@@ -218,7 +208,8 @@ pub fn set_up(st: State, number: u32, route: &[u8]) -> Served
         },
         Verdict::Passed => {}
     }
-    let hops = free_hops(network, table, route);
+    let held = table::held_words(table);
+    let hops = routes::route_hops(network, &held, route);
     let finding = search::search(network.ticks, hops, route.len());
     let found = finding.found;
     let Found::Schedule(delay) = found else {
@@ -228,8 +219,7 @@ pub fn set_up(st: State, number: u32, route: &[u8]) -> Served
         };
     };
     let answer = scheduled(hops, route.len(), finding, delay);
-    let held = answer.held;
-    let place = new_place(number, route, held);
+    let place = new_place(number, route, answer.held);
     let after = State {
         network,
         table: table::with_place(table, place),

@@ -10,7 +10,7 @@ use Rattle.table.specs.Table.{liveOf}
 use Rattle.routes.proofs.Routes.{route-long}
 use Rattle.routes.proofs.Hops.{one-each}
 use Rattle.state.proofs.Within.{all-within}
-use Rattle.state.proofs.Searches.{hops-ready}
+use Rattle.state.proofs.Searches.{free-hops, free-ready}
 use Rattle.sessions.proofs.Counting.{check-answers, number-answers}
 
 check-route-requires : tie.Need-check-route-requires
@@ -29,20 +29,28 @@ returns c = let start = c .before .before .before .before .before .before in
 enum-told : tie.Need-enum-told
 enum-told c = search needs
 
-free-hops-requires : tie.Need-free-hops-requires
-free-hops-requires c κs = let start = c .before .before .before .before in
-    (intact-is _ (start .pre) .network, sym (c .before .before .check-route .ensures) ∙ ap ruling (c .enum-told .given .1), all-within (start .args .st) (start .pre))
+held-words-requires : tie.Need-held-words-requires
+held-words-requires c κs = let start = c .before .before .before .before in
+    all-within (start .args .st) (start .pre)
+
+route-hops-requires : tie.Need-route-hops-requires
+route-hops-requires c κs = let start = c .before .before .before .before .before .before in
+    (intact-is _ (start .pre) .network, sym (c .before .before .before .before .check-route .ensures) ∙ ap ruling (c .before .before .enum-told .given .1))
 
 number-over-requires : tie.Need-number-over-requires
-number-over-requires c κs = let start = c .before .before .before .before .before in
-    let checked = sym (c .before .before .before .check-route .ensures) ∙ ap ruling (c .before .enum-told .given .1) in (
-      (_, hops-ready _ (liveOf (start .args .st .table)) _ (intact-is _ (start .pre) .network) checked _ (c .free-hops .ensures)),
-      one-each (topologyOf (start .args .st .network)) (liveOf (start .args .st .table)) (start .args .route .now) _ (c .free-hops .ensures) (route-long (topologyOf (start .args .st .network)) _ checked .1),
+number-over-requires c κs = let start = c .before .before .before .before .before .before .before in
+    let checked = sym (c .before .before .before .before .before .check-route .ensures) ∙ ap ruling (c .before .before .before .enum-told .given .1) in
+    let free = free-hops (start .args .st) (start .pre) _ checked _ (c .before .before .held-words .ensures) _ (c .route-hops .ensures) in (
+      (_, free-ready (start .args .st) (start .pre) _ checked _ (c .before .before .held-words .ensures) _ (c .route-hops .ensures)),
+      one-each (topologyOf (start .args .st .network)) (liveOf (start .args .st .table)) (start .args .route .now) _ free (route-long (topologyOf (start .args .st .network)) _ checked .1),
     )
 
 returns-2 : tie.Need-returns-2
-returns-2 c = let start = c .before .before .before .before .before .before in
-    number-answers (start .args .st) _ (start .pre) _ (c .before .before .before .before .check-route .ensures) (c .before .before .enum-told .given .1) _ (c .before .free-hops .ensures) _ (c .number-over .ensures)
+returns-2 c = let hops = c .before in
+    let start = hops .before .before .before .before .before .before .before in
+    let checked = sym (hops .before .before .before .before .before .check-route .ensures) ∙ ap ruling (hops .before .before .before .enum-told .given .1) in
+    let free = free-hops (start .args .st) (start .pre) _ checked _ (hops .before .before .held-words .ensures) _ (hops .route-hops .ensures) in
+    number-answers (start .args .st) _ (start .pre) _ (hops .before .before .before .before .before .check-route .ensures) (hops .before .before .before .enum-told .given .1) _ free _ (c .number-over .ensures)
 
 pub count-ways-spec : {M : Type 1} → statement M
 count-ways-spec =
@@ -53,6 +61,7 @@ count-ways-spec =
     not-numbered-requires
     returns
     enum-told
-    free-hops-requires
+    held-words-requires
+    route-hops-requires
     number-over-requires
     returns-2)

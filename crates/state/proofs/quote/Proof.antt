@@ -6,10 +6,9 @@ use mathlib.Core.Path.{sym, ap, _∙_}
 use Rattle.refusals.specs.Refusals.{ruling}
 use Rattle.ledger.specs.Calls.{Quote}
 use Rattle.ledger.proofs.Intact.{intact-is}
-use Rattle.table.specs.Table.{liveOf}
 use Rattle.state.proofs.Within.{all-within}
 use Rattle.state.proofs.Replies.{quote-check}
-use Rattle.state.proofs.Searches.{hops-ready}
+use Rattle.state.proofs.Searches.{free-hops, free-ready}
 use Rattle.state.proofs.SetUps.{quotes-refused, quote-quotes}
 
 check-route-requires : tie.Need-check-route-requires
@@ -28,17 +27,25 @@ returns c = let start = c .before .before .before .before .before .before in
 enum-told : tie.Need-enum-told
 enum-told c = search needs
 
-free-hops-requires : tie.Need-free-hops-requires
-free-hops-requires c κs = let start = c .before .before .before .before .before in
-    (intact-is _ (start .pre) .network, sym (c .before .before .before .check-route .ensures) ∙ ap ruling (c .before .enum-told .given .1), all-within (start .args .st) (start .pre))
+held-words-requires : tie.Need-held-words-requires
+held-words-requires c κs = let start = c .before .before .before .before .before in
+    all-within (start .args .st) (start .pre)
+
+route-hops-requires : tie.Need-route-hops-requires
+route-hops-requires c κs = let start = c .before .before .before .before .before .before .before in
+    (intact-is _ (start .pre) .network, sym (c .before .before .before .before .before .check-route .ensures) ∙ ap ruling (c .before .before .before .enum-told .given .1))
 
 answer-over-requires : tie.Need-answer-over-requires
-answer-over-requires c κs = let start = c .before .before .before .before .before .before in
-    hops-ready _ (liveOf (start .args .st .table)) _ (intact-is _ (start .pre) .network) (sym (c .before .before .before .before .check-route .ensures) ∙ ap ruling (c .before .before .enum-told .given .1)) _ (c .free-hops .ensures)
+answer-over-requires c κs = let start = c .before .before .before .before .before .before .before .before in
+    let checked = sym (c .before .before .before .before .before .before .check-route .ensures) ∙ ap ruling (c .before .before .before .before .enum-told .given .1) in
+    free-ready (start .args .st) (start .pre) _ checked _ (c .before .before .held-words .ensures) _ (c .route-hops .ensures)
 
 returns-2 : tie.Need-returns-2
-returns-2 c = let start = c .before .before .before .before .before .before .before in
-    quote-quotes (start .args .st) (start .pre) _ (sym (c .before .before .before .before .before .check-route .ensures) ∙ ap ruling (c .before .before .before .enum-told .given .1)) _ (c .before .free-hops .ensures) _ (c .answer-over .ensures)
+returns-2 c = let hops = c .before in
+    let start = hops .before .before .before .before .before .before .before .before in
+    let checked = sym (hops .before .before .before .before .before .before .check-route .ensures) ∙ ap ruling (hops .before .before .before .before .enum-told .given .1) in
+    let free = free-hops (start .args .st) (start .pre) _ checked _ (hops .before .before .held-words .ensures) _ (hops .route-hops .ensures) in
+    quote-quotes (start .args .st) (start .pre) _ checked _ free _ (c .answer-over .ensures)
 
 pub quote-spec : {M : Type 1} → statement M
 quote-spec =
@@ -49,6 +56,7 @@ quote-spec =
     refused-requires
     returns
     enum-told
-    free-hops-requires
+    held-words-requires
+    route-hops-requires
     answer-over-requires
     returns-2)

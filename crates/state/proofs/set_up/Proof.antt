@@ -8,8 +8,7 @@ use Rattle.ledger.specs.Calls.{SetUp}
 use Rattle.ledger.proofs.Intact.{intact-is}
 use Rattle.ledger.proofs.Answered.{admitted}
 use Rattle.routes.proofs.Routes.{route-long}
-use Rattle.table.specs.Table.{liveOf}
-use Rattle.state.proofs.Searches.{hops-ready}
+use Rattle.state.proofs.Searches.{free-hops, free-ready}
 use Rattle.state.proofs.Within.{few-live, all-within}
 use Rattle.state.proofs.SetUps.{serves-refused, room-left, route-passed, set-up-blocked, set-up-laid, set-up-held}
 
@@ -30,13 +29,18 @@ returns c = let start = c .before .before .before .before .before .before .befor
 enum-told : tie.Need-enum-told
 enum-told c = search needs
 
-free-hops-requires : tie.Need-free-hops-requires
-free-hops-requires c κs = let start = c .before .before .before .before .before .before in
-    (intact-is _ (start .pre) .network, route-passed (start .args .st) (start .pre) _ _ (sym (c .before .before .check-set-up .ensures) ∙ ap ruling (c .enum-told .given .1)), all-within (start .args .st) (start .pre))
+held-words-requires : tie.Need-held-words-requires
+held-words-requires c κs = let start = c .before .before .before .before .before .before in
+    all-within (start .args .st) (start .pre)
+
+route-hops-requires : tie.Need-route-hops-requires
+route-hops-requires c κs = let start = c .before .before .before .before .before .before .before .before in
+    (intact-is _ (start .pre) .network, route-passed (start .args .st) (start .pre) _ _ (sym (c .before .before .before .before .check-set-up .ensures) ∙ ap ruling (c .before .before .enum-told .given .1)))
 
 search-requires : tie.Need-search-requires
-search-requires c κs = let start = c .before .before .before .before .before .before .before in
-    hops-ready _ (liveOf (start .args .st .table)) _ (intact-is _ (start .pre) .network) (route-passed (start .args .st) (start .pre) _ _ (sym (c .before .before .before .check-set-up .ensures) ∙ ap ruling (c .before .enum-told .given .1))) _ (c .free-hops .ensures)
+search-requires c κs = let start = c .before .before .before .before .before .before .before .before .before in
+    let passed = sym (c .before .before .before .before .before .check-set-up .ensures) ∙ ap ruling (c .before .before .before .enum-told .given .1) in
+    free-ready (start .args .st) (start .pre) _ (route-passed (start .args .st) (start .pre) _ _ passed) _ (c .before .before .held-words .ensures) _ (c .route-hops .ensures)
 
 enum-known-found : tie.Need-enum-known-found
 enum-known-found c = search needs
@@ -49,28 +53,36 @@ refused-requires-2 c κs = search needs
 
 returns-2 : tie.Need-returns-2
 returns-2 c = let hops = c .before .before .before .before in
-    let start = hops .before .before .before .before .before .before .before in
-    set-up-blocked (start .args .st) (start .pre) _ _ (sym (hops .before .before .before .check-set-up .ensures) ∙ ap ruling (hops .before .enum-told .given .1)) _ (hops .free-hops .ensures) _ (c .before .before .before .search .ensures) (c .before .enum-told2 .given .1) _ (c .refused2 .ensures)
+    let start = hops .before .before .before .before .before .before .before .before .before in
+    let passed = sym (hops .before .before .before .before .before .check-set-up .ensures) ∙ ap ruling (hops .before .before .before .enum-told .given .1) in
+    let free = free-hops (start .args .st) (start .pre) _ (route-passed (start .args .st) (start .pre) _ _ passed) _ (hops .before .before .held-words .ensures) _ (hops .route-hops .ensures) in
+    set-up-blocked (start .args .st) (start .pre) _ _ passed _ free _ (c .before .before .before .search .ensures) (c .before .enum-told2 .given .1) _ (c .refused2 .ensures)
 
 scheduled-requires : tie.Need-scheduled-requires
 scheduled-requires c κs = let hops = c .before .before .before .before in
-    let start = hops .before .before .before .before .before .before .before in
-    set-up-laid (start .args .st) (start .pre) _ _ (sym (hops .before .before .before .check-set-up .ensures) ∙ ap ruling (hops .before .enum-told .given .1)) _ (hops .free-hops .ensures) _ (c .before .before .before .search .ensures) _ (c .before .found .given .1)
+    let start = hops .before .before .before .before .before .before .before .before .before in
+    let passed = sym (hops .before .before .before .before .before .check-set-up .ensures) ∙ ap ruling (hops .before .before .before .enum-told .given .1) in
+    let free = free-hops (start .args .st) (start .pre) _ (route-passed (start .args .st) (start .pre) _ _ passed) _ (hops .before .before .held-words .ensures) _ (hops .route-hops .ensures) in
+    set-up-laid (start .args .st) (start .pre) _ _ passed _ free _ (c .before .before .before .search .ensures) _ (c .before .found .given .1)
 
 new-place-requires : tie.Need-new-place-requires
-new-place-requires c κs = let hops = c .before .before .before .before .before .before in
-    let start = hops .before .before .before .before .before .before .before in
-    route-long _ _ (route-passed (start .args .st) (start .pre) _ _ (sym (hops .before .before .before .check-set-up .ensures) ∙ ap ruling (hops .before .enum-told .given .1))) .1
+new-place-requires c κs = let hops = c .before .before .before .before .before in
+    let start = hops .before .before .before .before .before .before .before .before .before in
+    let passed = sym (hops .before .before .before .before .before .check-set-up .ensures) ∙ ap ruling (hops .before .before .before .enum-told .given .1) in
+    route-long _ _ (route-passed (start .args .st) (start .pre) _ _ passed) .1
 
 with-place-requires : tie.Need-with-place-requires
-with-place-requires c κs = let hops = c .before .before .before .before .before .before .before in
-    let start = hops .before .before .before .before .before .before .before in
-    room-left (start .args .st .table) (admitted _ _ _ _ (sym (hops .before .before .before .check-set-up .ensures) ∙ ap ruling (hops .before .enum-told .given .1)) .room)
+with-place-requires c κs = let hops = c .before .before .before .before .before .before in
+    let start = hops .before .before .before .before .before .before .before .before .before in
+    let passed = sym (hops .before .before .before .before .before .check-set-up .ensures) ∙ ap ruling (hops .before .before .before .enum-told .given .1) in
+    room-left (start .args .st .table) (admitted _ _ _ _ passed .room)
 
 returns-3 : tie.Need-returns-3
-returns-3 c = let hops = c .before .before .before .before .before .before .before .before in
-    let start = hops .before .before .before .before .before .before .before in
-    set-up-held (start .args .st) (start .pre) _ _ (sym (hops .before .before .before .check-set-up .ensures) ∙ ap ruling (hops .before .enum-told .given .1)) _ (hops .free-hops .ensures) _ (c .before .before .before .before .before .before .before .search .ensures) _ (c .before .before .before .before .before .found .given .1) _ (c .before .before .before .scheduled .ensures) _ (c .before .new-place .ensures) _ (c .with-place .ensures)
+returns-3 c = let hops = c .before .before .before .before .before .before .before in
+    let start = hops .before .before .before .before .before .before .before .before .before in
+    let passed = sym (hops .before .before .before .before .before .check-set-up .ensures) ∙ ap ruling (hops .before .before .before .enum-told .given .1) in
+    let free = free-hops (start .args .st) (start .pre) _ (route-passed (start .args .st) (start .pre) _ _ passed) _ (hops .before .before .held-words .ensures) _ (hops .route-hops .ensures) in
+    set-up-held (start .args .st) (start .pre) _ _ passed _ free _ (c .before .before .before .before .before .before .search .ensures) _ (c .before .before .before .before .found .given .1) _ (c .before .before .scheduled .ensures) _ (c .before .new-place .ensures) _ (c .with-place .ensures)
 
 pub set-up-spec : {M : Type 1} → statement M
 set-up-spec =
@@ -81,7 +93,8 @@ set-up-spec =
     refused-requires
     returns
     enum-told
-    free-hops-requires
+    held-words-requires
+    route-hops-requires
     search-requires
     enum-known-found
     enum-told-2
