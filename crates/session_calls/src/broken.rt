@@ -1,6 +1,6 @@
-// States built by hand. A change is written as four words: a field's name, the link or the table's place that has it, the place in the route, in the
-// frames, in the cycles or in the colours, and the new value; 0 stands where a field needs no place. A field's first letter tells it: C a cycle, c closed frames, w the colour
-// (wavelength) of a hop.
+// States built by hand. A change is four words: a field, the link or table place that has it, the
+// place in the route, in the frames, cycles or colours, and the new value; 0 where a field needs no
+// place. A field's first letter says which it is: C a cycle, c closed frames, w a hop's colour.
 use super::calls;
 use super::lines;
 use super::same;
