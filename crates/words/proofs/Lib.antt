@@ -4,3 +4,4 @@ pub mod Frames
 pub mod Ones
 pub mod Machine
 pub mod Sliding
+pub mod Banks

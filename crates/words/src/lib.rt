@@ -1,11 +1,26 @@
-// Words of frames: bit i of a word stands for frame i.
-// What is required, callers show: of a link by check 7, K, here `frames`, being from 1 to 64 and a frame number below K; a word that isn't one of frames has its bits below 64 too.
+// Words of frames: bit i of a word stands for frame i. A bank has a word for each link and colour.
+// Callers guarantee 1 ≤ frames ≤ 64 and a frame number below K (check 7).
 ghost use mathlib.Core.Path.{_≡_};
 ghost use Prim.Native.Nat.{_+_, _%_, _≤_, _<_};
 ghost use lib.ListN.{length};
 ghost use Rattle.lists.specs.Count.{oneIf, countBelow};
 ghost use Rattle.words.specs.Word.{bitOf, onesBelow, withBit, withoutBit, freeAt, freeWord};
+ghost use Rattle.words.specs.Bank.{mostColours, bankAt};
 ghost use Rattle.words.specs.Inner.{WindowOnes};
+
+// The most colours of a link.
+pub const COLOURS: usize = 4;
+
+// The words of a bank: one for each of 32 links in each colour.
+pub const BANK: usize = 32 * COLOURS;
+
+// The place of a link's word of a colour. The factor is COLOURS, as a byte: 4 × 31 + 3 fits one.
+pub fn bank(link: u8, colour: u8) -> usize
+    requires { ⌜ (link < 32) × (colour < mostColours) ⌝ }
+    ensures { λ r. ⌜ r ≡ bankAt link colour ⌝ }
+{
+    (4 * link + colour) as usize
+}
 
 // Whether bit i of a word stands.
 pub fn has_bit(word: u64, i: u16) -> bool
