@@ -15,6 +15,7 @@ use Rattle.refusals.specs.Refusals.{refusalNumber, Ruling, given, refused, pass
 use Rattle.refusals.specs.declared.Refusal.{Refusal}
 use Rattle.refusals.specs.declared.Verdict.{Verdict}
 use Rattle.refusals.specs.declared.Verdict.the-variants.{Passed, Refused}
+use Rattle.words.specs.Bank.{bankSize}
 use Rattle.network.specs.Network.{topologyOf}
 use Rattle.network.specs.Checks.{networkCheck}
 use Rattle.network.specs.declared.Network.{Network}
@@ -49,9 +50,9 @@ pub not-passed : (tag : Verdict → ℕ) → tag Passed ≡ 0 → (v : Verdict) 
 not-passed tag h Passed e = absurd (omega (arith, h, e))
 not-passed tag h (Refused r) e = (r, refl)
 
--- words in which nothing is held
-pub none-held : HeldWords (replicate 128 0) []
-none-held = words-none 128
+-- a bank in which nothing is held
+pub none-held : HeldWords (replicate bankSize 0) []
+none-held = words-none bankSize
 
 module _ (network : Network) (place : Place) where
   -- 12 refuses a route of more than 8 links
@@ -79,13 +80,13 @@ module _ (network : Network) (place : Place) where
         route-stands = sym ev ∙ ap ruling e
 
         module _ (passed : networkCheck (topologyOf network) ≡ given pass) (laid : List Hop)
-            (el : laid ≡ firsts 8 (hopsFrom (network .links) (replicate 128 0) (take (place .hops) (place .route))) blankHop) where
+            (el : laid ≡ firsts 8 (hopsFrom (network .links) (replicate bankSize 0) (take (place .hops) (place .route))) blankHop) where
           taken : List ℕ
           taken = take (place .hops) (place .route)
 
           eight : laid ≡ firsts 8 (hopsOf (topologyOf network) [] taken) blankHop
           unfolding taken
-          eight = hops-eight network [] taken passed route-stands (replicate 128 0) none-held laid el
+          eight = hops-eight network [] taken passed route-stands (replicate bankSize 0) none-held laid el
 
           pub walk-ready : Ready (network .ticks) laid (place .hops)
           unfolding taken

@@ -7,6 +7,7 @@ use routes::Walked;
 use state::State;
 use table::Place;
 use table::Table;
+use words::BANK;
 ghost use mathlib.Core.Path.{_≡_};
 ghost use mathlib.Core.Bool.{not, _&&_};
 ghost use Prim.Native.Nat.{_≤_};
@@ -58,7 +59,7 @@ fn good_session(network: Network, place: Place) -> bool
         Verdict::Refused(_) => return false,
         Verdict::Passed => {}
     }
-    let held = [0u64; 128];
+    let held = [0u64; BANK];
     let laid = routes::route_hops(network, &held, &route[..hops]);
     let stored = place.held;
     let frames = stored.frames;

@@ -2,15 +2,17 @@
 use mathlib.Core.Path.{_≡_, refl, sym, ap, ap₂, subst, _∙_}
 use mathlib.Core.Bool.{Bool, true, false, _&&_, _||_, or-false, or-assoc}
 use mathlib.Core.List.{List, [], _∷_, _++_}
-use Prim.Native.Nat.{ℕ, zero, suc, _+_, _*_, _/_, _%_, _<_, _≤_}
+use Prim.Native.Nat.{ℕ, zero, suc, _+_, _<_, _≤_}
 use native.Mathlib.Numerals.{add-one}
 use native.Mathlib.Omega.{arith}
 use lib.ListN.{length, getD, drop, set, length-set}
 use lib.Dec.{eqb}
-use borrow.Author.Tests.{eqb-true, eqb-false}
 use Rattle.places.specs.Places.{firsts}
 use Rattle.places.proofs.Firsts.{length-firsts, next-first, no-first, firsts-snoc}
 use Rattle.words.specs.Word.{bitOf, withBit}
+use Rattle.words.specs.Bank.{mostColours, bankSize, bankAt, bankLink, bankColour}
+use Rattle.words.proofs.Banks.{bank-test}
+use Rattle.words.proofs.Banks as banks
 use Rattle.ledger.specs.Lists.{anyOf}
 use Rattle.ledger.specs.Sessions.{Slot, slot, sameSlot, slotsAt}
 use Rattle.ledger.proofs.Lists.{any-snoc}
@@ -18,17 +20,6 @@ use Rattle.table.specs.Inner.{Within, Marked}
 use Rattle.table.proofs.Banks.{words-same, words-put}
 
 -- ---- the place of a word: one for each link and colour
-bank-test : (l c a : ℕ) → c < 4 → eqb (4 * l + c) a ≡ (eqb l (a / 4) && eqb c (a % 4))
-bank-test l c a h = go (eqb (4 * l + c) a) refl (eqb l (a / 4)) refl (eqb c (a % 4)) refl
-  where
-    go : (x : Bool) → eqb (4 * l + c) a ≡ x → (y : Bool) → eqb l (a / 4) ≡ y → (z : Bool) → eqb c (a % 4) ≡ z → x ≡ (y && z)
-    go true e true f true g = refl
-    go true e true f false g = absurd (eqb-false c (a % 4) g (omega (arith, eqb-true (4 * l + c) a e)))
-    go true e false f z g = absurd (eqb-false l (a / 4) f (omega (arith, eqb-true (4 * l + c) a e)))
-    go false e true f true g = absurd (eqb-false (4 * l + c) a e (omega (arith, eqb-true l (a / 4) f, eqb-true c (a % 4) g)))
-    go false e true f false g = refl
-    go false e false f z g = refl
-
 swapped : (x y z : Bool) → (x && z) && y ≡ x && (y && z)
 swapped true true true = refl
 swapped true true false = refl
@@ -36,8 +27,8 @@ swapped true false true = refl
 swapped true false false = refl
 swapped false y z = refl
 
-bank-same : (l i c a k : ℕ) → c < 4 → (eqb (4 * l + c) a && eqb i k) ≡ sameSlot (slot (a / 4) k (a % 4)) (slot l i c)
-bank-same l i c a k h = ap (λ (b : Bool). b && eqb i k) (bank-test l c a h) ∙ swapped (eqb l (a / 4)) (eqb i k) (eqb c (a % 4))
+bank-same : (l i c a k : ℕ) → c < mostColours → (eqb (bankAt l c) a && eqb i k) ≡ sameSlot (slot (bankLink a) k (bankColour a)) (slot l i c)
+bank-same l i c a k h = ap (λ (b : Bool). b && eqb i k) (bank-test l c h a) ∙ swapped (eqb l (bankLink a)) (eqb i k) (eqb c (bankColour a))
 
 -- a frame of each link, and of one link more
 slots-snoc : (ls is cs : List ℕ) (l i c : ℕ) → length ls ≡ length is → length is ≡ length cs
@@ -80,23 +71,23 @@ module _ (hops : ℕ) (route frames colours : List ℕ) (old : List ℕ) where
   pub record Marking (j : ℕ) (words : List ℕ) : Type 0 where
     pub within : j ≤ hops
     pub arrays : Within hops route frames colours
-    pub long : length words ≡ 128
+    pub long : length words ≡ bankSize
     pub marked : Marked (firstSlots route frames colours j) old words
 
-  pub no-hop : length old ≡ 128 → Within hops route frames colours → Marking 0 old
+  pub no-hop : length old ≡ bankSize → Within hops route frames colours → Marking 0 old
   unfolding firsts
   no-hop e w₀ =
       record {
         within = omega arith;
         arrays = w₀;
         long = e;
-        marked = λ p w. words-same 128 old p (λ a i. p a i || false) (λ a i h g. sym (or-false (p a i))) w;
+        marked = λ p w. words-same bankSize old p (λ a i. p a i || false) (λ a i h g. sym (or-false (p a i))) w;
       }
 
-  pub bank-in : Within hops route frames colours → (j : ℕ) → j < hops → (at : ℕ) → at ≡ 4 * getD route j 0 + getD colours j 0 → at < 128
-  bank-in w j h at e = omega (arith, e, w .link j h, w .colour j h)
+  pub bank-in : Within hops route frames colours → (j : ℕ) → j < hops → (at : ℕ) → at ≡ bankAt (getD route j 0) (getD colours j 0) → at < bankSize
+  bank-in w j h at e = rw e (banks.bank-in (getD route j 0) (getD colours j 0) (w .link j h) (w .colour j h))
 
-  pub one-hop : (j : ℕ) (words : List ℕ) → Marking j words → j < hops → (at : ℕ) → at ≡ 4 * getD route j 0 + getD colours j 0
+  pub one-hop : (j : ℕ) (words : List ℕ) → Marking j words → j < hops → (at : ℕ) → at ≡ bankAt (getD route j 0) (getD colours j 0)
       → (w : ℕ) → w ≡ withBit 64 (getD words at 0) (getD frames j 0) → Marking (j + 1) (set words at w)
   one-hop j words m h at ea w e =
       subst (λ (x : ℕ). Marking (j + 1) (set words at x)) (sym e)
@@ -105,20 +96,20 @@ module _ (hops : ℕ) (route frames colours : List ℕ) (old : List ℕ) where
         arrays = m .arrays;
         long = length-set words at (withBit 64 (getD words at 0) (getD frames j 0)) ∙ m .long;
         marked = λ p u.
-            words-same 128 _ (λ a i. (p a i || before a i) || (eqb at a && eqb (getD frames j 0) i)) _ (λ a i ha hi. joined (p a i) a i)
-            (words-put 128 words (λ a i. p a i || before a i) (m .marked p u) at (getD frames j 0) (bank-in (m .arrays) j h at ea));
+            words-same bankSize _ (λ a i. (p a i || before a i) || (eqb at a && eqb (getD frames j 0) i)) _ (λ a i ha hi. joined (p a i) a i)
+            (words-put bankSize words (λ a i. p a i || before a i) (m .marked p u) at (getD frames j 0) (bank-in (m .arrays) j h at ea));
       }
     where
       before : ℕ → ℕ → Bool
-      before a i = anyOf (sameSlot (slot (a / 4) i (a % 4))) (firstSlots route frames colours j)
+      before a i = anyOf (sameSlot (slot (bankLink a) i (bankColour a))) (firstSlots route frames colours j)
 
       joined : (b : Bool) (a i : ℕ)
-          → ((b || before a i) || (eqb at a && eqb (getD frames j 0) i)) ≡ (b || anyOf (sameSlot (slot (a / 4) i (a % 4))) (firstSlots route frames colours (j + 1)))
+          → ((b || before a i) || (eqb at a && eqb (getD frames j 0) i)) ≡ (b || anyOf (sameSlot (slot (bankLink a) i (bankColour a))) (firstSlots route frames colours (j + 1)))
       joined b a i =
           ap (λ (x : ℕ). (b || before a i) || (eqb x a && eqb (getD frames j 0) i)) ea
           ∙ ap (λ (x : Bool). (b || before a i) || x) (bank-same (getD route j 0) (getD frames j 0) (getD colours j 0) a i (m .arrays .colour j h))
-          ∙ or-assoc b (before a i) (sameSlot (slot (a / 4) i (a % 4)) (slotAt route frames colours j))
-          ∙ ap (λ (c : Bool). b || c) (sym (any-more route frames colours (sameSlot (slot (a / 4) i (a % 4))) j))
+          ∙ or-assoc b (before a i) (sameSlot (slot (bankLink a) i (bankColour a)) (slotAt route frames colours j))
+          ∙ ap (λ (c : Bool). b || c) (sym (any-more route frames colours (sameSlot (slot (bankLink a) i (bankColour a))) j))
 
   pub all-hops : (j : ℕ) (words : List ℕ) → Marking j words → hops ≤ j → Marked (firstSlots route frames colours hops) old words
   all-hops j words m h = subst (λ (n : ℕ). Marked (firstSlots route frames colours n) old words) {x = j} {y = hops} (omega (arith, m .within)) (m .marked)
@@ -153,5 +144,5 @@ module _ (p : Slot → Bool) (n : ℕ) (route frames colours : List ℕ) where
     unmet-all h = sym (u .same ∙ ap (λ (ls : List ℕ). anyOf p (slotsAt ls (drop j (firsts n frames 0)) (drop j (firsts n colours 0)))) (no-first n j route 0 h))
 
 -- a marked frame, by the place of its word
-pub marked-told : (words : List ℕ) (l i c at : ℕ) (b : Bool) → at ≡ 4 * l + c → b ≡ bitOf (getD words at 0) i → b ≡ bitOf (getD words (4 * l + c) 0) i
+pub marked-told : (words : List ℕ) (l i c at : ℕ) (b : Bool) → at ≡ bankAt l c → b ≡ bitOf (getD words at 0) i → b ≡ bitOf (getD words (bankAt l c) 0) i
 marked-told words l i c at b e q = q ∙ ap (λ (x : ℕ). bitOf (getD words x 0) i) e

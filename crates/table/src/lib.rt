@@ -4,12 +4,14 @@
 // links, and check 0 that a stored one has (`in_eight`, `cleared`).
 use forwarding::Delay;
 use forwarding::Held;
+use words::BANK;
 ghost use mathlib.Core.Path.{_≡_};
 ghost use mathlib.Core.List.{[], _∷_, _++_};
-ghost use Prim.Native.Nat.{_+_, _*_, _<_, _≤_};
+ghost use Prim.Native.Nat.{_<_, _≤_};
 ghost use lib.ListN.{length};
 ghost use lib.Dec.{eqb};
 ghost use Rattle.places.specs.Places.{firsts};
+ghost use Rattle.words.specs.Bank.{bankSize};
 ghost use Rattle.ledger.specs.Lists.{anyOf, keep};
 ghost use Rattle.ledger.specs.Held.{noHolding, holdingOf, heldPlaces};
 ghost use Rattle.ledger.specs.Sessions.{slotsAt, slotsOf};
@@ -85,30 +87,22 @@ pub fn without(table: Table, number: u32) -> Table
     next
 }
 
-// The place of the word of a link's frames in a colour.
-pub fn bank(link: u8, colour: u8) -> usize
-    requires { ⌜ (link < 32) × (colour < 4) ⌝ }
-    ensures { λ r. ⌜ r ≡ 4 * link + colour ⌝ }
-{
-    4 * places::index(link) + places::index(colour)
-}
-
-// Marks a frame of each of so many links, in its colour, in the words of held frames.
-fn mark(words: &mut [u64; 128], hops: usize, route: [u8; 8], frames: [u8; 8], colours: [u8; 8])
-    requires { ⌜ (length (now words) ≡ 128) × Within hops route frames colours ⌝ }
+// Marks a frame of each of so many links, in its colour, in a bank.
+fn mark(words: &mut [u64; BANK], hops: usize, route: [u8; 8], frames: [u8; 8], colours: [u8; 8])
+    requires { ⌜ (length (now words) ≡ bankSize) × Within hops route frames colours ⌝ }
     ensures { λ r. ⌜ Marked (slotsAt (firsts hops route 0) (firsts hops frames 0) (firsts hops colours 0)) (now (words .entry)) (now (words .exit)) ⌝ }
 {
     let mut j: usize = 0;
     while j < hops {
-        let at = bank(route[j], colours[j]);
+        let at = words::bank(route[j], colours[j]);
         words[at] = words::set_bit(words[at], frames[j] as u16);
         j += 1;
     }
 }
 
 // Marks what a session holds.
-fn mark_place(words: &mut [u64; 128], place: Place)
-    requires { ⌜ (length (now words) ≡ 128) × PlaceWithin place ⌝ }
+fn mark_place(words: &mut [u64; BANK], place: Place)
+    requires { ⌜ (length (now words) ≡ bankSize) × PlaceWithin place ⌝ }
     ensures { λ r. ⌜ Marked (slotsOf (sessionOf place)) (now (words .entry)) (now (words .exit)) ⌝ }
 {
     let route = place.route;
@@ -118,13 +112,13 @@ fn mark_place(words: &mut [u64; 128], place: Place)
     mark(words, place.hops as usize, route, frames, colours);
 }
 
-// The words of held frames of all links, one for each colour of a link.
-pub fn held_words(table: Table) -> [u64; 128]
+// The bank of held frames.
+pub fn held_words(table: Table) -> [u64; BANK]
     requires { ⌜ AllWithin table ⌝ }
     ensures { λ r. ⌜ HeldWords r (liveOf table) ⌝ }
 {
     let live = table.live;
-    let mut words = [0u64; 128];
+    let mut words = [0u64; BANK];
     let mut i: usize = 0;
     while i < live {
         let place = table.places[i];
@@ -136,7 +130,7 @@ pub fn held_words(table: Table) -> [u64; 128]
 
 // Whether a frame of one of so many links is marked in its colour.
 fn meets_any(
-    words: &[u64; 128],
+    words: &[u64; BANK],
     hops: usize,
     route: [u8; 8],
     frames: [u8; 8],
@@ -147,7 +141,7 @@ fn meets_any(
 {
     let mut j: usize = 0;
     while j < hops {
-        let at = bank(route[j], colours[j]);
+        let at = words::bank(route[j], colours[j]);
         if words::has_bit(words[at], frames[j] as u16) {
             return true;
         }
@@ -157,7 +151,7 @@ fn meets_any(
 }
 
 // Whether some of what a session holds is marked.
-fn meets(words: &[u64; 128], place: Place) -> bool
+fn meets(words: &[u64; BANK], place: Place) -> bool
     requires { ⌜ PlaceWithin place ⌝ }
     ensures { λ r. ⌜ r ≡ anyOf (markedIn (now (words .entry))) (slotsOf (sessionOf place)) ⌝ }
 {
@@ -174,7 +168,7 @@ pub fn frame_twice(table: Table) -> bool
     ensures { λ r. ⌜ r ≡ frameTwice (liveOf table) ⌝ }
 {
     let live = table.live;
-    let mut marks = [0u64; 128];
+    let mut marks = [0u64; BANK];
     let mut i: usize = 0;
     while i < live {
         let place = table.places[i];
