@@ -1,6 +1,7 @@
 pub mod Lists
 pub mod Held
 pub mod Intact
+pub mod Colours
 pub mod Free
 pub mod Counted
 pub mod Schedules

@@ -97,9 +97,9 @@ ways-given v route n e = go (intact v) (routeCheck (v .network) route) e
 -- WHERE NO FRAME OF ITS LINKS IS CLOSED OR HELD each frame of each hop is free
 pub none-taken-free : (v : View) (route : List ℕ) → NoneTaken v route → EveryFrameFree (hopsOf (v .network) (v .live) route)
 none-taken-free v [] h = tt
-none-taken-free v (l ∷ ls) h = (free, none-taken-free v ls (λ m i w. h m i (List·Memᴰ·tail w)))
+none-taken-free v (l ∷ ls) h = (free, none-taken-free v ls (λ m i c w. h m i c (List·Memᴰ·tail w)))
   where
     free : (x : Spot) → IsOn (hopOf (v .network) (v .live) l) x → isFree (hopOf (v .network) (v .live) l) x ≡ true
     free x on =
-        let t = h l (x .frame) (List·Memᴰ·head refl) (on .0) in
+        let t = h l (x .frame) (x .colour) (List·Memᴰ·head refl) (on .0) (on .1) in
         free-at (v .network) (v .live) l x (on .1) ∙ rw (lt-ltb (x .frame) (linkAt (v .network) l .frames) (on .0), t .0, t .1)

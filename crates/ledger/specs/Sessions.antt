@@ -1,12 +1,14 @@
 -- Sessions and the frames that they hold (document 01, "Calls on sessions"), and the hops of a route over the frames left free. Assumes nothing.
 use mathlib.Core.Path.{_≡_}
 use mathlib.Core.Bool.{Bool, not, _&&_}
-use mathlib.Core.List.{List, [], _∷_, map}
-use Prim.Native.Nat.{ℕ}
-use lib.ListN.{getD}
+use mathlib.Core.List.{List, [], _∷_, _++_, map}
+use Prim.Native.Nat.{ℕ, _-_}
+use lib.ListN.{getD, replicate}
 use lib.Dec.{eqb, ltb}
 use Rattle.lists.specs.Count.{countBelow}
+use Rattle.trellis.specs.Paths.{gather}
 use Rattle.words.specs.Word.{bitOf, wordOf, freeFrames}
+use Rattle.words.specs.Bank.{mostColours}
 use Rattle.network.specs.Network.{Topology, noLink}
 use Rattle.network.specs.declared.Link.{Link}
 use Rattle.forwarding.specs.declared.Hop.{Hop}
@@ -63,27 +65,55 @@ isLive n ss = anyOf (λ s. eqb (s .number) n) ss
 abbrev pub linkAt : Topology → ℕ → Link
 linkAt net l = getD (net .links) l noLink
 
--- the free frames of link l in colour c: "A frame is free when it is neither closed nor held by a live session. Written as a word, bit i stands for a free frame i"
+-- a link's colours: "Each link carries C channels, 1 to 4, numbered from 0, absent value 1"
+-- (W-211); every link has the absent value
+unfoldable pub linkColours : Link → ℕ
+linkColours k = 1
+
+-- its "conversion range R, absent value 0" (W-211); every link has the absent value
+unfoldable pub linkTurn : Link → ℕ
+linkTurn k = 0
+
+-- the free frames of link l in colour c: "A frame is free when it is neither closed nor held by a
+-- live session. Written as a word, bit i stands for a free frame i"
 unfoldable pub freeOf : Topology → List Session → ℕ → ℕ → ℕ
 freeOf net ss l c = wordOf (linkAt net l .frames) (λ i. not (bitOf (linkAt net l .closed) i) && not (heldIn ss (slot l i c)))
 
--- link l as a hop: K, Z, Y (W-206), one colour that stays (W-211 will give more), and its free frames; a field that is added later stands here
+-- a number for each of C colours, and 0 in each place left of four
+unfoldable pub byColour : ℕ → (ℕ → ℕ) → List ℕ
+byColour C f = gather C (λ c. f c ∷ []) ++ replicate (mostColours - C) 0
+
+-- the free frames of link l, a word for each of its colours
+abbrev pub freeWords : Topology → List Session → ℕ → List ℕ
+freeWords net ss l = byColour (linkColours (linkAt net l)) (freeOf net ss l)
+
+-- link l as a hop: K, Z, Y (W-206), C and R (W-211), and its free frames
 abbrev pub hopOf : Topology → List Session → ℕ → Hop
-hopOf net ss l = record { frames = linkAt net l .frames; range = linkAt net l .range; least = linkAt net l .least; colours = 1; turn = 0; free = freeOf net ss l 0 ∷ 0 ∷ 0 ∷ 0 ∷ [] }
+hopOf net ss l =
+    record {
+      frames = linkAt net l .frames;
+      range = linkAt net l .range;
+      least = linkAt net l .least;
+      colours = linkColours (linkAt net l);
+      turn = linkTurn (linkAt net l);
+      free = freeWords net ss l;
+    }
 
--- a frame of a link of one colour
-abbrev pub plain : ℕ → Spot
-plain i = record { frame = i; colour = 0 }
-
--- A FRAME OF A HOP IS FREE exactly when it is one of its link's and "neither closed nor held by a live session"
+-- A FRAME OF A HOP IS FREE IN A COLOUR exactly when colour and frame are its link's and the frame
+-- is "neither closed nor held by a live session" in the colour
 abbrev pub FreeIs : Type 0
-FreeIs = (net : Topology) (ss : List Session) (l i : ℕ)
-    → isFree (hopOf net ss l) (plain i) ≡ (ltb i (linkAt net l .frames) && (not (bitOf (linkAt net l .closed) i) && not (heldIn ss (slot l i 0))))
+FreeIs = (net : Topology) (ss : List Session) (l : ℕ) (x : Spot)
+    → isFree (hopOf net ss l) x
+    ≡ (ltb (x .colour) (linkColours (linkAt net l))
+    && (ltb (x .frame) (linkAt net l .frames)
+    && (not (bitOf (linkAt net l .closed) (x .frame)) && not (heldIn ss (slot l (x .frame) (x .colour))))))
 
--- THE COUNT OF A LINK'S FREE FRAMES IS THAT OF ITS FRAMES NEITHER CLOSED NOR HELD, counted one by one
+-- THE COUNT OF A LINK'S FREE FRAMES IN A COLOUR IS THAT OF ITS FRAMES NEITHER CLOSED NOR HELD,
+-- counted one by one
 abbrev pub FreeCounted : Type 0
-FreeCounted = (net : Topology) (ss : List Session) (l : ℕ)
-    → freeFrames (linkAt net l .frames) (freeOf net ss l 0) ≡ countBelow (linkAt net l .frames) (λ i. not (bitOf (linkAt net l .closed) i) && not (heldIn ss (slot l i 0)))
+FreeCounted = (net : Topology) (ss : List Session) (l c : ℕ)
+    → freeFrames (linkAt net l .frames) (freeOf net ss l c)
+    ≡ countBelow (linkAt net l .frames) (λ i. not (bitOf (linkAt net l .closed) i) && not (heldIn ss (slot l i c)))
 
 -- the hops of a route
 abbrev pub hopsOf : Topology → List Session → List ℕ → List Hop

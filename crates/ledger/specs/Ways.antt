@@ -7,7 +7,7 @@ use Prim.Native.Nat.{ℕ, _<_}
 use Rattle.refusals.specs.Refusals.{Outcome, given, refused, refusedOr}
 use Rattle.words.specs.Word.{bitOf}
 use Rattle.forwarding.specs.Ways.{routeWays}
-use Rattle.ledger.specs.Sessions.{View, slot, heldIn, linkAt, hopsOf}
+use Rattle.ledger.specs.Sessions.{View, slot, heldIn, linkAt, linkColours, hopsOf}
 use Rattle.ledger.specs.Calls.{Quote, refusal, checksOf, reply}
 
 -- THE NUMBER OF WAYS on a state that shows v: "The call makes the quote's route checks", after 0 as the quote does, and gives "the exact number of schedules over
@@ -23,7 +23,7 @@ WaysZero = (v : View) (route : List ℕ) → (waysOf v route ≡ given 0) ↔ ((
 abbrev pub WaysRefused : Type 0
 WaysRefused = (v : View) (route : List ℕ) (k : ℕ) → (waysOf v route ≡ refused k) ↔ ((reply v (Quote route) ≡ refusal k 0) × (k ≡ 18 → ⊥))
 
--- "no frame on it is closed or held": no frame of its links
+-- "no frame on it is closed or held": no frame of its links, in none of their colours
 abbrev pub NoneTaken : View → List ℕ → Type 0
-NoneTaken v route = (l i : ℕ) → List·Memᴰ l route → i < linkAt (v .network) l .frames
-    → (bitOf (linkAt (v .network) l .closed) i ≡ false) × (heldIn (v .live) (slot l i 0) ≡ false)
+NoneTaken v route = (l i c : ℕ) → List·Memᴰ l route → i < linkAt (v .network) l .frames → c < linkColours (linkAt (v .network) l)
+    → (bitOf (linkAt (v .network) l .closed) i ≡ false) × (heldIn (v .live) (slot l i c) ≡ false)

@@ -5,6 +5,8 @@ use network::Link;
 use network::Network;
 use refusals::Refusal;
 use refusals::Verdict;
+use words::BANK;
+use words::COLOURS;
 ghost use mathlib.Core.Path.{_≡_};
 ghost use mathlib.Core.Bool.{false, _&&_};
 ghost use Prim.Native.Nat.{_<_, _≤_};
@@ -19,8 +21,9 @@ ghost use Rattle.forwarding.specs.Hops.{noHop, blankHop, HopReady, Ready};
 ghost use Rattle.forwarding.specs.Schedule.{inColours, isOn};
 ghost use Rattle.forwarding.specs.Cycles.{scheduleCycles};
 ghost use Rattle.ledger.specs.Lists.{anyOf};
+ghost use Rattle.ledger.specs.Sessions.{linkColours, linkTurn};
 ghost use Rattle.ledger.specs.Routes.{badLength, unknown, unknownLink, linkTwice, apart, ratesApart, ratesOf, routeCheck};
-ghost use Rattle.routes.specs.Hops.{hopFrom, hopsFrom, delayIf, walkedDelay};
+ghost use Rattle.routes.specs.Hops.{freeFrom, hopFrom, hopsFrom, delayIf, walkedDelay};
 ghost use Rattle.routes.specs.Inner.{spot, stepIf, FramesLaid};
 
 // What frames over the hops of a route come to: a schedule's delay, or that they are no schedule.
@@ -127,35 +130,66 @@ pub fn check_route(network: Network, route: &[u8]) -> Verdict
     Verdict::Passed
 }
 
-// A link as a hop of one colour, by the word of its held frames. Check 7 bounds its frames.
-fn hop_of(link: Link, held: u64) -> Hop
-    requires { ⌜ (0 < link .frames) × (link .frames ≤ 64) ⌝ }
-    ensures { λ r. ⌜ r ≡ hopFrom link held ⌝ }
+// The colours of a link (C).
+fn colours_of(link: Link) -> u16
+    ensures { λ r. ⌜ r ≡ linkColours link ⌝ }
 {
-    let word = words::free_word(link.frames, link.closed, held);
-    let mut free = [0u64; 4];
-    free[0] = word;
+    1
+}
+
+// The conversion range of a link (R).
+fn turn_of(link: Link) -> u16
+    ensures { λ r. ⌜ r ≡ linkTurn link ⌝ }
+{
+    0
+}
+
+// The free frames of link l, a word for each of its colours, by the bank of held frames.
+// Check 7 bounds its frames, check 2 its number.
+fn free_words(link: Link, l: u8, held: &[u64; BANK]) -> [u64; COLOURS]
+    requires { ⌜ (0 < link .frames) × (link .frames ≤ 64) × (l < 32) ⌝ }
+    ensures { λ r. ⌜ r ≡ freeFrom link l (now (held .entry)) ⌝ }
+{
+    let colours = colours_of(link);
+    let mut free = [0u64; COLOURS];
+    let mut c: u16 = 0;
+    while c < colours {
+        let at = words::bank(l, c as u8);
+        free[c as usize] = words::free_word(link.frames, link.closed, held[at]);
+        c += 1;
+    }
+    free
+}
+
+// Link l as a hop, by the bank of held frames. Check 7 bounds its frames, check 2 its number.
+fn hop_of(link: Link, l: u8, held: &[u64; BANK]) -> Hop
+    requires { ⌜ (0 < link .frames) × (link .frames ≤ 64) × (l < 32) ⌝ }
+    ensures { λ r. ⌜ r ≡ hopFrom link l (now (held .entry)) ⌝ }
+{
+    let free = free_words(link, l, held);
     Hop {
         frames: link.frames,
         range: link.range,
         least: link.least,
-        colours: 1,
-        turn: 0,
+        colours: colours_of(link),
+        turn: turn_of(link),
         free,
     }
 }
 
-// The hops of a route that passed its checks, by the words of the held frames of each link in colour 0, which stand in every fourth place; unused places hold no hop.
-pub fn route_hops(network: Network, held: &[u64; 128], route: &[u8]) -> [Hop; 8]
+// The hops of a route that passed its checks, by the bank of held frames.
+// Unused places hold no hop.
+pub fn route_hops(network: Network, held: &[u64; BANK], route: &[u8]) -> [Hop; 8]
     requires { ⌜ (networkCheck (topologyOf network) ≡ given pass) × (routeCheck (topologyOf network) (now route) ≡ given pass) ⌝ }
     ensures { λ r. ⌜ r ≡ firsts 8 (hopsFrom (network .links) (now (held .entry)) (now (route .entry))) blankHop ⌝ }
 {
     let mut hops = [forwarding::no_hop(); 8];
     let mut j = 0;
     while j < route.len() {
-        let at = places::index(route[j]);
+        let l = route[j];
+        let at = places::index(l);
         let link = network.links[at];
-        hops[j] = hop_of(link, held[4 * at]);
+        hops[j] = hop_of(link, l, held);
         j += 1;
     }
     hops

@@ -1,19 +1,21 @@
 -- Where `begin` refused the network nothing is ever held: no session keeps the rules on the network that it gave instead. Assumes nothing.
-use mathlib.Core.Path.{_≡_, refl, sym, ap, ap₂, subst, _∙_}
-use mathlib.Core.Bool.{true, false, true≢false}
+use mathlib.Core.Path.{_≡_, refl, sym, ap, subst, _∙_}
+use mathlib.Core.Bool.{true, not, _&&_, false≢true}
 use mathlib.Core.List.{List, [], _∷_}
 use Prim.Native.Nat.{ℕ, _<_}
 use native.Mathlib.Omega.{arith}
+use lib.Dec.{ltb}
 use lib.ListN.{length, getD}
 use Rattle.lists.proofs.Count as tests
 use Rattle.places.specs.Places.{firsts}
-use Rattle.words.specs.Word.{bitOf, wordOf}
+use Rattle.words.specs.Word.{bitOf}
 use Rattle.network.specs.Network.{Topology, topologyOf}
 use Rattle.forwarding.specs.Forwarding.{Spot, IsOn, isFree}
 use Rattle.forwarding.specs.Schedule.{IsSchedule}
 use Rattle.ledger.specs.Lists.{allOf}
-use Rattle.ledger.specs.Sessions.{Session, freeOf, plain, hopOf, hopsOf}
+use Rattle.ledger.specs.Sessions.{Session, linkAt, hopOf, hopsOf}
 use Rattle.ledger.specs.Sound.{goodSession}
+use Rattle.ledger.proofs.Free.{free-at}
 use Rattle.ledger.proofs.Intact.{session-good, intact-is}
 use Rattle.ledger.proofs.Whole.{runs-network}
 use Rattle.routes.proofs.Routes.{route-long, route-known}
@@ -34,17 +36,17 @@ one-frame : hopOf shut [] 0 .frames ≡ 1
 unfolding topologyOf firsts
 one-frame = refl
 
-closed : isFree (hopOf shut [] 0) (plain 0) ≡ false
-unfolding topologyOf firsts isFree freeOf wordOf bitOf
+closed : bitOf (linkAt shut 0 .closed) 0 ≡ true
+unfolding topologyOf firsts bitOf
 closed = refl
 
--- no frame of its link is free
+-- no frame of its link is free, in any colour
 none-free : (l : ℕ) (x : Spot) → l ≡ 0 → IsOn (hopOf shut [] l) x → isFree (hopOf shut [] l) x ≡ true → ⊥
 none-free l x e h f =
     let z : x .frame ≡ 0 = omega (arith, rw e at (h .0), one-frame) in
-    let c : x .colour ≡ 0 = omega (arith, h .1) in
-    let q : x ≡ plain 0 = ap₂ (λ (a b : ℕ). record { frame = a; colour = b }) z c in
-    true≢false (sym f ∙ ap₂ (λ (m : ℕ) (y : Spot). isFree (hopOf shut [] m) y) e q ∙ closed)
+    let shuts : bitOf (linkAt shut l .closed) (x .frame) ≡ true = rw (e, z) closed in
+    let open-too = tests.and-both (ltb (x .frame) (linkAt shut l .frames)) (not (bitOf (linkAt shut l .closed) (x .frame)) && true) (sym (free-at shut [] l x (h .1)) ∙ f) .1 in
+    false≢true (rw shuts at open-too)
 
 -- no route over it has a schedule
 no-schedule : (route : List ℕ) (xs : List Spot) → getD route 0 0 ≡ 0 → IsSchedule (hopsOf shut [] route) xs → ⊥

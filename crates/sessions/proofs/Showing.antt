@@ -2,7 +2,7 @@
 use mathlib.Core.Path.{_≡_, refl, sym, ap, subst, _∙_}
 use mathlib.Core.Bool.{true}
 use mathlib.Core.List.{List}
-use Prim.Native.Nat.{ℕ, _*_, _<_, _≤_}
+use Prim.Native.Nat.{ℕ, _<_, _≤_}
 use native.Mathlib.Omega.{arith}
 use lib.ListN.{length, getD}
 use Rattle.lists.specs.Count.{countBelow}
@@ -11,13 +11,13 @@ use Rattle.places.proofs.Firsts.{length-firsts}
 use Rattle.refusals.specs.Refusals.{refusalNumber, Outcome, given, pass, refused}
 use Rattle.refusals.specs.declared.Refusal.{Refusal}
 use Rattle.refusals.specs.declared.Verdict.the-variants.{Passed}
-use Rattle.words.specs.Word.{freeAt, freeFrames}
+use Rattle.words.specs.Word.{freeAt, freeWord, freeFrames}
+use Rattle.words.specs.Bank.{bankAt}
 use Rattle.words.proofs.Ones.{free-count}
 use Rattle.network.specs.Network.{noLink, topologyOf}
 use Rattle.network.specs.Checks.{networkCheck}
 use Rattle.network.specs.declared.Link.{Link}
 use Rattle.forwarding.specs.declared.Held.{Held}
-use Rattle.forwarding.specs.declared.Hop.{Hop}
 use Rattle.ledger.specs.Held.{holdingOf, heldPlaces}
 use Rattle.ledger.specs.Sessions.{Session, linkAt, freeOf}
 use Rattle.ledger.specs.Inner.{HeldWords}
@@ -26,8 +26,9 @@ use Rattle.ledger.specs.Calls.{lookIn, lookup, freeCount}
 use Rattle.ledger.proofs.Intact.{intact-is}
 use Rattle.ledger.proofs.Shown.{lookup-intact}
 use Rattle.routes.proofs.Tests.{known, not-known}
-use Rattle.routes.proofs.Links.{many-links, in-places, frames-bounded}
-use Rattle.routes.proofs.Hops.{hop-held}
+use Rattle.routes.specs.Hops.{freeIn}
+use Rattle.routes.proofs.Links.{many-links, stored-link, in-places, frames-bounded}
+use Rattle.routes.proofs.Hops.{word-held}
 use Rattle.table.specs.declared.Place.{Place}
 use Rattle.table.specs.Table.{sessionOf, noPlace, liveOf, placeOf}
 use Rattle.table.proofs.Live.{in-length}
@@ -98,15 +99,17 @@ module _ (st : State) (ok : intact (viewOf st) ≡ true) where
       unfolding freeCount
       free-given = rw (ok, many-links (st .network), known (st .network .count) l l refl h)
 
-      pub link-counted : (held : List ℕ) → HeldWords held (liveOf (st .table)) → (count : ℕ)
-          → count ≡ countBelow (getD (st .network .links) l noLink .frames) (freeAt (getD (st .network .links) l noLink .closed) (getD held (4 * l) 0))
+      pub link-counted : (held : List ℕ) → HeldWords held (liveOf (st .table)) → (at : ℕ) → at ≡ bankAt l 0 → (count : ℕ)
+          → count ≡ countBelow (getD (st .network .links) l noLink .frames) (freeAt (getD (st .network .links) l noLink .closed) (getD held at 0))
           → Tallies st l (record { counted = record { verdict = Passed; count = count }; state = st })
-      link-counted held w count e =
+      link-counted held w at ea count e =
           record {
             counted = subst (λ (o : Outcome ℕ). Tells countedOf notCounted o (record { verdict = Passed; count = count })) (sym free-given)
                 (ap (λ (n : ℕ). record { verdict = Passed; count = n })
-                (e ∙ sym (free-count (k .frames) (k .closed) (getD held (4 * l) 0))
-                ∙ ap (λ (x : Hop). freeFrames (x .frames) (getD (x .free) 0 0)) (hop-held (st .network) held (liveOf (st .table)) l w passed h)));
+                (e ∙ sym (free-count (k .frames) (k .closed) (getD held at 0))
+                ∙ ap (λ (a : ℕ). freeFrames (k .frames) (freeWord (k .frames) (k .closed) (getD held a 0))) ea
+                ∙ ap (λ (x : Link). freeFrames (x .frames) (freeIn x l held 0)) (sym (stored-link (st .network) l h))
+                ∙ ap (freeFrames (linkAt (topologyOf (st .network)) l .frames)) (word-held (st .network) held (liveOf (st .table)) l w passed h 0 (omega arith))));
             same = refl;
           }
         where

@@ -170,7 +170,7 @@ open-links (suc n) (suc m) zero = refl
 open-links (suc n) (suc m) (suc l) = open-links n m l
 
 none-taken : NoneTaken (fresh (topologyOf widest)) longest
-none-taken l i m below = (unfold topologyOf in rw (open-links 8 32 l) (bit-zero i), refl)
+none-taken l i c m below on = (unfold topologyOf in rw (open-links 8 32 l) (bit-zero i), refl)
 
 widest-ways : waysOf (fresh (topologyOf widest)) longest ≡ given (64 ^ 8)
 unfolding waysOf callCheck

@@ -237,9 +237,10 @@ pub fn free_frames(st: State, link: u8) -> Tallied
     }
     let held = table::held_words(st.table);
     let of = network.links[at];
+    let place = words::bank(link, 0);
     let counted = Counted {
         verdict: Verdict::Passed,
-        count: words::free_frames(of.frames, of.closed, held[4 * at]),
+        count: words::free_frames(of.frames, of.closed, held[place]),
     };
     Tallied { counted, state: st }
 }

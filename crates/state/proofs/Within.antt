@@ -21,6 +21,7 @@ use Rattle.ledger.specs.Lists.{allOf}
 use Rattle.ledger.specs.Held.{spotsIn}
 use Rattle.ledger.specs.Sessions.{Session, linkAt, hopOf, hopsOf}
 use Rattle.ledger.specs.Sound.{goodSession, intact}
+use Rattle.ledger.proofs.Colours.{few-colours}
 use Rattle.ledger.proofs.Lists.{all-member, member-at}
 use Rattle.ledger.proofs.Intact.{Intact, intact-is, GoodSession, session-good, good-frames, good-colours}
 use Rattle.routes.proofs.Links.{link-passed}
@@ -51,7 +52,7 @@ module _ (net : Topology) (passed : networkCheck net ≡ given pass) where
             omega (arith, rw (map-place (hopOf net []) (sessionOf place .route) j (inside j h)) at of, f .1, ap (λ (l : List ℕ). getD l j 0) (good-frames net (sessionOf place) g), getD-firsts (place .hops) j (place .held .frames) 0 h);
         colour = λ j h.
             let of = schedule-colour (hopsOf net [] (sessionOf place .route)) (spotsIn (sessionOf place .held)) (g .schedule) j (rw (length-map (sessionOf place .route) (hopOf net [])) (inside j h)) in
-            omega (arith, rw (map-place (hopOf net []) (sessionOf place .route) j (inside j h)) at of, ap (λ (l : List ℕ). getD l j 0) (good-colours net (sessionOf place) g), getD-firsts (place .hops) j (place .held .colours) 0 h);
+            omega (arith, few-colours (linkAt net (getD (sessionOf place .route) j 0)), rw (map-place (hopOf net []) (sessionOf place .route) j (inside j h)) at of, ap (λ (l : List ℕ). getD l j 0) (good-colours net (sessionOf place) g), getD-firsts (place .hops) j (place .held .colours) 0 h);
       }
     where
       inside : (j : ℕ) → j < place .hops → j < length (sessionOf place .route)

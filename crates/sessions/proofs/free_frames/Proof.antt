@@ -36,23 +36,25 @@ element-copy-out-of : tie.Need-element-copy-out-of
 element-copy-out-of c = let start = c .before .before .before .before .before in
     link-in (start .args .st) (is-intact (start .args .st) _ (c .before .before .before .before .broken .ensures) (c .before .before .before .if1 .left)) _ (c .before .if2 .left)
 
-mul-free-frames : tie.Need-mul-free-frames
-mul-free-frames c = search needs
+bank-requires : tie.Need-bank-requires
+bank-requires c κs = let start = c .before .before .before .before .before .before in
+    (link-in (start .args .st) (is-intact (start .args .st) _ (c .before .before .before .before .before .broken .ensures) (c .before .before .before .before .if1 .left)) _ (c .before .before .if2 .left), omega arith)
 
-mul-free-frames-2 : tie.Need-mul-free-frames-2
-mul-free-frames-2 c = search needs
+mul-free-frames : tie.Need-mul-free-frames
+mul-free-frames c = let start = c .before .before .before .before .before .before .before in
+    omega (arith, c .bank .ensures, link-in (start .args .st) (is-intact (start .args .st) _ (c .before .before .before .before .before .before .broken .ensures) (c .before .before .before .before .before .if1 .left)) _ (c .before .before .before .if2 .left))
 
 array-read-free-frames : tie.Need-array-read-free-frames
-array-read-free-frames c = let start = c .before .before .before .before .before .before in
-    omega (arith, link-in (start .args .st) (is-intact (start .args .st) _ (c .before .before .before .before .before .broken .ensures) (c .before .before .before .before .if1 .left)) _ (c .before .before .if2 .left))
+array-read-free-frames c = let start = c .before .before .before .before .before .before .before in
+    omega (arith, c .bank .ensures, link-in (start .args .st) (is-intact (start .args .st) _ (c .before .before .before .before .before .before .broken .ensures) (c .before .before .before .before .before .if1 .left)) _ (c .before .before .before .if2 .left))
 
 free-frames-requires : tie.Need-free-frames-requires
-free-frames-requires c κs = let start = c .before .before .before .before .before .before in
-    link-frames (start .args .st) (is-intact (start .args .st) _ (c .before .before .before .before .before .broken .ensures) (c .before .before .before .before .if1 .left)) _ (c .before .before .if2 .left)
+free-frames-requires c κs = let start = c .before .before .before .before .before .before .before in
+    link-frames (start .args .st) (is-intact (start .args .st) _ (c .before .before .before .before .before .before .broken .ensures) (c .before .before .before .before .before .if1 .left)) _ (c .before .before .before .if2 .left)
 
 returns-3 : tie.Need-returns-3
-returns-3 c = let start = c .before .before .before .before .before .before .before in
-    link-counted (start .args .st) (is-intact (start .args .st) _ (c .before .before .before .before .before .before .broken .ensures) (c .before .before .before .before .before .if1 .left)) _ (c .before .before .before .if2 .left) _ (c .before .before .held-words .ensures) _ (c .free-frames .ensures)
+returns-3 c = let start = c .before .before .before .before .before .before .before .before in
+    link-counted (start .args .st) (is-intact (start .args .st) _ (c .before .before .before .before .before .before .before .broken .ensures) (c .before .before .before .before .before .before .if1 .left)) _ (c .before .before .before .before .if2 .left) _ (c .before .before .before .held-words .ensures) _ (c .before .bank .ensures) _ (c .free-frames .ensures)
 
 pub free-frames-spec : {M : Type 1} → statement M
 free-frames-spec =
@@ -66,8 +68,8 @@ free-frames-spec =
     held-words-requires
     mul-of
     element-copy-out-of
+    bank-requires
     mul-free-frames
-    mul-free-frames-2
     array-read-free-frames
     free-frames-requires
     returns-3)
