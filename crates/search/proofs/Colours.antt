@@ -1,4 +1,6 @@
--- THE BEST OVER FRAMES AND COLOURS, by cost, hold, frame and colour, is the best over frames of the best over the colours from which the colour may be come to; and so with the count. Assumes nothing.
+-- THE BEST OVER FRAMES AND COLOURS, by cost, hold, frame and colour, is the best over frames of
+-- the best over the colours from which the colour may be reached; and so with the count. Assumes
+-- nothing.
 use mathlib.Core.Path.{_≡_, refl, sym, _∙_, ap, ap₂, subst}
 use mathlib.Core.Bool.{Bool, true, false, _&&_}
 use mathlib.Core.List.{List, [], _∷_}
@@ -22,21 +24,21 @@ use Rattle.forwarding.specs.declared.Hop.{Hop}
 use Rattle.forwarding.specs.Forwarding.{isFree, MayTurn, mayTurn, mayHold, holdInto, delay}
 use Rattle.forwarding.specs.Route.{nodes, stage}
 use Rattle.forwarding.proofs.Transitions.{may-turn, turn-may}
-use Rattle.search.specs.Inner.{cellReach, wayOf, laneOf, offers, lowTurn, nearSpan, Nearest, NearRow, countsInto}
+use Rattle.search.specs.Inner.{cellReach, wayOf, laneOf, offers, lowTurn, nearSpan, byNode, nodeFrom, Nearest, NearRow, countsInto}
 use Rattle.search.proofs.Cells.{reach-after, reach-never, way-best, way-nobody}
 use Rattle.search.proofs.Landing.{in-order}
 use Rattle.search.proofs.Nearing.{near-of, near-in, near-count}
 
 -- the best way, with the node of its frame for the frame
-abbrev pub withNode : List ℕ → Best → Best
-withNode nodes nobody = nobody
-withNode nodes (best c r k) = best c r (getD nodes k 0)
+abbrev pub withNode : (ℕ → ℕ) → Best → Best
+withNode node nobody = nobody
+withNode node (best c r k) = best c r (node k)
 
-pub way-node : (nodes : List ℕ) (c D k : ℕ) → wayOf c D (getD nodes k 0) ≡ withNode nodes (wayOf c D k)
-way-node nodes c D k =
+pub way-node : (node : ℕ → ℕ) (c D k : ℕ) → wayOf c D (node k) ≡ withNode node (wayOf c D k)
+way-node node c D k =
     elim (decLt c 32768) [
-      | yes l ↦ way-best c D (getD nodes k 0) l ∙ ap (withNode nodes) (sym (way-best c D k l))
-      | no l ↦ way-nobody c D (getD nodes k 0) (omega arith) ∙ ap (withNode nodes) (sym (way-nobody c D k (omega arith)))
+      | yes l ↦ way-best c D (node k) l ∙ ap (withNode node) (sym (way-best c D k l))
+      | no l ↦ way-nobody c D (node k) (omega arith) ∙ ap (withNode node) (sym (way-nobody c D k (omega arith)))
     ]
 
 -- an order of three numbers, number by number
@@ -46,7 +48,7 @@ order-of c r k c′ r′ k′ (inr (e, inl l)) = (omega arith, λ e. omega arith
 order-of c r k c′ r′ k′ (inr (e, inr (f, inl l))) = (omega arith, λ e. omega arith, λ e f. omega arith)
 order-of c r k c′ r′ k′ (inr (e, inr (f, inr (q, u)))) = (omega arith, λ e. omega arith, λ e f. omega arith)
 
-module _ (T : ℕ) (g h : Hop) (c : ℕ) (row cells nodes′ many : List ℕ) (N : NearRow (g .colours) (lowTurn h c) (nearSpan g h c) row (g .frames) cells nodes′ many) (free : ℕ) (word : free ≡ getD (h .free) c 0) (inside : c < h .colours) where
+module _ (T : ℕ) (g h : Hop) (c : ℕ) (laid cells lanes many : List ℕ) (N : NearRow (g .colours) (lowTurn h c) (nearSpan g h c) laid (g .frames) cells lanes many) (free : ℕ) (word : free ≡ getD (h .free) c 0) (inside : c < h .colours) where
   abbrev C : ℕ
   C = g .colours
 
@@ -59,11 +61,18 @@ module _ (T : ℕ) (g h : Hop) (c : ℕ) (row cells nodes′ many : List ℕ) (N
   abbrev lane : Stage
   lane = laneOf (delay T (h .frames)) g h free
 
+  -- the cells by node of the row that is laid by lanes, and the node that is chosen for frame k
+  abbrev row : List ℕ
+  row = byNode g laid
+
   abbrev cell : ℕ → ℕ
   cell m = getD row m 0
 
+  abbrev node : ℕ → ℕ
+  node k = nodeFrom C lanes k
+
   -- frame k of the hop before and its least cell
-  near : (k : ℕ) → k < g .frames → Nearest row (k * C + low) (nearSpan g h c) (getD cells k 0) (getD nodes′ k 0) (getD many k 0)
+  near : (k : ℕ) → k < g .frames → Nearest row (k * C + low) (nearSpan g h c) (getD cells k 0) (node k) (getD many k 0)
   near k l = N .each k l
 
   module _ (i : ℕ) where
@@ -141,7 +150,7 @@ module _ (T : ℕ) (g h : Hop) (c : ℕ) (row cells nodes′ many : List ℕ) (N
             record { reaches = l; leads = t; costs = sym u; ranks = sym v }
         go false t l q = absurd (let z : _≡_ {A = ℕ} 0 1 = cc in omega arith)
 
-    -- ---- a node's offer is one of its frame too, at the least cell of the colours that may be come from
+    -- ---- a node's offer is one of its frame too, at the least cell of the near colours
     record Beside (m x r : ℕ) : Type 0 where
       pub frame-in : m / C < g .frames
       pub near-by : ℕ
@@ -173,16 +182,16 @@ module _ (T : ℕ) (g h : Hop) (c : ℕ) (row cells nodes′ many : List ℕ) (N
     record Chosen (k x r : ℕ) : Type 0 where
       pub colour : ℕ
       pub few : colour < C
-      pub node-is : getD nodes′ k 0 ≡ k * C + colour
-      pub cell-is : getD cells k 0 ≡ cell (getD nodes′ k 0)
-      pub offered : offers st row n (getD nodes′ k 0) ≡ offer x r
+      pub node-is : node k ≡ k * C + colour
+      pub cell-is : getD cells k 0 ≡ cell (node k)
+      pub offered : offers st row n (node k) ≡ offer x r
 
     chosen : (k x r : ℕ) → k < g .frames → Leads k x r → Chosen k x r
     chosen k x r l o =
         let w = near k l .own (o .reaches) in
         let u = near-of g h c (w .0) (w .1) in
         let d : ℕ = low + w .0 in
-        let m : ℕ = getD nodes′ k 0 in
+        let m : ℕ = node k in
         let at : m ≡ k * C + d = w .2 ∙ add-assoc (k * C) low (w .0) in
         let same : getD cells k 0 ≡ cell m = w .3 ∙ ap cell (sym (w .2)) in
         let first : m / C ≡ k = ap (λ (y : ℕ). y / C) at ∙ digit-first C k d (u .0) in
@@ -211,7 +220,7 @@ module _ (T : ℕ) (g h : Hop) (c : ℕ) (row cells nodes′ many : List ℕ) (N
         let s = beside m x r l (into m x r e) in
         offer-not-none (offers lane cells i (m / C)) (getD cells (m / C) 0 + delay T (h .frames) r) r (b (m / C) (s .frame-in)) (s .offered)
 
-    first-of : (x r k : ℕ) → IsBest (offers lane cells i) (g .frames) (best x r k) → IsBest (offers st row n) (nodes g) (best x r (getD nodes′ k 0))
+    first-of : (x r k : ℕ) → IsBest (offers lane cells i) (g .frames) (best x r k) → IsBest (offers st row n) (nodes g) (best x r (node k))
     first-of x r k b = (subst (λ (y : ℕ). y < nodes g) (sym (u .node-is)) (digits-below (g .frames) C k (u .colour) (b .0) (u .few)), u .offered, comes-first)
       where
         v : Leads k x r
@@ -220,8 +229,8 @@ module _ (T : ℕ) (g h : Hop) (c : ℕ) (row cells nodes′ many : List ℕ) (N
         u : Chosen k x r
         u = chosen k x r (b .0) v
 
-        comes-first : (m x′ r′ : ℕ) → m < nodes g → offers st row n m ≡ offer x′ r′ → Precedes (x ∷ r ∷ getD nodes′ k 0 ∷ []) (x′ ∷ r′ ∷ m ∷ [])
-        comes-first m x′ r′ l e = in-order x r (getD nodes′ k 0) x′ r′ m costs-more (λ q. ord .1 (tight q)) (λ q s. later q s)
+        comes-first : (m x′ r′ : ℕ) → m < nodes g → offers st row n m ≡ offer x′ r′ → Precedes (x ∷ r ∷ node k ∷ []) (x′ ∷ r′ ∷ m ∷ [])
+        comes-first m x′ r′ l e = in-order x r (node k) x′ r′ m costs-more (λ q. ord .1 (tight q)) (λ q s. later q s)
           where
             o : Into m x′ r′
             o = into m x′ r′ e
@@ -247,32 +256,39 @@ module _ (T : ℕ) (g h : Hop) (c : ℕ) (row cells nodes′ many : List ℕ) (N
             in-frame : m ≡ m / C * C + m % C
             in-frame = sym (digits-back C m)
 
-            later : x ≡ x′ → r ≡ r′ → getD nodes′ k 0 ≤ m
+            later : x ≡ x′ → r ≡ r′ → node k ≤ m
             later q t = go (eq-or-lt-of-le (ord .2 (tight q) t))
               where
-                go : (k ≡ m / C) ⊎ (k < m / C) → getD nodes′ k 0 ≤ m
+                go : (k ≡ m / C) ⊎ (k < m / C) → node k ≤ m
                 go (inr f) = omega (arith, u .node-is, u .few, in-frame, suc-mul k C, mul-le-mul-right {m = suc k} {n = m / C} C f)
                 go (inl f) =
-                    elim (decLt m (getD nodes′ k 0)) [
+                    elim (decLt m (node k)) [
                       | yes z ↦
                           let at : m ≡ k * C + low + s .near-by = s .node-is ∙ ap (λ (a : ℕ). a * C + low + s .near-by) (sym f) in
                           let less : getD cells k 0 < cell m =
-                          subst (λ (a : ℕ). getD cells k 0 < cell a) (sym at) (near k (b .0) .smallest (v .reaches) (s .near-by) (s .near-in-span) (subst (λ (a : ℕ). a < getD nodes′ k 0) at z)) in
+                          subst (λ (a : ℕ). getD cells k 0 < cell a) (sym at) (near k (b .0) .smallest (v .reaches) (s .near-by) (s .near-in-span) (subst (λ (a : ℕ). a < node k) at z)) in
                           let same : getD cells k 0 ≡ getD cells (m / C) 0 = ap (λ (a : ℕ). getD cells a 0) f in
                           absurd (omega (arith, less, same, tight q, paid, q))
                       | no z ↦ omega arith
                     ]
 
-    pub colour-best : bestOf (offers st row n) (nodes g) ≡ withNode nodes′ (bestOf (offers lane cells i) (g .frames))
+    pub colour-best : bestOf (offers st row n) (nodes g) ≡ withNode node (bestOf (offers lane cells i) (g .frames))
     colour-best =
-        best-only (offers st row n) (nodes g) (bestOf (offers st row n) (nodes g)) (withNode nodes′ (bestOf (offers lane cells i) (g .frames))) (is-best (offers st row n) (nodes g))
+        best-only (offers st row n) (nodes g) (bestOf (offers st row n) (nodes g)) (withNode node (bestOf (offers lane cells i) (g .frames))) (is-best (offers st row n) (nodes g))
         (go (bestOf (offers lane cells i) (g .frames)) (is-best (offers lane cells i) (g .frames)))
       where
-        go : (b : Best) → IsBest (offers lane cells i) (g .frames) b → IsBest (offers st row n) (nodes g) (withNode nodes′ b)
+        go : (b : Best) → IsBest (offers lane cells i) (g .frames) b → IsBest (offers st row n) (nodes g) (withNode node b)
         go nobody b = λ m l. none-left b m l (offers st row n m) refl
         go (best x r k) b = first-of x r k b
 
-  -- ---- THE COUNT: each frame as often as it is reached in colours that may be come from
+    -- where some schedule leads to frame i, the lane of its frame before is a colour's of the hop before
+    pub colour-near : (x D k : ℕ) → wayOf x D k ≡ bestOf (offers lane cells i) (g .frames) → x < 32768 → getD lanes k 0 / 64 < C
+    colour-near x D k e l =
+        let b : IsBest (offers lane cells i) (g .frames) (best x D k) = subst (IsBest (offers lane cells i) (g .frames)) (sym e ∙ way-best x D k l) (is-best (offers lane cells i) (g .frames)) in
+        let u = chosen k x D (b .0) (leads-in k x D (b .1)) in
+        omega (arith, u .few, u .node-is)
+
+  -- ---- THE COUNT: each frame as often as it is reached in near colours
   lead-count : (a b c′ d : Bool) → oneIf (a && (b && (c′ && d))) ≡ oneIf (a && c′) * oneIf (b && d)
   lead-count true true true d = sym (one-mul (oneIf d))
   lead-count true true false d = sym (zero-mul (oneIf d))

@@ -1,4 +1,5 @@
 pub mod Cells
+pub mod Placing
 pub mod Latest
 pub mod Positions
 pub mod Picking
@@ -7,7 +8,9 @@ pub mod Counting
 pub mod Landing
 pub mod Beginning
 pub mod Recovering
+pub mod Joining
 pub mod Sweeping
+pub mod Ends
 pub mod Ending
 pub mod Findings
 pub mod Settling

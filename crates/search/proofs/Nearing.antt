@@ -1,4 +1,5 @@
--- Of each frame of the hop before the best of the colours from which a colour may be come to. Assumes nothing.
+-- Of each frame of the hop before the best of the colours from which a colour may be reached.
+-- Assumes nothing.
 use mathlib.Core.Path.{_≡_, refl, sym, _∙_, ap, ap₂}
 use mathlib.Core.Bool.{Bool, true, false, _&&_, cond}
 use mathlib.Core.List.{List}
@@ -22,8 +23,8 @@ use Rattle.search.specs.Inner.{cellReach, lower, lowTurn, nearSpan, Near
 
 -- ---- the best of a run of cells
 module _ (row : List ℕ) (first : ℕ) where
-  pub near-none : Nearest row first 0 32768 0 0
-  near-none = record {
+  pub near-none : (node : ℕ) → Nearest row first 0 32768 node 0
+  near-none node = record {
     most = omega arith;
     least = λ e l. absurd (omega arith);
     smallest = λ r e l. absurd (omega arith);
@@ -77,8 +78,15 @@ lower-is a b d = go (ltb a b) refl
     go true t = (λ l. (omega arith, omega (arith, ltb-true a b t)), λ l m. omega arith)
     go false t = (λ l. (omega (arith, ltb-false a b t), omega arith), λ l m. omega arith)
 
+pub lower-most : (a b : ℕ) → lower a b ≤ a
+lower-most a b = go (ltb a b) refl
+  where
+    go : (t : Bool) → ltb a b ≡ t → cond t a b ≤ a
+    go true t = omega arith
+    go false t = omega (arith, ltb-false a b t)
+
 module _ (g h : Hop) (c : ℕ) where
-  -- exactly those from which c may be come to
+  -- exactly those from which c may be reached
   pub near-of : (e : ℕ) → e < nearSpan g h c → (lowTurn h c + e < g .colours) × MayTurn h (lowTurn h c + e) c
   near-of e l =
       let u = lower-is (g .colours) (c + h .turn + 1) (lowTurn h c + e) .0 (omega arith) in
@@ -97,7 +105,7 @@ module _ (g h : Hop) (c : ℕ) where
       last : 0 < n → lowTurn h c + n ≤ g .colours
       last q = omega (arith, near-of (n - 1) (omega arith) .0)
 
-  -- ---- COUNTING OVER ALL COLOURS THAT MAY BE COME FROM is counting over the run
+  -- ---- COUNTING OVER ALL NEAR COLOURS is counting over the run
   none-of : (n : ℕ) (f : ℕ → ℕ) → ((d : ℕ) → d < n → f d ≡ 0) → sumBelow n f ≡ 0
   none-of n f z = sum-cong n f (λ d. 0) z ∙ sum-zero n
 

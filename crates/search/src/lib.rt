@@ -1,15 +1,23 @@
-// The least-delay search of a route: survivor search over its hops (document 01, "Least-delay schedule"; source document 000).
-// A row has a cell for each frame of a hop in each of its colours, that of frame i in colour c at i × C + c, its node: the least delay to it, or NEVER. The row of a hop takes the place of
-// the row of the hop before (W-204); the node before node n of hop j + 1 stands at 256 × j + n. Of each frame of the hop before the best of the colours from which a colour may be come to is
-// taken (W-211), and then that colour is a row of frames alone. The work of a hop goes with its frames, whatever Z is: the frames of the hop before are gathered by the frame that the least
-// hold leads each to, one frame more of hold leads each a frame further, and so the best way into a frame comes from the best of a window of those frames, going round the cycle.
+// The least-delay search of a route: survivor search over its hops (document 01,
+// "Least-delay schedule"; source document 000).
+//
+// A row has a lane of 64 cells for each colour of a hop: the cell of frame i in colour c is at
+// place 64 × c + i. A cell is the least delay to its frame in its colour, or NEVER. Two rows are
+// kept, of the hop before and of the hop entered (W-204). The place before place p of hop j + 1
+// is at 256 × j + p of the predecessors.
+//
+// A hop is entered colour by colour. Of each frame of the hop before, the best colour from which
+// the colour entered may be reached is chosen first; then a lane is searched over frames alone.
+// The work of a lane is linear in its frames, for every Z: frames of the hop before are gathered
+// by the frame that the least hold leads to; each further hold leads one frame on. So the best
+// way into a frame is the best of a window of gathered frames, and windows go round the cycle.
 use forwarding::Delay;
 use forwarding::Hold;
 use forwarding::Hop;
 ghost use mathlib.Core.Path.{_≡_};
 ghost use mathlib.Core.Bool.{cond};
 ghost use mathlib.Core.List.{_++_, reverse};
-ghost use Prim.Native.Nat.{ℕ, _+_, _*_, _<_, _≤_};
+ghost use Prim.Native.Nat.{ℕ, _+_, _-_, _*_, _%_, _<_, _≤_};
 ghost use lib.Dec.{ltb};
 ghost use lib.ListN.{getD, length, drop, take};
 ghost use Rattle.lists.specs.Count.{oneIf};
@@ -20,7 +28,7 @@ ghost use Rattle.forwarding.specs.Hops.{noHop, Ready};
 ghost use Rattle.forwarding.specs.Route.{nodes, stage};
 ghost use Rattle.forwarding.proofs.Windows.{firstFrame};
 ghost use Rattle.search.specs.Reading.{Finds};
-ghost use Rattle.search.specs.Inner.{cellReach, wayOf, cellIf, lower, Keys, Trail, Windows, Entered, Gathers, leadings, Gathering, Settled, Settling, Lane, LaneSet, lowTurn, nearSpan, Nearest, NearRow, Spreading, Spreads, Colouring, Coloured, Kept, Entering, Advanced, FirstRow, Sweeps, Swept, endOffers, chainOf, ChainFits, Parts};
+ghost use Rattle.search.specs.Inner.{cellReach, wayOf, cellIf, lower, Keys, Trail, Windows, Entered, Gathers, leadings, Gathering, Settled, Settling, Lane, LaneSet, lowTurn, highTurn, nearSpan, NearRow, NearLane, LanePut, Putting, Coloured, Colouring, Kept, Entering, Advanced, byNode, FirstLane, FirstRow, Sweeps, Swept, laneOffers, endSooner, EndOf, chainOf, ChainFits, Parts};
 
 // The cell of a frame that no schedule leads to. No delay passes 6,720.
 const NEVER: u16 = 32768;
@@ -155,6 +163,26 @@ fn seen(keys: &[u16; 64], cycle: Delay, i: u16, from: u16) -> u16
     if from < i { key + cycle.0 } else { key }
 }
 
+// The frame that lies o frames before frame `end`, with its key as seen from there: a frame of
+// the cycle before has a cycle more.
+fn back(keys: &[u16; 64], cycle: Delay, frames: u16, end: u16, o: u16) -> Choice
+    requires { ⌜ Keys (cycle .0) frames (now keys) × (end < frames) × (o < frames) ⌝ }
+    ensures { λ r. ⌜ (r .frame ≡ (end + (frames - o)) % frames) × (r .key ≡ getD (now (keys .entry)) (r .frame) 0 + cond (ltb end (r .frame)) (cycle .0) 0) ⌝ }
+{
+    if o <= end {
+        let i = end - o;
+        return Choice {
+            key: keys[i as usize],
+            frame: i as u8,
+        };
+    }
+    let i = end + frames - o;
+    Choice {
+        key: keys[i as usize] + cycle.0,
+        frame: i as u8,
+    }
+}
+
 // The picks of the windows that end with frame `end`, of 1 to `width` frames: that of o + 1 frames at o. Checks 3, 7, 8 and 21, also of the two below.
 fn trail(keys: &[u16; 64], cycle: Delay, frames: u16, end: u16, width: u16, behind: &mut [u8; 64])
     requires { ⌜ Keys (cycle .0) frames (now keys) × (end < frames) × (0 < width) × (width ≤ frames) × (length (now behind) ≡ 64) ⌝ }
@@ -167,12 +195,7 @@ fn trail(keys: &[u16; 64], cycle: Delay, frames: u16, end: u16, width: u16, behi
     behind[0] = kept.frame;
     let mut o: u16 = 1;
     while o < width {
-        let i = words::frame_on(end, frames - o, frames);
-        let choice = Choice {
-            key: seen(keys, cycle, i, end),
-            frame: i as u8,
-        };
-        kept = sooner(kept, choice);
+        kept = sooner(kept, back(keys, cycle, frames, end, o));
         behind[o as usize] = kept.frame;
         o += 1;
     }
@@ -244,11 +267,13 @@ fn windows(
     }
 }
 
-// The row of a hop: a cell for each frame over the one that is picked for it, whose frame before is the predecessor. Of the key the time from the frame to the end of the cycle is taken off,
-// and the time of the least hold, `lead`, is added.
+// The cells of a lane, each over the frame that is picked for it, whose frame before, in the
+// lane chosen for that one, is the predecessor. From the key the time from the frame to the end
+// of the cycle is subtracted; the time of the least hold, `lead`, is added.
 fn settle(
     keys: &[u16; 64],
     froms: &[u8; 64],
+    lanes: &[u8; 64],
     time: Delay,
     lead: Delay,
     frames: u16,
@@ -256,8 +281,8 @@ fn settle(
     row: &mut [u16; 64],
     preds: &mut [u8; 64],
 )
-    requires { ⌜ ((w : ℕ) × Settling (time .0) (lead .0) frames free w (now keys) (now froms) (now row) (now preds)) ⌝ }
-    ensures { λ r. ⌜ ((w : ℕ) → Settling (time .0) (lead .0) frames free w (now (keys .entry)) (now (froms .entry)) (now (row .entry)) (now (preds .entry)) → Settled (time .0) (lead .0) frames free w (now (keys .entry)) (now (froms .entry)) frames (now (row .exit)) (now (preds .exit))) ⌝ }
+    requires { ⌜ ((w : ℕ) × Settling (time .0) (lead .0) frames free w (now keys) (now froms) (now lanes) (now row) (now preds)) ⌝ }
+    ensures { λ r. ⌜ ((w : ℕ) → Settling (time .0) (lead .0) frames free w (now (keys .entry)) (now (froms .entry)) (now (lanes .entry)) (now (row .entry)) (now (preds .entry)) → Settled (time .0) (lead .0) frames free w (now (keys .entry)) (now (froms .entry)) (now (lanes .entry)) frames (now (row .exit)) (now (preds .exit))) ⌝ }
 {
     let cycle = forwarding::delay_of(Hold(frames), time);
     let mut i: u16 = 0;
@@ -267,13 +292,15 @@ fn settle(
         let key = seen(keys, cycle, frame, i);
         let wait = forwarding::delay_of(Hold(frames - i), time);
         row[at] = if_free(free, i, smaller(key + lead.0 - wait.0, NEVER));
-        preds[at] = froms[frame as usize];
+        let from = froms[frame as usize];
+        preds[at] = lanes[places::index(from)] + from;
         i += 1;
     }
 }
 
-// The row of the frames of a hop in one colour, whose free word this is, in the place of a row of the frames of the hop before; the frames before go to `preds`. Answers how many transitions
-// there are, where some schedule leads to each frame of the hop before in `many` colours.
+// The lane of a hop in one colour, whose free word this is, in the place of a row of frames of
+// the hop before; the places before go to `preds`. `many` has for each frame before in how many
+// colours schedules end there, `lanes` the lane chosen for it. Answers the number of transitions.
 fn lane(
     row: &mut [u16; 64],
     t: u16,
@@ -281,10 +308,11 @@ fn lane(
     hop: Hop,
     free: u64,
     many: &[u8; 64],
+    lanes: &[u8; 64],
     preds: &mut [u8; 64],
 ) -> u32
-    requires { ⌜ Lane t before hop (now row) (now many) (now preds) ⌝ }
-    ensures { λ r. ⌜ LaneSet t before hop free (now (row .entry)) (now (many .entry)) (now (row .exit)) (now (preds .exit)) r ⌝ }
+    requires { ⌜ Lane t before hop (now row) (now many) (now lanes) (now preds) ⌝ }
+    ensures { λ r. ⌜ LaneSet t before hop free (now (row .entry)) (now (many .entry)) (now (lanes .entry)) (now (row .exit)) (now (preds .exit)) r ⌝ }
 {
     let frames = hop.frames;
     let time = forwarding::frame_time(t, frames);
@@ -297,119 +325,107 @@ fn lane(
     words::window_ones(free, frames, width, &mut lent);
     let count = gather(row, before, hop, time, many, &lent, &mut keys, &mut froms);
     windows(&keys, cycle, frames, width, &mut lent, preds);
-    settle(&keys, &froms, time, lead, frames, free, row, preds);
+    settle(&keys, &froms, lanes, time, lead, frames, free, row, preds);
     count
 }
 
-// The best of some cells of a row, and how many of them some schedule leads to.
-struct Near {
-    key: u16,
-    node: u8,
-    many: u8,
-}
-
-// The best of the `span` cells of a row from node `first` on, the smallest node that has it, and in how many of them schedules end. W-211: there are at most four.
-fn nearest(row: &[u16; 256], first: u16, span: u16) -> Near
-    requires { ⌜ (first + span ≤ 256) × (span ≤ 4) ⌝ }
-    ensures { λ r. ⌜ Nearest (now (row .entry)) first span (r .key) (r .node) (r .many) ⌝ }
-{
-    let mut kept = Choice {
-        key: NEVER,
-        frame: 0,
-    };
-    let mut many: u8 = 0;
-    let mut e: u16 = 0;
-    while e < span {
-        let node = first + e;
-        let cell = row[node as usize];
-        let other = Choice {
-            key: cell,
-            frame: node as u8,
-        };
-        kept = sooner(kept, other);
-        many += one_reached(cell);
-        e += 1;
-    }
-    Near {
-        key: kept.key,
-        node: kept.frame,
-        many,
-    }
-}
-
-// The smallest colour from which colour c of a hop may be come to.
+// The smallest colour from which colour c of a hop may be reached.
 fn low_turn(hop: Hop, c: u16) -> u16
     ensures { λ r. ⌜ r ≡ lowTurn hop c ⌝ }
 {
     if c < hop.turn { 0 } else { c - hop.turn }
 }
 
-// How many colours of the hop before there are from that one on from which colour c may be come to. Checks 23 and 24.
-fn near_span(before: Hop, hop: Hop, c: u16) -> u16
+// One above the largest such colour of the hop before. Checks 23 and 24.
+fn high_turn(before: Hop, hop: Hop, c: u16) -> u16
     requires { ⌜ (c < 4) × (hop .turn < 4) ⌝ }
-    ensures { λ r. ⌜ r ≡ nearSpan before hop c ⌝ }
+    ensures { λ r. ⌜ r ≡ highTurn before hop c ⌝ }
 {
-    let low = low_turn(hop, c);
-    let high = smaller(before.colours, c + hop.turn + 1);
-    if low < high { high - low } else { 0 }
+    smaller(before.colours, c + hop.turn + 1)
 }
 
-// For colour c of a hop, the row of the frames of the hop before: of each frame the best of the colours from which c may be come to, its node, and in how many of them schedules end.
+// Offers each of the frames its cell in one lane of a row: `cells` has the least so far, `lanes`
+// the first lane that has it, `many` how many lanes have reached the frame.
+fn near_lane(
+    row: &[u16; 256],
+    lane: u8,
+    frames: u16,
+    cells: &mut [u16; 64],
+    lanes: &mut [u8; 64],
+    many: &mut [u8; 64],
+)
+    requires { ⌜ (lane ≤ 192) × (frames ≤ 64) × (length (now cells) ≡ 64) × (length (now lanes) ≡ 64) × (length (now many) ≡ 64) × ((k : ℕ) → k < frames → getD (now many) k 0 ≤ 3) ⌝ }
+    ensures { λ r. ⌜ NearLane lane (now (row .entry)) frames (now (cells .entry)) (now (lanes .entry)) (now (many .entry)) (now (cells .exit)) (now (lanes .exit)) (now (many .exit)) ⌝ }
+{
+    let first = places::index(lane);
+    let mut k: u16 = 0;
+    while k < frames {
+        let at = k as usize;
+        let cell = row[first + at];
+        let kept = Choice {
+            key: cells[at],
+            frame: lanes[at],
+        };
+        let other = Choice {
+            key: cell,
+            frame: lane,
+        };
+        let choice = sooner(kept, other);
+        cells[at] = choice.key;
+        lanes[at] = choice.frame;
+        many[at] = many[at] + one_reached(cell);
+        k += 1;
+    }
+}
+
+// For colour c of a hop, the row of the frames of the hop before: of each frame the least cell of
+// the colours from which c may be reached, its lane, and in how many of them schedules end.
 fn near_row(
     row: &[u16; 256],
     before: Hop,
     hop: Hop,
     c: u16,
     cells: &mut [u16; 64],
-    nodes: &mut [u8; 64],
+    lanes: &mut [u8; 64],
     many: &mut [u8; 64],
 )
-    requires { ⌜ (before .frames ≤ 64) × (before .colours ≤ 4) × (c < 4) × (hop .turn < 4) × (length (now cells) ≡ 64) × (length (now nodes) ≡ 64) × (length (now many) ≡ 64) ⌝ }
-    ensures { λ r. ⌜ NearRow (before .colours) (lowTurn hop c) (nearSpan before hop c) (now (row .entry)) (before .frames) (now (cells .exit)) (now (nodes .exit)) (now (many .exit)) ⌝ }
+    requires { ⌜ (before .frames ≤ 64) × (before .colours ≤ 4) × (c < 4) × (hop .turn < 4) × NearRow (before .colours) (lowTurn hop c) 0 (now row) (before .frames) (now cells) (now lanes) (now many) ⌝ }
+    ensures { λ r. ⌜ NearRow (before .colours) (lowTurn hop c) (nearSpan before hop c) (now (row .entry)) (before .frames) (now (cells .exit)) (now (lanes .exit)) (now (many .exit)) ⌝ }
 {
-    let low = low_turn(hop, c);
-    let span = near_span(before, hop, c);
     let frames = before.frames;
-    let colours = before.colours;
-    let mut k: u16 = 0;
-    while k < frames {
-        let at = k as usize;
-        let near = nearest(row, k * colours + low, span);
-        cells[at] = near.key;
-        nodes[at] = near.node;
-        many[at] = near.many;
-        k += 1;
+    let high = high_turn(before, hop, c);
+    let mut d = low_turn(hop, c);
+    while d < high {
+        near_lane(row, (64 * d) as u8, frames, cells, lanes, many);
+        d += 1;
     }
 }
 
-// A row of frames put into a row of nodes as colour c, and the nodes before.
-fn spread(
+// Puts the cells of a lane and the places before into the row and the predecessors, as colour c.
+// All 64 are put, so that they are copied at once; those past K are not read.
+fn put_lane(
     cells: &[u16; 64],
     froms: &[u8; 64],
-    nodes: &[u8; 64],
-    hop: Hop,
     c: u16,
     next: &mut [u16; 256],
     preds: &mut [u8; 1792],
     base: usize,
 )
-    requires { ⌜ Spreading hop c base (now froms) (now next) (now preds) ⌝ }
-    ensures { λ r. ⌜ Spreads (hop .colours) c base (now (cells .entry)) (now (froms .entry)) (now (nodes .entry)) (hop .frames) (now (next .entry)) (now (preds .entry)) (now (next .exit)) (now (preds .exit)) ⌝ }
+    requires { ⌜ Putting c base (now next) (now preds) ⌝ }
+    ensures { λ r. ⌜ LanePut c base (now (cells .entry)) (now (froms .entry)) 64 (now (next .entry)) (now (preds .entry)) (now (next .exit)) (now (preds .exit)) ⌝ }
 {
-    let frames = hop.frames;
-    let colours = hop.colours;
-    let mut i: u16 = 0;
-    while i < frames {
-        let at = i as usize;
-        let node = (i * colours + c) as usize;
-        next[node] = cells[at];
-        let from = froms[at];
-        preds[base + node] = nodes[from as usize];
+    let first = 64 * c as usize;
+    let start = base + first;
+    let mut i: usize = 0;
+    while i < 64 {
+        next[first + i] = cells[i];
+        preds[start + i] = froms[i];
         i += 1;
     }
 }
 
-// The cells of a hop in colour c, and the nodes before. Answers how many transitions there are into that colour.
+// Enters a hop in colour c, whose free word this is: its lane and the places before. Answers the
+// number of transitions into this colour and the colours before it, `count` being that of those.
 fn colour(
     row: &[u16; 256],
     t: u16,
@@ -417,85 +433,110 @@ fn colour(
     hop: Hop,
     c: u16,
     free: u64,
+    count: u32,
     next: &mut [u16; 256],
     preds: &mut [u8; 1792],
     base: usize,
 ) -> u32
-    requires { ⌜ Colouring t before hop c free (now row) (now next) (now preds) base ⌝ }
-    ensures { λ r. ⌜ Coloured t before hop c (now (row .entry)) base (now (next .entry)) (now (preds .entry)) (now (next .exit)) (now (preds .exit)) r ⌝ }
+    requires { ⌜ Colouring t before hop c free (now row) (now next) (now preds) base count ⌝ }
+    ensures { λ r. ⌜ Coloured t before hop (c + 1) (byNode before (now (row .entry))) base (now (preds .entry)) (now (next .exit)) (now (preds .exit)) r ⌝ }
 {
-    let mut cells = [0u16; 64];
-    let mut nodes = [0u8; 64];
+    let mut cells = [NEVER; 64];
+    let mut lanes = [0u8; 64];
     let mut many = [0u8; 64];
-    near_row(row, before, hop, c, &mut cells, &mut nodes, &mut many);
+    near_row(row, before, hop, c, &mut cells, &mut lanes, &mut many);
     let mut froms = [0u8; 64];
-    let count = lane(&mut cells, t, before, hop, free, &many, &mut froms);
-    spread(&cells, &froms, &nodes, hop, c, next, preds, base);
-    count
+    let more = lane(&mut cells, t, before, hop, free, &many, &lanes, &mut froms);
+    put_lane(&cells, &froms, c, next, preds, base);
+    count + more
 }
 
-// The first n cells of a row in the place of another's.
-fn keep(next: &[u16; 256], n: u16, row: &mut [u16; 256])
-    requires { ⌜ (n ≤ 256) × (length (now row) ≡ 256) ⌝ }
-    ensures { λ r. ⌜ Kept (now (next .entry)) n (now (row .exit)) ⌝ }
-{
-    let mut i: u16 = 0;
-    while i < n {
-        let at = i as usize;
-        row[at] = next[at];
-        i += 1;
-    }
-}
-
-// The row of a hop in the place of the row of the hop before, colour by colour; the nodes before go to `preds` from `base` on. Answers how many transitions there are.
+// Enters a hop colour by colour: its row, and the places before from `base` on. Answers the
+// number of transitions.
 fn advance(
-    row: &mut [u16; 256],
+    row: &[u16; 256],
     t: u16,
     before: Hop,
     hop: Hop,
+    next: &mut [u16; 256],
     preds: &mut [u8; 1792],
     base: usize,
 ) -> u32
-    requires { ⌜ Entering t before hop (now row) (now preds) base ⌝ }
-    ensures { λ r. ⌜ Advanced (stage t before hop) (now (row .entry)) (nodes before) base (now (preds .entry)) (now (row .exit)) (now (preds .exit)) r ⌝ }
+    requires { ⌜ Entering t before hop (now row) (now preds) base × (length (now next) ≡ 256) ⌝ }
+    ensures { λ r. ⌜ Coloured t before hop (hop .colours) (byNode before (now (row .entry))) base (now (preds .entry)) (now (next .exit)) (now (preds .exit)) r ⌝ }
 {
     let colours = hop.colours;
     let free = hop.free;
-    let mut next = [NEVER; 256];
     let mut count: u32 = 0;
     let mut c: u16 = 0;
     while c < colours {
         let word = free[c as usize];
-        count += colour(row, t, before, hop, c, word, &mut next, preds, base);
+        count = colour(row, t, before, hop, c, word, count, next, preds, base);
         c += 1;
     }
-    keep(&next, hop.frames * colours, row);
     count
 }
 
-// The row of hop 0: a free frame has delay 0. Checks 7 and 23: it has at most 64 frames in at most 4 colours.
-fn first_row(hop: Hop) -> [u16; 256]
-    requires { ⌜ (hop .frames ≤ 64) × (0 < hop .colours) × (hop .colours ≤ 4) ⌝ }
-    ensures { λ r. ⌜ FirstRow (hop .free) (hop .colours) (nodes hop) r ⌝ }
+// Copies the lane of colour c of a row to another row, which has the lanes before it.
+fn keep_lane(next: &[u16; 256], c: u16, row: &mut [u16; 256])
+    requires { ⌜ (c < 4) × Kept (now next) (64 * c) (now row) ⌝ }
+    ensures { λ r. ⌜ Kept (now (next .entry)) (64 * c + 64) (now (row .exit)) ⌝ }
 {
-    let mut cells = [0u16; 256];
-    let colours = hop.colours;
-    let free = hop.free;
-    let many = hop.frames * colours;
-    let mut n: u16 = 0;
-    while n < many {
-        let c = (n % colours) as usize;
-        cells[n as usize] = if_free(free[c], n / colours, 0);
-        n += 1;
+    let first = 64 * c as usize;
+    let mut i: usize = 0;
+    while i < 64 {
+        row[first + i] = next[first + i];
+        i += 1;
     }
-    cells
 }
 
-// The rows of hops 0 to last, one in the place of the other, from a first row that is handed over; the nodes before go to `preds`. Answers the transitions considered.
+// Copies the lanes of a row to another row.
+fn keep(next: &[u16; 256], colours: u16, row: &mut [u16; 256])
+    requires { ⌜ (colours ≤ 4) × (length (now row) ≡ 256) ⌝ }
+    ensures { λ r. ⌜ Kept (now (next .entry)) (64 * colours) (now (row .exit)) ⌝ }
+{
+    let mut c: u16 = 0;
+    while c < colours {
+        keep_lane(next, c, row);
+        c += 1;
+    }
+}
+
+// The lane of hop 0 in colour c, whose free word this is: a free frame has delay 0.
+fn first_lane(free: u64, frames: u16, c: u16, cells: &mut [u16; 256])
+    requires { ⌜ (frames ≤ 64) × (c < 4) × (length (now cells) ≡ 256) ⌝ }
+    ensures { λ r. ⌜ FirstLane free c frames (now (cells .entry)) (now (cells .exit)) ⌝ }
+{
+    let first = 64 * c as usize;
+    let mut i: u16 = 0;
+    while i < frames {
+        cells[first + i as usize] = if_free(free, i, 0);
+        i += 1;
+    }
+}
+
+// The row of hop 0. Checks 7 and 23: at most 64 frames in at most 4 colours.
+fn first_row(hop: Hop, cells: &mut [u16; 256])
+    requires { ⌜ (hop .frames ≤ 64) × (hop .colours ≤ 4) × (length (now cells) ≡ 256) ⌝ }
+    ensures { λ r. ⌜ FirstRow (hop .free) (hop .frames) (hop .colours) (now (cells .exit)) ⌝ }
+{
+    let frames = hop.frames;
+    let colours = hop.colours;
+    let free = hop.free;
+    let mut c: u16 = 0;
+    while c < colours {
+        first_lane(free[c as usize], frames, c, cells);
+        c += 1;
+    }
+}
+
+// The rows of hops 0 to last, from a first row that is handed over; the places before go to
+// `preds`. Answers the transitions considered.
 fn sweep(t: u16, hops: [Hop; 8], last: usize, row: &mut [u16; 256], preds: &mut [u8; 1792]) -> u32
     requires { ⌜ Sweeps t hops last (now row) (now preds) ⌝ }
     ensures { λ r. ⌜ Swept t hops (now (row .entry)) last (now (row .exit)) (now (preds .exit)) r ⌝ }
 {
+    let mut next = [NEVER; 256];
     let mut count: u32 = 0;
     let mut j: usize = 0;
     while j < last {
@@ -503,16 +544,18 @@ fn sweep(t: u16, hops: [Hop; 8], last: usize, row: &mut [u16; 256], preds: &mut 
         let base = 256 * j;
         j += 1;
         let hop = hops[j];
-        count += advance(row, t, from, hop, preds, base);
+        count += advance(row, t, from, hop, &mut next, preds, base);
+        keep(&next, hop.colours, row);
     }
     count
 }
 
-// The end of the best schedule: the least cell of the last hop, and the smallest node that has it. Checks 7 and 23: it has at most 256.
-fn best_end(row: &[u16; 256], frames: u16) -> Choice
-    requires { ⌜ frames ≤ 256 ⌝ }
-    ensures { λ r. ⌜ wayOf (r .key) 0 (r .frame) ≡ bestOf (endOffers (now (row .entry))) frames ⌝ }
+// The least cell of the lane of colour c, and the smallest frame that has it.
+fn best_frame(row: &[u16; 256], c: u16, frames: u16) -> Choice
+    requires { ⌜ (frames ≤ 64) × (c < 4) ⌝ }
+    ensures { λ r. ⌜ (wayOf (r .key) 0 (r .frame) ≡ bestOf (laneOffers (now (row .entry)) c) frames) × (r .frame < 64) ⌝ }
 {
+    let first = 64 * c as usize;
     let mut end = Choice {
         key: NEVER,
         frame: 0,
@@ -520,7 +563,7 @@ fn best_end(row: &[u16; 256], frames: u16) -> Choice
     let mut f: u16 = 0;
     while f < frames {
         let choice = Choice {
-            key: row[f as usize],
+            key: row[first + f as usize],
             frame: f as u8,
         };
         end = sooner(end, choice);
@@ -529,70 +572,116 @@ fn best_end(row: &[u16; 256], frames: u16) -> Choice
     end
 }
 
-// The nodes of hops j to 0, put into their places from node f of hop j back over the stored predecessors.
-// Check 12: j is below 8. Form: the frames are recovered from the last hop back to the first by recursion, the hop number falling at each call.
-fn recover(preds: &[u8; 1792], j: usize, f: u8, frames: &mut [u8; 8])
-    requires { ⌜ (j < 8) × ChainFits (now preds) j f × (length (now frames) ≡ 8) ⌝ }
-    ensures { λ r. ⌜ now (frames .exit) ≡ reverse (chainOf (now (preds .entry)) j f) ++ drop (j + 1) (now (frames .entry)) ⌝ }
+// The end of a schedule: its cell and its place.
+struct End {
+    key: u16,
+    place: u8,
+}
+
+// The end kept so far, unless the cell of the other is smaller, or the same with a smaller frame.
+// The other has the larger colour.
+fn sooner_end(kept: End, other: End) -> End
+    ensures { λ r. ⌜ (r .key ≡ cond (endSooner (kept .key) (kept .place) (other .key) (other .place)) (other .key) (kept .key)) × (r .place ≡ cond (endSooner (kept .key) (kept .place) (other .key) (other .place)) (other .place) (kept .place)) ⌝ }
 {
-    frames[j] = f;
+    if other.key < kept.key {
+        return other;
+    }
+    if kept.key < other.key {
+        return kept;
+    }
+    if other.place % 64 < kept.place % 64 {
+        return other;
+    }
+    kept
+}
+
+// The end of the best schedule: the least cell of the last hop, then the smallest frame that has
+// it, then the smallest colour. Checks 7 and 23.
+fn best_end(row: &[u16; 256], frames: u16, colours: u16) -> End
+    requires { ⌜ (frames ≤ 64) × (colours ≤ 4) ⌝ }
+    ensures { λ r. ⌜ EndOf (now (row .entry)) frames colours (r .key) (r .place) ⌝ }
+{
+    let mut end = End {
+        key: NEVER,
+        place: 0,
+    };
+    let mut c: u16 = 0;
+    while c < colours {
+        let best = best_frame(row, c, frames);
+        let other = End {
+            key: best.key,
+            place: (64 * c) as u8 + best.frame,
+        };
+        end = sooner_end(end, other);
+        c += 1;
+    }
+    end
+}
+
+// The places of hops j to 0, from place p of hop j back over the stored predecessors.
+// Check 12: j is below 8. Form: the frames are recovered from the last hop back to the first by
+// recursion, the hop number falling at each call.
+fn recover(preds: &[u8; 1792], j: usize, p: u8, out: &mut [u8; 8])
+    requires { ⌜ (j < 8) × ChainFits (now preds) j p × (length (now out) ≡ 8) ⌝ }
+    ensures { λ r. ⌜ now (out .exit) ≡ reverse (chainOf (now (preds .entry)) j p) ++ drop (j + 1) (now (out .entry)) ⌝ }
+{
+    out[j] = p;
     if j == 0 {
         return;
     }
-    let at = 256 * (j - 1) + places::index(f);
-    recover(preds, j - 1, preds[at], frames)
+    let at = 256 * (j - 1) + places::index(p);
+    recover(preds, j - 1, preds[at], out)
 }
 
-// The nodes of the first n hops, taken apart.
+// Frames and colours, one for each hop.
 struct Split {
     frames: [u8; 8],
     colours: [u8; 8],
 }
 
-// The frame and the colour of each of the first n nodes; the other places hold 0. Checks 12 and 23.
-fn apart(hops: [Hop; 8], n: usize, nodes: [u8; 8]) -> Split
-    requires { ⌜ (n ≤ 8) × ((j : ℕ) → j < n → (0 < getD hops j noHop .colours) × (getD hops j noHop .colours ≤ 4)) ⌝ }
-    ensures { λ r. ⌜ Parts hops n nodes (r .frames) (r .colours) ⌝ }
+// The frame and the colour at each of the first n places; unused ones hold 0. Check 12.
+fn apart(n: usize, places: [u8; 8]) -> Split
+    requires { ⌜ n ≤ 8 ⌝ }
+    ensures { λ r. ⌜ Parts n places (r .frames) (r .colours) ⌝ }
 {
     let mut frames = [0u8; 8];
     let mut colours = [0u8; 8];
     let mut j: usize = 0;
     while j < n {
-        let hop = hops[j];
-        let many = hop.colours as u8;
-        frames[j] = nodes[j] / many;
-        colours[j] = nodes[j] % many;
+        frames[j] = places[j] % 64;
+        colours[j] = places[j] / 64;
         j += 1;
     }
     Split { frames, colours }
 }
 
-// The least-delay schedule over hops 0 to n - 1, for a cycle of t ticks.
-// Checks 3, 7, 8, 21, 23, 24 and 12 have shown what is required. Form: the search counts as it goes.
+// The least-delay schedule over hops 0 to n - 1, for a cycle of t ticks. Checks 3, 7, 8, 21, 23,
+// 24 and 12 guarantee what is required. Form: the search counts as it goes.
 pub fn search(t: u16, hops: [Hop; 8], n: usize) -> Finding
     requires { ⌜ Ready t hops n ⌝ }
     ensures { λ r. ⌜ Finds t hops n r ⌝ }
 {
     let last = n - 1;
     let start = hops[0];
-    let mut row = first_row(start);
+    let mut row = [NEVER; 256];
+    first_row(start, &mut row);
     let mut preds = [0u8; 1792];
     let count = sweep(t, hops, last, &mut row, &mut preds);
     let hop = hops[last];
-    let end = best_end(&row, hop.frames * hop.colours);
+    let end = best_end(&row, hop.frames, hop.colours);
     let least = end.key;
-    let mut nodes = [0u8; 8];
+    let mut places = [0u8; 8];
     if NEVER <= least {
         let colours = [0u8; 8];
         return Finding {
             found: Found::Blocked,
             count,
-            frames: nodes,
+            frames: places,
             colours,
         };
     }
-    recover(&preds, last, end.frame, &mut nodes);
-    let parts = apart(hops, n, nodes);
+    recover(&preds, last, end.place, &mut places);
+    let parts = apart(n, places);
     let frames = parts.frames;
     let colours = parts.colours;
     Finding {

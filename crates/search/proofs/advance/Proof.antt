@@ -1,28 +1,28 @@
--- `search::advance` meets its contract. The invariant: the colours below c are there. Assumes nothing.
+-- `search::advance` meets its contract. The invariant: the colours below c are entered. Assumes
+-- nothing.
 use mathlib.Core.Path.{_≡_, refl}
-use Prim.Native.Nat.{ℕ, _-_, _*_, _≤_}
+use Prim.Native.Nat.{ℕ, _+_, _-_, _<_, _≤_}
 use native.Mathlib.Omega.{arith}
-use lib.ListN.{length, length-replicate}
+use lib.ListN.{length}
 use borrow.Author.Needs.{needs, length-unmapped}
-use Rattle.forwarding.proofs.Ways.{nodes-few}
-use Rattle.search.specs.Inner.{SomeColours}
-use Rattle.search.proofs.Colouring.{into-few, no-colours, still-entering, one-colour, all-colours}
+use Rattle.search.specs.Inner.{byNode, Coloured}
+use Rattle.search.proofs.Colouring.{no-colours, still-colouring, one-colour}
 use Rattle.search.proofs.advance.Statement.{statement}
 use Rattle.search.proofs.advance.Tie as tie
 
 abbrev Inv-loop : tie.InvT-loop
-Inv-loop row t before hop preds₀ base colours free next₀ count₀ c₀ preds next count c =
-    (c ≤ colours) × (count ≤ c * 16384) × (length free ≡ 4) × SomeColours t before hop c row base preds₀ next preds count
+Inv-loop row t before hop next₀ preds₀ base colours free count₀ c₀ next preds count c =
+    (c ≤ colours) × (length free ≡ 4) × Coloured t before hop c (byNode before row) base preds₀ next preds count
 
 abbrev μ-loop : tie.MeasureT-loop
-μ-loop row t before hop preds₀ base colours free next₀ count₀ c₀ preds next count c = colours - c
+μ-loop row t before hop next₀ preds₀ base colours free count₀ c₀ next preds count c = colours - c
 
 loop-holds : tie.Need-loop-holds Inv-loop μ-loop
 loop-holds c =
     let s = c .before in
     let a = s .args in
     let four : length (a .hop .free) ≡ 4 = length-unmapped ℕ (a .hop .free) 4 (s .good .1 .1 .1 .0 .1 .1 .1 .1 .1 .1 .1 .0 .1 .0 .1) in
-    (omega arith, omega arith, four, no-colours (a .t) (a .before) (a .hop) (a .row .now) (a .preds .now) (a .base) _ (length-replicate {A = ℕ} 256 32768) (s .pre .long))
+    (omega arith, four, no-colours (a .t) (a .before) (a .hop) (a .row .now) (a .preds .now) (a .base) (a .next .now) (s .pre .1) (s .pre .0 .long))
 
 cast-word : tie.Need-cast-word Inv-loop μ-loop
 cast-word c = search needs
@@ -31,28 +31,14 @@ mul-word : tie.Need-mul-word Inv-loop μ-loop
 mul-word c = search needs
 
 array-read-word : tie.Need-array-read-word Inv-loop μ-loop
-array-read-word c =
-    let s = c .before .before .before in
-    omega (arith, c .loop-test .taken, s .pre .ready .few-colours, c .before .loop .inv .2)
+array-read-word c = omega (arith, c .loop-test .taken, c .before .before .before .pre .0 .ready .few-colours, c .before .loop .inv .1)
 
 colour-requires : tie.Need-colour-requires Inv-loop μ-loop
 colour-requires c κs =
-    let s = c .before .before .before .before .before .before in
+    let s = c .before .before .before .before .before in
     let a = s .args in
-    let l = c .before .before .before .before .loop in
-    record {
-      entering = still-entering (a .t) (a .before) (a .hop) (a .row .now) (a .preds .now) (a .base) (l .preds) (s .pre) (l .inv .3 .long);
-      colour = c .before .before .before .loop-test .taken;
-      word = refl;
-      next-long = l .inv .3 .next-long;
-    }
-
-add-count : tie.Need-add-count Inv-loop μ-loop
-add-count c =
-    let s = c .before .before .before .before .before .before .before in
-    let a = s .args in
-    let l = c .before .before .before .before .before .loop in
-    record { fits = omega (arith, l .inv .1, into-few (a .t) (a .before) (a .hop) (a .row .now) (a .preds .now) (a .base) (l .c) (s .pre), c .colour .ensures .counted, c .before .before .before .before .loop-test .taken, s .pre .ready .few-colours) }
+    let l = c .before .before .before .loop in
+    still-colouring (a .t) (a .before) (a .hop) (a .row .now) (a .preds .now) (a .base) (l .c) _ (l .count) (l .next) (l .preds) (s .pre .0) (c .before .before .loop-test .taken) refl (l .inv .2)
 
 add-c : tie.Need-add-c Inv-loop μ-loop
 add-c c = search needs
@@ -62,33 +48,17 @@ loop-less c = search needs
 
 loop-again : tie.Need-loop-again Inv-loop μ-loop
 loop-again c =
-    let s = c .before .before .before .before .before .before .before in
+    let s = c .before .before .before .before .before .before in
     let a = s .args in
-    let l = c .before .before .before .before .before .loop in
+    let l = c .before .before .before .before .loop in
     let k = c .colour in (
-      omega (arith, c .before .before .before .before .loop-test .taken),
-      omega (arith, l .inv .1, into-few (a .t) (a .before) (a .hop) (a .row .now) (a .preds .now) (a .base) (l .c) (s .pre), k .ensures .counted),
-      l .inv .2,
-      one-colour (a .t) (a .before) (a .hop) (a .row .now) (a .preds .now) (a .base) (l .c) (l .next) (l .preds) (k .last .1 .1 .1 .1 .1 .1 .0) (k .last .1 .1 .1 .1 .1 .1 .1 .0) (l .count) (k .result) (l .inv .3) (k .ensures),
+      omega (arith, c .before .before .before .loop-test .taken),
+      l .inv .1,
+      one-colour (a .t) (a .before) (a .hop) (a .row .now) (a .preds .now) (a .base) (l .c + 1) (k .result) (l .preds) (k .last .1 .1 .1 .1 .1 .1 .1 .0) (k .last .1 .1 .1 .1 .1 .1 .1 .1 .0) (l .inv .2 .earlier) (k .ensures),
     )
 
-mul-keep : tie.Need-mul-keep Inv-loop μ-loop
-mul-keep c =
-    let s = c .before .before .before .before .before in
-    record { fits = omega (arith, nodes-few (s .args .t) (s .args .hop) (s .pre .ready)) }
-
-keep-requires : tie.Need-keep-requires Inv-loop μ-loop
-keep-requires c κs =
-    let s = c .before .before .before .before .before .before in
-    (nodes-few (s .args .t) (s .args .hop) (s .pre .ready), s .pre .cells-long)
-
 returns : tie.Need-returns Inv-loop μ-loop
-returns c =
-    let s = c .before .before .before .before .before .before .before in
-    let a = s .args in
-    let l = c .before .before .before .before .before .loop in
-    let e : l .c ≡ a .hop .colours = omega (arith, l .inv .0, c .before .before .before .before .loop-test .left) in
-    all-colours (a .t) (a .before) (a .hop) (a .row .now) (a .preds .now) (a .base) (l .next) (l .preds) (c .keep .last .1 .1 .0) (l .count) (rw e at (l .inv .3)) (c .keep .ensures)
+returns c = let e : c .before .loop .c ≡ c .before .before .before .args .hop .colours = omega (arith, c .loop-test .left, c .before .loop .inv .0) in rw e at (c .before .loop .inv .2)
 
 pub advance-spec : {M : Type 1} → statement M
 advance-spec =
@@ -101,10 +71,7 @@ advance-spec =
     mul-word
     array-read-word
     colour-requires
-    add-count
     add-c
     loop-less
     loop-again
-    mul-keep
-    keep-requires
     returns)

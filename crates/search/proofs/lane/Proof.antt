@@ -26,7 +26,7 @@ delay-of-requires-2 c κs =
     let s = c .before .before .before in
     let a = s .args in
     let time = c .before .before .frame-time in
-    least-time (a .t) (a .before) (a .hop) (a .row .now) (a .many .now) (a .preds .now) (time .result .0) (s .pre) (time .ensures) (c .least-hold .result) (c .least-hold .ensures)
+    least-time (a .t) (a .before) (a .hop) (a .row .now) (a .many .now) (a .lanes .now) (a .preds .now) (time .result .0) (s .pre) (time .ensures) (c .least-hold .result) (c .least-hold .ensures)
 
 choices-requires : tie.Need-choices-requires
 choices-requires c κs =
@@ -47,7 +47,7 @@ gather-requires c κs =
     let wide = c .before .before .before .before .before .before .choices in
     let O = opens (a .t) (a .hop) (s .pre .ready) (wide .result) (a .free) (wide .ensures) in
     let ones = c .before .before .before .before .window-ones in
-    begins-gathering (a .t) (a .before) (a .hop) (a .row .now) (a .many .now) (a .preds .now) (time .result .0) (s .pre) (time .ensures) (wide .result) (a .free) _ (ones .last .1 .1 .1 .0) O (ones .ensures)
+    begins-gathering (a .t) (a .before) (a .hop) (a .row .now) (a .many .now) (a .lanes .now) (a .preds .now) (time .result .0) (s .pre) (time .ensures) (wide .result) (a .free) _ (ones .last .1 .1 .1 .0) O (ones .ensures)
 
 windows-requires : tie.Need-windows-requires
 windows-requires c κs =
@@ -58,7 +58,7 @@ windows-requires c κs =
     let O = opens (a .t) (a .hop) (s .pre .ready) (wide .result) (a .free) (wide .ensures) in
     let ones = c .before .before .before .before .before .before .before .before .window-ones in
     let G = c .before .before .before .gather in
-    let keys = begins-windows (a .t) (a .before) (a .hop) (a .row .now) (a .many .now) (a .preds .now) (time .result .0) (s .pre) (time .ensures) (wide .result) (a .free) O _ _ (G .ensures .0) (c .before .before .before .before .before .before .before .before .before .before .before .before .before .delay-of .result .0) (c .before .before .before .before .before .before .before .before .before .before .before .before .before .delay-of .ensures .product) in
+    let keys = begins-windows (a .t) (a .before) (a .hop) (a .row .now) (a .many .now) (a .lanes .now) (a .preds .now) (time .result .0) (s .pre) (time .ensures) (wide .result) (a .free) O _ _ (G .ensures .0) (c .before .before .before .before .before .before .before .before .before .before .before .before .before .delay-of .result .0) (c .before .before .before .before .before .before .before .before .before .before .before .before .before .delay-of .ensures .product) in
     (keys, O .some, O .within, ones .ensures .long, s .pre .long)
 
 settle-requires : tie.Need-settle-requires
@@ -73,7 +73,7 @@ settle-requires c κs =
     let O = opens (a .t) (a .hop) (s .pre .ready) (wide .result) (a .free) (wide .ensures) in
     let G = c .before .before .before .before .before .before .before .before .gather in
     let W = c .before .before .before .before .windows in
-    (wide .result, begins-settling (a .t) (a .before) (a .hop) (a .row .now) (a .many .now) (a .preds .now) (time .result .0) (s .pre) (time .ensures) (wide .result) (a .free) O (G .last .1 .1 .1 .1 .1 .1 .0) (G .last .1 .1 .1 .1 .1 .1 .1 .0) (G .ensures .0) (cycle .result .0) (cycle .ensures .product) (lead .result .0) led (W .last .1 .1 .1 .1 .1 .0) (W .ensures))
+    (wide .result, begins-settling (a .t) (a .before) (a .hop) (a .row .now) (a .many .now) (a .lanes .now) (a .preds .now) (time .result .0) (s .pre) (time .ensures) (wide .result) (a .free) O (G .last .1 .1 .1 .1 .1 .1 .0) (G .last .1 .1 .1 .1 .1 .1 .1 .0) (G .ensures .0) (cycle .result .0) (cycle .ensures .product) (lead .result .0) led (W .last .1 .1 .1 .1 .1 .0) (W .ensures))
 
 returns : tie.Need-returns
 returns c =
@@ -88,7 +88,7 @@ returns c =
     let G = c .before .before .before .before .before .before .before .before .before .gather in
     let W = c .before .before .before .before .before .windows in
     let ones = c .before .before .before .before .before .before .before .before .before .before .before .before .before .before .window-ones in
-    lane-set (a .t) (a .before) (a .hop) (a .row .now) (a .many .now) (a .preds .now) (time .result .0) (s .pre) (time .ensures) (wide .result) (a .free) O (G .last .1 .1 .1 .1 .1 .1 .0) (G .last .1 .1 .1 .1 .1 .1 .1 .0) (G .ensures .0) (cycle .result .0) (cycle .ensures .product) (lead .result .0) led (W .last .1 .1 .1 .1 .1 .0) (W .ensures) _ (ones .last .1 .1 .1 .0) (G .result) (c .settle .last .1 .1 .1 .1 .1 .1 .0) (c .settle .last .1 .1 .1 .1 .1 .1 .1 .0) (ones .ensures) (G .ensures .1) (c .settle .ensures)
+    lane-set (a .t) (a .before) (a .hop) (a .row .now) (a .many .now) (a .lanes .now) (a .preds .now) (time .result .0) (s .pre) (time .ensures) (wide .result) (a .free) O (G .last .1 .1 .1 .1 .1 .1 .0) (G .last .1 .1 .1 .1 .1 .1 .1 .0) (G .ensures .0) (cycle .result .0) (cycle .ensures .product) (lead .result .0) led (W .last .1 .1 .1 .1 .1 .0) (W .ensures) _ (ones .last .1 .1 .1 .0) (G .result) (c .settle .last .1 .1 .1 .1 .1 .1 .1 .0) (c .settle .last .1 .1 .1 .1 .1 .1 .1 .1 .0) (ones .ensures) (G .ensures .1) (c .settle .ensures)
 
 pub lane-spec : {M : Type 1} → statement M
 lane-spec =
