@@ -1,7 +1,7 @@
 -- Laws of tests and of the tests over lists. Assumes nothing.
 use mathlib.Core.Path.{◌≡◌, refl, sym, ap, ap₂, ◌∙◌}
 use mathlib.Core.Logic.{◌⊎◌, inl, inr, ⊎_elim}
-use mathlib.Core.Bool.{Bool, true, false, not, ◌&&◌, ◌||◌, cond, true≢false, false≢true, or-false, or_assoc, and_true, and_assoc}
+use mathlib.Core.Bool.{Bool, true, false, not, ◌&&◌, ◌||◌, cond, true≢false, false≢true, or-false, or_assoc, and-true, and_assoc}
 use mathlib.Core.List.Memᴰ
 use mathlib.Core.List.{List, [], ◌∷◌, ◌++◌, Memᴰ}
 use Prim.Native.Nat.{ℕ, zero, suc, ◌<◌, ◌≤◌}
@@ -50,7 +50,7 @@ or_middle false false c d = refl
 module _ {A : Type 0} where
   -- with one element more
   pub all_snoc : (p : A → Bool) (xs : List A) (x : A) → all_of p (xs ++ (x ∷ [])) ≡ (all_of p xs && p x)
-  all_snoc p [] x = and_true (p x)
+  all_snoc p [] x = and-true (p x)
   all_snoc p (y ∷ ys) x = ap (λ (b : Bool). p y && b) (all_snoc p ys x) ∙ sym (and_assoc (p y) (all_of p ys) (p x))
 
   pub any_snoc : (p : A → Bool) (xs : List A) (x : A) → any_of p (xs ++ (x ∷ [])) ≡ (any_of p xs || p x)

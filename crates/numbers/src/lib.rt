@@ -1,4 +1,6 @@
 // Numbers of up to eight bytes, low byte first ("T in two bytes, low first"), read from the start of a slice and written there.
+#![tactic(auto)]
+
 ghost use Rattle.std.specs.Prelude.{◌≡◌, ◌++◌, ◌≤◌, length, drop};
 ghost use Rattle.numbers.specs.Numbers.{number_in, bytes_of};
 

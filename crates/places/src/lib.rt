@@ -1,4 +1,6 @@
 // The first places of an array, and bytes put into a lent buffer: these stand in specs/ and proofs/. In code, numbers that are stored in a byte.
+#![tactic(auto)]
+
 ghost use Rattle.std.specs.Prelude.{◌≡◌};
 
 // A stored number as a place of an array.

@@ -1,7 +1,7 @@
 -- The bits of a map byte, for any layout: bits set and cleared one field after the other give the rule's bytes, and the rule's bytes tell
 -- which fields are written. Assumes nothing.
 use mathlib.Core.Path.{◌≡◌, refl, sym, ap, ◌∙◌}
-use mathlib.Core.Bool.{Bool, true, false, not, ◌&&◌, ◌||◌, true≢false, and_true, and-false, or-false, or_assoc, cond}
+use mathlib.Core.Bool.{Bool, true, false, not, ◌&&◌, ◌||◌, true≢false, and-true, and-false, or-false, or_assoc, cond}
 use mathlib.Core.List.{List, [], ◌∷◌}
 use Prim.Native.Nat.{ℕ, ◌^◌, ◌<◌}
 use native.Mathlib.Omega.{arith}
@@ -67,7 +67,7 @@ without_wide map i = word_lt 64 (λ j. bit_of map j && not (eqb j i))
 
 bit_without_all : (fs : List Field) (map : ℕ) → map < 2 ^ 64 → (i : ℕ) → bit_of (map_without fs map) i ≡ (bit_of map i && not (is_bit fs i))
 unfolding map_without is_bit
-bit_without_all [] map h i = sym (and_true (bit_of map i))
+bit_without_all [] map h i = sym (and-true (bit_of map i))
 bit_without_all (f ∷ fs) map h i =
     bit_without_all fs (without_bit 64 map f.bit) (without_wide map f.bit) i
     ∙ ap (λ (b : Bool). b && not (is_bit fs i)) (bit_without 64 map f.bit h i)
@@ -138,7 +138,7 @@ agreed [] map vs l same = agrees_none
 agreed (f ∷ fs) map vs l same =
     let p : Leads f fs = leads f fs l in
     let w : Bool = is_written f (get_or vs 0 0) in
-    let own : bit_of map f.bit ≡ w = same f.bit (here f fs) ∙ rw (eq-eqb f.bit f.bit refl, written_bit fs (drop 1 vs) f.bit p.alone) (or-false (w && true) ∙ and_true w) in
+    let own : bit_of map f.bit ≡ w = same f.bit (here f fs) ∙ rw (eq-eqb f.bit f.bit refl, written_bit fs (drop 1 vs) f.bit p.alone) (or-false (w && true) ∙ and-true w) in
     agrees_more own (agreed fs map (drop 1 vs) p.others (λ i e. same i (there f fs i e) ∙ rw (apart f fs i p.alone e, and-false w)))
 
 pub map_agrees : (fs : List Field) (vs : List ℕ) → is_layout fs ≡ true → Agrees (map_of fs vs) fs vs
@@ -163,7 +163,7 @@ stray_none fs map h e i q = go (ltb i 8) refl
     go : (b : Bool) → ltb i 8 ≡ b → bit_of map i ≡ false
     go true l =
         let z : (bit_of map i && not (is_bit fs i)) ≡ false = sym (bit_below 8 (λ j. bit_of map j && not (is_bit fs j)) i (ltb-true i 8 l)) ∙ rw e (bit_zero i) in
-        sym (and_true (bit_of map i)) ∙ rw q at z
+        sym (and-true (bit_of map i)) ∙ rw q at z
     go false l = bit_high 8 map i h (ltb-false i 8 l)
 
 written_agrees : (fs : List Field) (map : ℕ) (vs : List ℕ) → Agrees map fs vs → (i : ℕ) → written_at fs vs i ≡ (bit_of map i && is_bit fs i)
@@ -187,5 +187,5 @@ unfolding map_of
 map_only fs map vs h e a = sym (word_only 8 map (written_at fs vs) h (λ i k. sym (written_agrees fs map vs a i ∙ go i (is_bit fs i) refl)))
   where
     go : (i : ℕ) (b : Bool) → is_bit fs i ≡ b → (bit_of map i && is_bit fs i) ≡ bit_of map i
-    go i true q = rw q (and_true (bit_of map i))
+    go i true q = rw q (and-true (bit_of map i))
     go i false q = rw q (and-false (bit_of map i) ∙ sym (stray_none fs map h e i q))

@@ -1,4 +1,6 @@
 // The refusal list of document 01 with the refusals of document 02, and what a check says.
+#![tactic(auto)]
+
 ghost use Rattle.std.specs.Prelude.{◌≡◌};
 ghost use Rattle.refusals.specs.Refusals.{refusal_number, refusal_count};
 

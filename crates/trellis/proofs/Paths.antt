@@ -49,8 +49,8 @@ pub record InSome {ℓ} {A : Type ℓ} (n : ℕ) (g : ℕ → List A) (x : A) : 
 
 pub gather_of {ℓ} : {A : Type ℓ} {x : A} (n : ℕ) (g : ℕ → List A) → Memᴰ x (gather n g) → InSome n g x
 gather_of zero g m = absurd (Memᴰ.not-nil m)
-gather_of (suc n) g m =
-    ⊎_elim (λ l. let w = gather_of n g l in record { place = w.place; below = omega (arith, w.below); there = w.there })
+gather_of {x = x} (suc n) g m =
+    ⊎_elim (λ (l : Memᴰ x (gather n g)). let w : InSome n g x = gather_of n g l in record { place = w.place; below = omega (arith, w.below); there = w.there })
     (λ r. record { place = n; below = omega arith; there = r }) (Memᴰ.append_cases (gather n g) m)
 
 -- how many

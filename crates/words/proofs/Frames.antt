@@ -1,6 +1,6 @@
 -- The words of all frames, and of a frame more or less. Assumes nothing.
 use mathlib.Core.Path.{◌≡◌, refl, ◌∙◌}
-use mathlib.Core.Bool.{true, false, not, ◌&&◌, ◌||◌, and_true}
+use mathlib.Core.Bool.{true, false, not, ◌&&◌, ◌||◌, and-true}
 use Prim.Native.Nat.{ℕ, zero, suc, ◌-◌, ◌^◌, ◌<◌, ◌≤◌}
 use native.Mathlib.Nat.{lt_of_lt_of_le}
 use native.Mathlib.Omega.{arith}
@@ -20,7 +20,7 @@ ones_word (suc n) = omega (arith, ones_word n, pow_pos n)
 -- its bits are those below K
 pub bit_ones : (K i : ℕ) → bit_of (ones_below K) i ≡ ltb i K
 unfolding ones_below
-bit_ones K i = bit_word K (λ j. true) i ∙ and_true (ltb i K)
+bit_ones K i = bit_word K (λ j. true) i ∙ and-true (ltb i K)
 
 -- setting bit i changes no other
 pub bit_with : (m w i : ℕ) → w < 2 ^ m → i < m → (j : ℕ) → bit_of (with_bit m w i) j ≡ (bit_of w j || eqb j i)

@@ -1,5 +1,7 @@
 // Words of frames: bit i of a word stands for frame i. A bank has a word for each link and colour.
 // Callers guarantee 1 ≤ frames ≤ 64 and a frame number below K (check 7).
+#![tactic(auto)]
+
 ghost use Rattle.std.specs.Prelude.{◌≡◌, ◌+◌, ◌%◌, ◌≤◌, ◌<◌, length};
 ghost use Rattle.lists.specs.Count.{one_if, count_below};
 ghost use Rattle.words.specs.Word.{bit_of, ones_below, with_bit, without_bit, free_at, free_word};
