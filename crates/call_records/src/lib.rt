@@ -4,7 +4,7 @@ ghost use Rattle.call_records.specs.Reading.{route_in, no_record, Reads};
 ghost use Rattle.call_records.specs.Inner.{record_within, routed_record, number_bytes, read_record, InBytes};
 
 // Which call a record is for.
-#[derive(Drop)]
+#[derive(Clone, Copy)]
 pub enum Kind {
     SetUp,
     Quote,
@@ -14,7 +14,7 @@ pub enum Kind {
 }
 
 // What a record says: its call, the session's number (0 for a quote), the place after the bytes before its route, and the place after the record.
-#[derive(Drop)]
+#[derive(Clone, Copy)]
 pub struct Record {
     pub kind: Kind,
     pub number: u32,

@@ -1,4 +1,6 @@
 // The network of document 01 as values, with the least holds of W-206, and the checks that it meets: 2, 3, then for each link 7, 8, 21 and 9 before the next.
+#![tactic(auto)]
+
 ghost use Rattle.std.specs.Prelude.{◌≡◌, ◌≤◌};
 ghost use Rattle.places.specs.Places.{firsts};
 ghost use Rattle.refusals.specs.Refusals.{ruling};
@@ -8,7 +10,7 @@ ghost use Rattle.network.specs.Checks.{bad_count, bad_cycle, bad_frames, bad_ran
 use refusals::{Refusal, Verdict};
 
 // A link ("Network"): K, Z, its least hold Y (W-206) and the word of its closed frames.
-#[derive(Drop)]
+#[derive(Clone, Copy)]
 pub struct Link {
     pub frames: u16,
     pub range: u16,
@@ -17,7 +19,7 @@ pub struct Link {
 }
 
 // A network ("Network"): T, the number of links, and their places, of which as many are used.
-#[derive(Drop)]
+#[derive(Clone, Copy)]
 pub struct Network {
     pub ticks: u16,
     pub count: usize,

@@ -17,21 +17,21 @@ use records::Field;
 use refusals::{Refusal, Verdict};
 
 // What a link record says: the link and the length used, or the refusal.
-#[derive(Drop)]
+#[derive(Clone, Copy)]
 pub enum LinkRecord {
     Fields(Link, usize),
     Refused(Refusal),
 }
 
 // What a file says: the refusal, or the network; unused places hold 0.
-#[derive(Drop)]
+#[derive(Clone, Copy)]
 pub struct Loaded {
     pub verdict: Verdict,
     pub network: Network,
 }
 
 // What writing answers: the image's length, or the refusal.
-#[derive(Drop)]
+#[derive(Clone, Copy)]
 pub enum Written {
     Length(usize),
     Refused(Refusal),

@@ -54,8 +54,12 @@ pub fits_at : (fs : List Field) (vs : List ℕ) → Fits fs vs → (j : ℕ) →
 fits_at [] [] fits_none j h = absurd (not-suc-le-zero h)
 fits_at (f ∷ fs) (v ∷ vs) (fits_more l r) zero h = l
 fits_at (f ∷ fs) (v ∷ vs) (fits_more l r) (suc j) h = fits_at fs vs r j (le_of_suc-le-suc h)
+fits_at [] (v ∷ vs) x4 j h = elim x4 [ ]
+fits_at (f ∷ fs) [] x4 j h = elim x4 [ ]
 
 -- as many values as fields
 pub length_fits : (fs : List Field) (vs : List ℕ) → Fits fs vs → length vs ≡ length fs
 length_fits [] [] fits_none = refl
 length_fits (f ∷ fs) (v ∷ vs) (fits_more l r) = ap suc (length_fits fs vs r)
+length_fits [] (v ∷ vs) x'' = elim x'' [ ]
+length_fits (f ∷ fs) [] x3 = elim x3 [ ]

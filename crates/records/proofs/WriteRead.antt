@@ -53,6 +53,8 @@ values_back (f ∷ fs) map (v ∷ vs) q (agrees_more e r) (fits_more h t) =
     let y : List ℕ = body_of fs vs ++ q in
     let z : drop (size_in map f) (x ++ y) ≡ y = drop_at x y (size_in map f) (sym (size_field map f v e)) in
     rw (append_assoc x (body_of fs vs) q, z) (ap₂ ◌∷◌ (value_back map f v y e h) (values_back fs map vs q r t))
+values_back [] map (v ∷ vs) q a x4 = elim x4 [ ]
+values_back (f ∷ fs) map [] q a x4 = elim x4 [ ]
 
 pub unstated : (fs : List Field) (map : ℕ) (vs : List ℕ) → Agrees map fs vs → restated fs map vs ≡ false
 unfolding restated is_written

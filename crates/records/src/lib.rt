@@ -1,5 +1,7 @@
 // Records of any layout: a map byte, then only the fields whose bit stands. A layout is the first n places of an array of fields, so that a
 // field that is added later lengthens the array, and nothing here.
+#![tactic(auto)]
+
 ghost use Rattle.std.specs.Prelude.{◌≡◌, ◌&&◌, cond, ◌++◌, ◌+◌, ◌<◌, ◌≤◌, eqb, length, drop};
 ghost use Rattle.places.specs.Places.{firsts};
 ghost use Rattle.places.specs.Put.{put_at};
@@ -11,7 +13,7 @@ ghost use Rattle.records.specs.Writing.{is_written, map_of, field_of, body_of, r
 use refusals::{Refusal, Verdict};
 
 // A field of a record: its bit in the map byte, its bytes, and its value where it is absent.
-#[derive(Drop)]
+#[derive(Clone, Copy)]
 pub struct Field {
     pub bit: u16,
     pub size: usize,
@@ -19,7 +21,7 @@ pub struct Field {
 }
 
 // What a record says: the refusal, or the values of its fields and its length; unused places hold 0.
-#[derive(Drop)]
+#[derive(Clone, Copy)]
 pub struct Record {
     pub verdict: Verdict,
     pub values: [u64; 8],

@@ -5,7 +5,7 @@ ghost use Rattle.std.specs.Prelude.{◌≡◌};
 ghost use Rattle.refusals.specs.Refusals.{refusal_number, refusal_count};
 
 // A refusal ("Refusal list"): a variant for each number, from 0 on.
-#[derive(Drop)]
+#[derive(Clone, Copy)]
 pub enum Refusal {
     // 0. The stored state handed to a call is broken.
     BrokenState,
@@ -54,7 +54,7 @@ pub enum Refusal {
 }
 
 // What a check says.
-#[derive(Drop)]
+#[derive(Clone, Copy)]
 pub enum Verdict {
     Passed,
     Refused(Refusal),

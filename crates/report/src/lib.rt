@@ -22,7 +22,7 @@ use refusals::{Refusal, Verdict};
 use state::{Quoted, State};
 
 // After a call: the state, and the place after its line.
-#[derive(Drop)]
+#[derive(Clone, Copy)]
 pub struct Turn {
     pub state: State,
     pub at: usize,

@@ -20,7 +20,7 @@ use refusals::{Refusal, Verdict};
 use words::{BANK, COLOURS};
 
 // What frames over the hops of a route come to: a schedule's delay, or that they are no schedule.
-#[derive(Drop)]
+#[derive(Clone, Copy)]
 pub enum Walked {
     Delayed(Delay),
     Unfit,

@@ -31,14 +31,14 @@ const NEVER: u16 = 32768;
 const EMPTY: u16 = 33728;
 
 // What a search found: a schedule, with its delay; or that there is none.
-#[derive(Drop)]
+#[derive(Clone, Copy)]
 pub enum Found {
     Schedule(Delay),
     Blocked,
 }
 
 // The enum, and beside it the count of transitions considered and the schedule's frames and their colours, hop 0 first; unused places hold 0.
-#[derive(Drop)]
+#[derive(Clone, Copy)]
 pub struct Finding {
     pub found: Found,
     pub count: u32,
@@ -48,7 +48,7 @@ pub struct Finding {
 
 // A frame, and the key that it is chosen by. Of a frame that the least hold leads to, the key is the delay as it would be at the end of the cycle without a hold: the cell of the frame
 // before and the time from the frame to the end. So two keys compare wherever a hold ends. Of an end of the route it is the cell.
-#[derive(Drop)]
+#[derive(Clone, Copy)]
 struct Choice {
     key: u16,
     frame: u8,
@@ -570,7 +570,7 @@ fn best_frame(row: &[u16; 256], c: u16, frames: u16) -> Choice
 }
 
 // The end of a schedule: its cell and its place.
-#[derive(Drop)]
+#[derive(Clone, Copy)]
 struct End {
     key: u16,
     place: u8,
@@ -632,7 +632,7 @@ fn recover(preds: &[u8; 1792], j: usize, p: u8, out: &mut [u8; 8])
 }
 
 // Frames and colours, one for each hop.
-#[derive(Drop)]
+#[derive(Clone, Copy)]
 struct Split {
     frames: [u8; 8],
     colours: [u8; 8],

@@ -17,14 +17,14 @@ use state::{Released, Served, State};
 use table::Place;
 
 // What `begin` answers: the verdict of the network's checks, and a state that holds no sessions.
-#[derive(Drop)]
+#[derive(Clone, Copy)]
 pub struct Begun {
     pub verdict: Verdict,
     pub state: State,
 }
 
 // What a lookup shows: the session's hops, their links, hop 0 first, and what it holds; unused places hold 0.
-#[derive(Drop)]
+#[derive(Clone, Copy)]
 pub struct Shown {
     pub verdict: Verdict,
     pub hops: usize,
@@ -33,35 +33,35 @@ pub struct Shown {
 }
 
 // What a lookup answers: what it shows, and the state, which is the same.
-#[derive(Drop)]
+#[derive(Clone, Copy)]
 pub struct Looked {
     pub shown: Shown,
     pub state: State,
 }
 
 // The number of free frames of a link, 0 where it is refused.
-#[derive(Drop)]
+#[derive(Clone, Copy)]
 pub struct Counted {
     pub verdict: Verdict,
     pub count: u32,
 }
 
 // The number of free frames of a link, and the state, which is the same.
-#[derive(Drop)]
+#[derive(Clone, Copy)]
 pub struct Tallied {
     pub counted: Counted,
     pub state: State,
 }
 
 // The number of ways through a route, 0 where it is refused.
-#[derive(Drop)]
+#[derive(Clone, Copy)]
 pub struct Numbered {
     pub verdict: Verdict,
     pub ways: u64,
 }
 
 // The number of ways through a route, and the state, which is the same.
-#[derive(Drop)]
+#[derive(Clone, Copy)]
 pub struct Surveyed {
     pub numbered: Numbered,
     pub state: State,

@@ -22,7 +22,7 @@ use search::{Finding, Found};
 use table::{Place, Table};
 
 // The stored state: a network and its live sessions.
-#[derive(Drop)]
+#[derive(Clone, Copy)]
 pub struct State {
     pub network: Network,
     pub table: Table,
@@ -30,7 +30,7 @@ pub struct State {
 
 // What a quote answers, and a set-up: the count of transitions considered, and what the schedule holds. A refused one has count 0 and holds nothing; the
 // count of 18 stands in the refusal.
-#[derive(Drop)]
+#[derive(Clone, Copy)]
 pub struct Quoted {
     pub verdict: Verdict,
     pub count: u32,
@@ -38,14 +38,14 @@ pub struct Quoted {
 }
 
 // An answer and the state after the call.
-#[derive(Drop)]
+#[derive(Clone, Copy)]
 pub struct Served {
     pub answer: Quoted,
     pub state: State,
 }
 
 // What a release answers, and the state after it.
-#[derive(Drop)]
+#[derive(Clone, Copy)]
 pub struct Released {
     pub verdict: Verdict,
     pub state: State,

@@ -20,7 +20,7 @@ use words::BANK;
 // A session as it is stored ("Calls on sessions"; W-205: "A session stores 32 bits"): its links,
 // hop 0 first, its number, its number of hops and what it holds.
 // A place has 40 bytes. Only the byte after `hops` is padding: `held` begins at an even offset.
-#[derive(Drop)]
+#[derive(Clone, Copy)]
 pub struct Place {
     pub route: [u8; 8],
     pub number: u32,
@@ -29,7 +29,7 @@ pub struct Place {
 }
 
 // The live sessions: how many, and their places.
-#[derive(Drop)]
+#[derive(Clone, Copy)]
 pub struct Table {
     pub live: usize,
     pub places: [Place; 96],

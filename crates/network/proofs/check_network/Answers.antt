@@ -1,0 +1,15 @@
+-- `network::check_network` meets its contract. Assumes nothing.
+use Rattle.network.proofs.Checks.{count_refused, count_few, cycle_refused, links_rule}
+use Rattle.network.proofs.check_network.Goals as goal
+
+pub returns-then-bad_count : goal.returns-then-bad_count
+returns-then-bad_count c = count_refused _ _ c.bad_count.ensures c.if-bad_count.true
+
+pub returns-then-bad_cycle : goal.returns-then-bad_cycle
+returns-then-bad_cycle c = cycle_refused _ _ c.bad_count.ensures c.if-bad_count.false _ c.bad_cycle.ensures c.if-bad_cycle.true
+
+pub check_links-requires : goal.check_links-requires
+check_links-requires c = count_few c.args.network _ c.bad_count.ensures c.if-bad_count.false
+
+pub returns : goal.returns
+returns c = links_rule c.args.network _ c.bad_count.ensures c.if-bad_count.false _ c.bad_cycle.ensures c.if-bad_cycle.false _ c.check_links.ensures
