@@ -1,4 +1,6 @@
 // The network file of document 01, with the least hold of W-206 in each link record: read and written.
+#![tactic(auto)]
+
 ghost use Rattle.std.specs.Prelude.{◌≡◌, [], ◌++◌, ◌+◌, ◌<◌, ◌≤◌, length, get_or, drop};
 ghost use Rattle.places.specs.Places.{firsts};
 ghost use Rattle.places.specs.Put.{put_at};

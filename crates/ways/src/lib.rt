@@ -1,6 +1,8 @@
 // The number of ways through a route (W-203): its schedules in the frames that are free. Processes
 // hops from last to first; a row has the ways on from each frame of a hop. A frame leads to a
 // window of the next hop's frames, a difference of running sums: the work does not grow with Z.
+#![tactic(auto)]
+
 ghost use Rattle.std.specs.Prelude.{◌≡◌, ℕ, ◌+◌, ◌*◌, ◌%◌, ◌<◌, ◌≤◌, get_or};
 ghost use Rattle.lists.specs.Count.{one_if, sum_below};
 ghost use Rattle.words.specs.Word.{bit_of};
