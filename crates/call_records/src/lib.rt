@@ -1,4 +1,6 @@
 // Call records (document 01, "The program frames", and W-205 of document 02): what the record at the start of some call bytes says, and its route as a part of those bytes.
+#![tactic(auto)]
+
 ghost use Rattle.std.specs.Prelude.{◌≡◌, ◌+◌, ◌≤◌, ◌<◌, min, length, get_or};
 ghost use Rattle.call_records.specs.Reading.{route_in, no_record, Reads};
 ghost use Rattle.call_records.specs.Inner.{record_within, routed_record, number_bytes, read_record, InBytes};

@@ -38,7 +38,7 @@ module _ (network : Network) (route : List ℕ) (u : unknown_link (topology_of n
     split =
         let f : one.frames ≡ (link_at (topology_of network) (get_or route (j - 1) 0)).frames = stored_frames network (get_or route (j - 1) 0) (known_place network route (j - 1) u (omega arith)) one e in
         let f' : other.frames ≡ (link_at (topology_of network) (get_or route j 0)).frames = stored_frames network (get_or route j 0) (known_place network route j u h) other e' in
-        p.same ∙ rw (from_before (omega arith), next_place route j 0 h, ← f, ← f', ← eb)
+        p.same ∙ rw (from_before (omega arith), next_place route j 0 h, ← f, ← f', ← eb) (rw f')
 
     pub two_apart : b ≡ true → true ≡ rates_apart (rates_of (topology_of network) route)
     two_apart t = sym (split ∙ rw t)

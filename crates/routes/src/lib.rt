@@ -1,4 +1,6 @@
 // The checks of a route, 12 to 15; what a route's links are to the search, its hops; and what frames over them are: a schedule with its delay and its cycles, or none.
+#![tactic(auto)]
+
 ghost use Rattle.std.specs.Prelude.{◌≡◌, false, ◌&&◌, ◌<◌, ◌≤◌, eqb, drop};
 ghost use Rattle.places.specs.Places.{firsts};
 ghost use Rattle.refusals.specs.Refusals.{given, pass, ruling};

@@ -11,6 +11,8 @@
 // The work of a lane is linear in its frames, for every Z: frames of the hop before are gathered
 // by the frame that the least hold leads to; each further hold leads one frame on. So the best
 // way into a frame is the best of a window of gathered frames, and windows go round the cycle.
+#![tactic(auto)]
+
 ghost use Rattle.std.specs.Prelude.{◌≡◌, cond, ◌++◌, reverse, ℕ, ◌+◌, ◌-◌, ◌*◌, ◌%◌, ◌<◌, ◌≤◌, ltb, get_or, length, drop, take};
 ghost use Rattle.lists.specs.Count.{one_if};
 ghost use Rattle.trellis.specs.Paths.{reached};

@@ -2,6 +2,8 @@
 // What gives each `requires`: check 0, that at most 96 sessions are live (`place_of`, `without`, `number_twice`, `among`) and that the links, frames and colours of each are
 // within the arrays (`held_words`, `frame_twice` and what these call); check 17, that a place is left (`with_place`); check 12, that a route has at most 8
 // links, and check 0 that a stored one has (`in_eight`, `cleared`).
+#![tactic(auto)]
+
 ghost use Rattle.std.specs.Prelude.{◌≡◌, [], ◌∷◌, ◌++◌, ◌<◌, ◌≤◌, length, eqb};
 ghost use Rattle.places.specs.Places.{firsts};
 ghost use Rattle.words.specs.Bank.{bank_size};

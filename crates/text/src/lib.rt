@@ -1,5 +1,7 @@
 // The text of the program frames, put into a buffer that the caller lends: its callers know the room. Each function answers the place after what
 // it put, and leaves every other byte.
+#![tactic(auto)]
+
 ghost use Rattle.std.specs.Prelude.{[], ◌∷◌, ◌++◌, ◌+◌, ◌≤◌, length};
 ghost use Rattle.places.specs.Places.{firsts};
 ghost use Rattle.ledger.specs.Held.{holding_of};

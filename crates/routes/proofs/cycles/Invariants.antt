@@ -1,0 +1,10 @@
+-- `routes::cycles` meets its contract. The invariant: the cycles of the hops before `at` are stored. Assumes nothing.
+use Prim.Native.Nat.{◌-◌}
+use Rattle.routes.proofs.HopCycles.{CyclesSoFar}
+use Rattle.routes.proofs.cycles.Given as goal
+
+abbrev pub invariant-loop-at : goal.invariant-loop-at
+invariant-loop-at l = CyclesSoFar l.n l.hops l.frames l.k l.before l.cycles l.cycle l.at
+
+abbrev pub decreases-loop-at : goal.decreases-loop-at
+decreases-loop-at l = l.n - l.at

@@ -1,0 +1,12 @@
+use Prim.Native.Nat.{◌-◌}
+use Rattle.table.proofs.Marks.{no_hop_lem, one_hop, all_hops}
+use Rattle.table.proofs.mark.Goals as goal
+
+pub loop-j-init : goal.loop-j-init
+loop-j-init c = no_hop_lem _ _ _ _ _ c.requires.0 c.requires.1
+
+pub loop-j-preserved : goal.loop-j-preserved
+loop-j-preserved c = one_hop _ _ _ _ _ _ _ c.loop-j.invariant c.loop-j-test.true _ c.bank-at.ensures _ c.set_bit.ensures
+
+pub returns : goal.returns
+returns c = all_hops _ _ _ _ _ _ _ c.loop-j.invariant c.loop-j-test.false
