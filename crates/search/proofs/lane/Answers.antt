@@ -29,7 +29,7 @@ gather-count-requires c = let a = c.args in
     let wide = c.choices-width in
     let O = opens a.t a.hop c.requires.ready wide.result a.free wide.ensures in
     let ones = c.window_ones in
-    begins_gathering a.t a.before a.hop a.row.now a.many.now a.lanes.now a.preds.now time.result.0 c.requires time.ensures wide.result a.free _ ones.new.1.1.1.0 O ones.ensures
+    begins_gathering a.t a.before a.hop a.row.now a.many.now a.lanes.now a.preds.now time.result.0 c.requires time.ensures wide.result a.free _ ones.new.ones O ones.ensures
 
 pub windows-requires : goal.windows-requires
 windows-requires c = let a = c.args in
@@ -51,7 +51,7 @@ settle-requires c = let a = c.args in
     let O = opens a.t a.hop c.requires.ready wide.result a.free wide.ensures in
     let G = c.gather-count in
     let W = c.windows in
-    (wide.result, begins_settling a.t a.before a.hop a.row.now a.many.now a.lanes.now a.preds.now time.result.0 c.requires time.ensures wide.result a.free O G.new.1.1.1.1.1.1.0 G.new.1.1.1.1.1.1.1.0 G.ensures.0 cycle.result.0 cycle.ensures.product lead.result.0 led W.new.1.1.1.1.1.0 W.ensures)
+    (wide.result, begins_settling a.t a.before a.hop a.row.now a.many.now a.lanes.now a.preds.now time.result.0 c.requires time.ensures wide.result a.free O G.new.keys G.new.froms G.ensures.0 cycle.result.0 cycle.ensures.product lead.result.0 led W.new.preds W.ensures)
 
 pub returns : goal.returns
 returns c = let a = c.args in
@@ -64,4 +64,4 @@ returns c = let a = c.args in
     let G = c.gather-count in
     let W = c.windows in
     let ones = c.window_ones in
-    lane_set a.t a.before a.hop a.row.now a.many.now a.lanes.now a.preds.now time.result.0 c.requires time.ensures wide.result a.free O G.new.1.1.1.1.1.1.0 G.new.1.1.1.1.1.1.1.0 G.ensures.0 cycle.result.0 cycle.ensures.product lead.result.0 led W.new.1.1.1.1.1.0 W.ensures _ ones.new.1.1.1.0 G.result c.settle.new.1.1.1.1.1.1.1.0 c.settle.new.1.1.1.1.1.1.1.1.0 ones.ensures G.ensures.1 c.settle.ensures
+    lane_set a.t a.before a.hop a.row.now a.many.now a.lanes.now a.preds.now time.result.0 c.requires time.ensures wide.result a.free O G.new.keys G.new.froms G.ensures.0 cycle.result.0 cycle.ensures.product lead.result.0 led W.new.preds W.ensures _ ones.new.ones G.result c.settle.new.row c.settle.new.preds ones.ensures G.ensures.1 c.settle.ensures

@@ -25,9 +25,9 @@ loop-d-preserved c = let a = c.args in
       omega (arith, l.invariant.0),
       omega (arith, l.invariant.0, t),
       l.invariant.2,
-      λ C h N. subst (λ (x : ℕ). NearRow C low x a.row.now a.before.frames k.new.1.1.1.0 k.new.1.1.1.1.0 k.new.1.1.1.1.1.0) (sym on)
+      λ C h N. subst (λ (x : ℕ). NearRow C low x a.row.now a.before.frames k.new.cells k.new.lanes k.new.many) (sym on)
           (lane_near C low a.row.now a.before.frames c.requires.0 (l.d - low) (64 * l.d) (omega (arith, l.invariant.0)) (omega (arith, l.invariant.0, t, h)) (omega (arith, l.invariant.0, t, l.invariant.2))
-          l.cells l.lanes l.many k.new.1.1.1.0 k.new.1.1.1.1.0 k.new.1.1.1.1.1.0 (l.invariant.3 C h N) k.ensures),
+          l.cells l.lanes l.many k.new.cells k.new.lanes k.new.many (l.invariant.3 C h N) k.ensures),
     )
 
 pub returns : goal.returns

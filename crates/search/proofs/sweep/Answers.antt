@@ -46,9 +46,9 @@ loop-j-preserved c = let a = c.args in
     let r = c.requires.ready in
     let h = r.each (l.j + 1) (omega (arith, less)) in
     let n = layer_count v.ensures (r.each l.j (omega (arith, less))) h in
-    let next = v.new.1.1.1.1.0 in
-    let preds = v.new.1.1.1.1.1.0 in
-    let row = k.new.1.1.0 in
+    let next = v.new.next in
+    let preds = v.new.preds in
+    let row = k.new.row in
     let before = hop_at a.hops l.j in
     let hop = hop_at a.hops (l.j + 1) in
     let d = all_colours a.t before hop (by_node before l.row) l.preds (256 * l.j) h next preds row v.result (64 * hop.colours) refl v.ensures k.ensures in (

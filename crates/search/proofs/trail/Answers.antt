@@ -18,6 +18,6 @@ loop-o-preserved c = let a = c.args in
     let b = c.back in
     let few = c.requires.0.few_frames in
     let far = chosen_behind a.cycle.0 a.frames a.keys.now a.end l.o b.result.frame b.result.key c.requires.1 (omega arith) b.ensures.0 b.ensures.1 in
-    let next = chosen_join (key_at a.cycle.0 a.frames a.keys.now) a.frames (a.end + a.frames) (a.end + (a.frames - l.o)) l.o l.o 1 (l.o + 1) l.auto.frame l.auto.key b.result.frame b.result.key
+    let next = chosen_join (key_at a.cycle.0 a.frames a.keys.now) a.frames (a.end + a.frames) (a.end + (a.frames - l.o)) l.o l.o 1 (l.o + 1) l.kept.frame l.kept.key b.result.frame b.result.key
     c.sooner-kept.result.frame c.sooner-kept.result.key (omega arith) (omega arith) (omega arith) refl l.invariant.3 far c.sooner-kept.ensures.0 c.sooner-kept.ensures.1 in
     (omega arith, omega arith, trail_more a.cycle.0 a.frames a.keys.now a.end l.o c.sooner-kept.result.frame c.sooner-kept.result.key l.behind (omega arith) l.invariant.2 next, next)

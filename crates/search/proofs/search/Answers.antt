@@ -1,0 +1,74 @@
+-- `search::search` meets its contract. Assumes nothing.
+use mathlib.Core.Path.{◌≡◌}
+use mathlib.Core.List.{reverse}
+use Prim.Native.Nat.{ℕ, ◌+◌, ◌-◌, ◌<◌}
+use native.Mathlib.Omega.{arith}
+use lib.ListN.{length, replicate, length-replicate}
+use borrow.Author.Rules.{rules}
+use Rattle.search.specs.Inner.{chain_of}
+use Rattle.search.proofs.Ending.{node_chain, begun_sweeps, ends_blocked, ends_found, chain_ready, chain_placed, chain_long, nodes_long}
+use Rattle.search.proofs.Findings.{finds_blocked, finds_schedule}
+use Rattle.search.proofs.search.Goals as goal
+
+pub sweep-count-requires : goal.sweep-count-requires
+sweep-count-requires c = let a = c.args in
+    let f = c.first_row in
+    let e : a.n - 1 + 1 ≡ a.n = omega (arith, c.requires.some_hop) in
+    begun_sweeps a.t a.hops (a.n - 1) f.new.cells _ (rw e c.requires) f.ensures (length-replicate {A = ℕ} 1792 0)
+
+pub returns-then-least-ge-NEVER : goal.returns-then-least-ge-NEVER
+returns-then-least-ge-NEVER c = let a = c.args in
+    let f = c.first_row in
+    let w = c.sweep-count in
+    let b = c.best_end-end in
+    let e : a.n - 1 + 1 ≡ a.n = omega (arith, c.requires.some_hop) in
+    let begun = f.new.cells in
+    let z = begun_sweeps a.t a.hops (a.n - 1) begun (replicate 1792 0) (rw e c.requires) f.ensures (length-replicate {A = ℕ} 1792 0) in
+    let h : length a.hops ≡ 8 = search rules in
+    let l : a.n - 1 < length a.hops = omega (arith, c.requires.some_hop, c.requires.few_hops) in
+    let row = w.new.row in
+    let preds = w.new.preds in
+    finds_blocked a.t a.hops a.n c.requires h w.result
+    (rw e at (ends_blocked a.t a.hops (a.n - 1) begun (replicate 1792 0) z row preds w.result w.ensures b.result.key b.result.place b.ensures l f.ensures c.if-least-ge-NEVER.true))
+
+pub recover-requires : goal.recover-requires
+recover-requires c = let a = c.args in
+    let f = c.first_row in
+    let w = c.sweep-count in
+    let b = c.best_end-end in
+    let e : a.n - 1 + 1 ≡ a.n = omega (arith, c.requires.some_hop) in
+    let begun = f.new.cells in
+    let z = begun_sweeps a.t a.hops (a.n - 1) begun (replicate 1792 0) (rw e c.requires) f.ensures (length-replicate {A = ℕ} 1792 0) in
+    let h : length a.hops ≡ 8 = search rules in
+    let l : a.n - 1 < length a.hops = omega (arith, c.requires.some_hop, c.requires.few_hops) in
+    let row = w.new.row in
+    let preds = w.new.preds in (
+      omega (arith, c.requires.few_hops, c.requires.some_hop),
+      chain_ready a.t a.hops (a.n - 1) begun (replicate 1792 0) z row preds w.result w.ensures b.result.key b.result.place b.ensures l f.ensures c.if-least-ge-NEVER.false,
+      length-replicate {A = ℕ} 8 0,
+    )
+
+pub returns : goal.returns
+returns c = let a = c.args in
+    let f = c.first_row in
+    let w = c.sweep-count in
+    let b = c.best_end-end in
+    let e : a.n - 1 + 1 ≡ a.n = omega (arith, c.requires.some_hop) in
+    let begun = f.new.cells in
+    let z = begun_sweeps a.t a.hops (a.n - 1) begun (replicate 1792 0) (rw e c.requires) f.ensures (length-replicate {A = ℕ} 1792 0) in
+    let h : length a.hops ≡ 8 = search rules in
+    let l : a.n - 1 < length a.hops = omega (arith, c.requires.some_hop, c.requires.few_hops) in
+    let row = w.new.row in
+    let preds = w.new.preds in
+    let low = c.if-least-ge-NEVER.false in
+    let r = c.recover in
+    let parts = c.apart-parts in
+    finds_schedule a.t a.hops a.n c.requires h (reverse (node_chain a.hops preds (a.n - 1) b.result.place)) (reverse (chain_of preds (a.n - 1) b.result.place))
+    r.new.out parts.result.frames parts.result.colours
+    (rw e at (nodes_long a.t a.hops (a.n - 1) begun (replicate 1792 0) z row preds w.result w.ensures b.result.key b.result.place b.ensures l f.ensures))
+    (rw e at (chain_long a.t a.hops (a.n - 1) begun (replicate 1792 0) z row preds w.result w.ensures b.result.key b.result.place b.ensures l f.ensures))
+    (rw e at (chain_placed a.t a.hops (a.n - 1) begun (replicate 1792 0) z row preds w.result w.ensures b.result.key b.result.place b.ensures l f.ensures low))
+    (rw e at r.ensures)
+    parts.ensures
+    b.result.key w.result
+    (rw e at (ends_found a.t a.hops (a.n - 1) begun (replicate 1792 0) z row preds w.result w.ensures b.result.key b.result.place b.ensures l f.ensures low))
