@@ -1,5 +1,7 @@
 // The stored state, and the calls of the program on a state that isn't broken: check 0 has passed, which is what each call's `requires` asks.
 // The crate `sessions` offers these calls on every state, and those that the program doesn't make.
+#![tactic(auto)]
+
 ghost use Rattle.std.specs.Prelude.{◌≡◌, true, ◌≤◌, leb, length};
 ghost use Rattle.places.specs.Places.{firsts};
 ghost use Rattle.refusals.specs.Refusals.{given, pass, ruling};

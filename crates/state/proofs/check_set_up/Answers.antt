@@ -1,0 +1,16 @@
+-- `state::check_set_up` meets its contract. Assumes nothing.
+use mathlib.Core.Path.{refl}
+use Rattle.state.proofs.SetUps.{checked_route, checked_number, checked_places, checked_all, full_told}
+use Rattle.state.proofs.check_set_up.Goals as goal
+
+pub returns-in-Refused : goal.returns-in-Refused
+returns-in-Refused c = checked_route _ _ _ _ _ c.check_route.ensures _ c.in-Refused.is
+
+pub returns-then-live : goal.returns-then-live
+returns-then-live c = checked_number _ _ _ _ _ c.check_route.ensures c.in-Passed.is _ c.is_live-live.ensures c.if-live.true _ refl
+
+pub returns-then-full : goal.returns-then-full
+returns-then-full c = checked_places _ _ _ _ _ c.check_route.ensures c.in-Passed.is _ c.is_live-live.ensures c.if-live.false _ (full_told c.args.table _ c.is_full-full.ensures) c.if-full.true _ refl
+
+pub returns : goal.returns
+returns c = checked_all _ _ _ _ _ c.check_route.ensures c.in-Passed.is _ c.is_live-live.ensures c.if-live.false _ (full_told c.args.table _ c.is_full-full.ensures) c.if-full.false
