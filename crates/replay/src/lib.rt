@@ -1,5 +1,7 @@
 // The state after the calls of call records (document 01, "The program frames"), without the text of their lines.
 // A state is known not to be broken from the fresh network on, so the calls are made on it without check 0.
+#![tactic(auto)]
+
 ghost use Rattle.std.specs.Prelude.{◌≡◌, true, length};
 ghost use Rattle.refusals.specs.Refusals.{given, pass};
 ghost use Rattle.network.specs.Network.{topology_of};

@@ -1,6 +1,8 @@
 // The calls on sessions (document 01, "Calls on sessions"), for every state and every argument: check 0 comes first, and what a call refuses
 // it leaves as it was. The stored sessions stand in the order of set-up. What the rules leave free is what stands in the places of the table past the live
 // sessions and in the places of a stored session past its hops; no answer goes by it (`ArrangementFree`).
+#![tactic(auto)]
+
 ghost use Rattle.std.specs.Prelude.{◌≡◌, true, false, ◌≤◌};
 ghost use Rattle.ledger.specs.Sound.{intact};
 ghost use Rattle.ledger.specs.Calls.{Call, SetUp, Quote};

@@ -1,0 +1,12 @@
+-- `sessions::shown_place` meets its contract. Assumes nothing.
+use borrow.Author.Rules.{rules}
+use mathlib.Core.Path.{◌≡◌}
+use native.Mathlib.Omega.{arith}
+use lib.ListN.{length}
+use Rattle.table.proofs.Eight.{part_filled}
+use Rattle.sessions.proofs.Showing.{place_shown}
+use Rattle.sessions.proofs.shown_place.Goals as goal
+
+pub returns : goal.returns
+returns c = let long : length c.args.place.route ≡ 8 = search rules in
+    place_shown c.args.place _ _ (part_filled c.args.place.hops c.args.place.route _ (omega (arith, c.requires, long)) c.in_eight-route.ensures) c.cleared-held.ensures
