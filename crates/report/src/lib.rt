@@ -1,5 +1,7 @@
 // The run of the program frames (document 01, "The program frames"), from bytes to text: net.bin and the call records in, a line for each call out.
 // A state is known not to be broken from the fresh network on, so the calls are made on it without check 0.
+#![tactic(auto)]
+
 ghost use Rattle.std.specs.Prelude.{◌≡◌, true, ◌+◌, ◌≤◌, length};
 ghost use Rattle.refusals.specs.Refusals.{refusal_number, refusal_count, given, refused};
 ghost use Rattle.ledger.specs.Sound.{intact};
