@@ -1,5 +1,7 @@
 // The functions for callers in other languages, on numbers and slices of numbers. They stand in a crate of their own, so that the static library is built from what is
 // proved already. Each answers a length or a count, or 1,000,000 and the number of the refusal; a refused call leaves every lent buffer as it is.
+#![tactic(auto)]
+
 ghost use Rattle.std.specs.Prelude.{◌≡◌, ◌++◌, ◌+◌, ◌≤◌, min, length, drop};
 ghost use Rattle.places.specs.Places.{firsts};
 ghost use Rattle.places.specs.Put.{put_at};
