@@ -1,5 +1,6 @@
 // The buffer that images are written to. It is filled with one byte first, so that a changed byte shows.
 use super::show;
+use std::io;
 
 // More than the 387 bytes of the longest image.
 pub(super) const ROOM: usize = 400;
@@ -7,15 +8,20 @@ pub(super) const ROOM: usize = 400;
 pub(super) const FILL: u8 = 165;
 
 // Shows whether the buffer, from a place on, is as a file stands in it: the file's bytes, and then what the buffer was filled with.
-pub(super) fn compare(buffer: &[u8; ROOM], from: usize, file: &[u8]) {
+pub(super) fn compare(
+    rt: &HostRuntime,
+    buffer: &[u8; ROOM],
+    from: usize,
+    file: &[u8],
+) -> io::Result<()> {
     let mut i = from;
     while i < ROOM {
         let byte = if i < file.len() { file[i] } else { FILL };
         if buffer[i] != byte {
-            show::text(b"changed");
-            return;
+            show::text(rt, b"changed")?;
+            return Ok(());
         }
         i += 1;
     }
-    show::text(b"same");
+    show::text(rt, b"same")
 }

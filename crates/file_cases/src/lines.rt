@@ -22,8 +22,8 @@ pub(super) fn number(text: &[u8], place: usize, base: u64) -> u64
         if c == b' ' {
             spaces += 1;
         } else if spaces == place {
-            let tens = std::num::wrapping_add_u64(x << 3, x << base);
-            x = std::num::wrapping_add_u64(tens, (c % 16 + 9 * (c / 64 % 2)) as u64);
+            let tens = (x << 3).wrapping_add(x << base);
+            x = tens.wrapping_add((c % 16 + 9 * (c / 64 % 2)) as u64);
         }
         i += 1;
     }

@@ -1,24 +1,23 @@
 // What the lines are made of.
-use libc::STDOUT_FILENO;
 use refusals::Refusal;
+use std::io;
+use std::io::Write;
 
-pub(super) fn text(s: &[u8]) {
-    io::write_all(STDOUT_FILENO, s);
+pub(super) fn text(rt: &HostRuntime, s: &[u8]) -> io::Result<()> {
+    io::writer(rt).write_all(s)
 }
 
 // A number after a space.
-pub(super) fn next(x: u64) {
-    text(b" ");
-    io::print_decimal(STDOUT_FILENO, x);
+pub(super) fn next(rt: &HostRuntime, x: u64) -> io::Result<()> {
+    print!(rt; " {x}")
 }
 
 // A byte in hexadecimal, after a space.
-pub(super) fn byte(x: u8) {
-    text(b" ");
-    io::print_hex(STDOUT_FILENO, x as u64, 2);
+pub(super) fn byte(rt: &HostRuntime, x: u8) -> io::Result<()> {
+    print!(rt; " {x:02x}")
 }
 
-pub(super) fn no(refusal: Refusal) {
-    text(b" no");
-    next(refusals::number(refusal) as u64);
+pub(super) fn no(rt: &HostRuntime, refusal: Refusal) -> io::Result<()> {
+    text(rt, b" no")?;
+    next(rt, refusals::number(refusal) as u64)
 }

@@ -5,6 +5,7 @@ use super::{image, lines, show};
 use network::{Link, Network};
 use network_file::Written;
 use refusals::Verdict;
+use std::io;
 
 // The first bytes of an image that are shown.
 const SHOWN: usize = 16;
@@ -27,55 +28,55 @@ fn link(text: &[u8], place: usize, least: u16) -> Link
 }
 
 // The image's length, and its bytes up to the first ones.
-fn show_bytes(buffer: &[u8; image::ROOM], length: usize) {
-    show::text(b" ok");
-    show::next(length as u64);
-    show::text(b":");
+fn show_bytes(rt: &HostRuntime, buffer: &[u8; image::ROOM], length: usize) -> io::Result<()> {
+    show::text(rt, b" ok")?;
+    show::next(rt, length as u64)?;
+    show::text(rt, b":")?;
     let mut i = 0;
     while i < SHOWN {
         if length <= i {
-            return;
+            return Ok(());
         }
-        show::byte(buffer[i]);
+        show::byte(rt, buffer[i])?;
         i += 1;
     }
-    show::text(b" ..");
+    show::text(rt, b" ..")
 }
 
 // What the writer says, and whether it left the rest of the buffer, or after a refusal all of it, as it was.
-fn show_written(buffer: &[u8; image::ROOM], written: Written) {
+fn show_written(rt: &HostRuntime, buffer: &[u8; image::ROOM], written: Written) -> io::Result<()> {
     let from = match written {
         Written::Refused(refusal) => {
-            show::no(refusal);
-            show::text(b", buffer ");
+            show::no(rt, refusal)?;
+            show::text(rt, b", buffer ")?;
             0
         }
         Written::Length(length) => {
-            show_bytes(buffer, length);
-            show::text(b", rest ");
+            show_bytes(rt, buffer, length)?;
+            show::text(rt, b", rest ")?;
             length
         }
     };
-    image::compare(buffer, from, b"");
+    image::compare(rt, buffer, from, b"")
 }
 
 // A network, and how many of the buffer's first bytes are lent to the writer.
-fn check_and_write(network: Network, room: usize)
+fn check_and_write(rt: &HostRuntime, network: Network, room: usize) -> io::Result<()>
     requires { room ≤ 400 }
 {
-    show::text(b" check");
+    show::text(rt, b" check")?;
     match network::check_network(network) {
-        Verdict::Refused(refusal) => show::no(refusal),
-        Verdict::Passed => show::text(b" passed"),
+        Verdict::Refused(refusal) => show::no(rt, refusal)?,
+        Verdict::Passed => show::text(rt, b" passed")?,
     }
-    show::text(b", write");
+    show::text(rt, b", write")?;
     let mut buffer = [image::FILL; image::ROOM];
     let written = network_file::write_network(network, &mut buffer[0..room]);
-    show_written(&buffer, written);
+    show_written(rt, &buffer, written)
 }
 
 // A network whose values are written in text, with these Y of link 0 and of every other link.
-fn given(text: &[u8], first: u16, others: u16) {
+fn given(rt: &HostRuntime, text: &[u8], first: u16, others: u16) -> io::Result<()> {
     let mut links = [link(text, 7, others); 32];
     links[0] = link(text, 4, first);
     let network = Network {
@@ -84,17 +85,18 @@ fn given(text: &[u8], first: u16, others: u16) {
         links,
     };
     check_and_write(
+        rt,
         network,
         (lines::number(text, 3, lines::DECIMAL) % 401) as usize,
-    );
+    )
 }
 
 // One whose every Y is 1.
-pub(super) fn value(text: &[u8]) {
-    given(text, 1, 1);
+pub(super) fn value(rt: &HostRuntime, text: &[u8]) -> io::Result<()> {
+    given(rt, text, 1, 1)
 }
 
 // One whose Y are written in text, after the other values.
-pub(super) fn least(text: &[u8]) {
-    given(text, short(text, 10), short(text, 11));
+pub(super) fn least(rt: &HostRuntime, text: &[u8]) -> io::Result<()> {
+    given(rt, text, short(text, 10), short(text, 11))
 }

@@ -3,14 +3,16 @@
 // A line has the case as the document writes it, then `ok` with delay, count and frames / cycles, or `no` with the refusal, for 18 also the count; then `ways`
 // with the number of ways, or `no` with the refusal of that call.
 // The expected lines, in the file stdout, are written by hand from the document, the cycles by W-202, the ways by W-203.
+#![tactic(auto)]
+
 ghost use Rattle.std.specs.Prelude.{◌<◌, ◌≤◌};
 
-use bytes::scan;
-use libc::{STDIN_FILENO, STDOUT_FILENO};
 use network::{Link, Network};
 use refusals::{Refusal, Verdict};
 use sessions::Numbered;
 use state::Quoted;
+use std::io;
+use std::io::Write;
 
 // The free frames of a link as a route says them, as a word: those that the braces after its letter name, and all where it has none. `bit` is the word
 // of the frame whose digits, from 48 on, are read.
@@ -18,7 +20,7 @@ fn free_frames(text: &[u8], letter: u8) -> u64 {
     let mut free = u64::MAX;
     let mut frame: u64 = 0;
     let mut bit: u64 = 0;
-    let mut i = scan::find(text, 0, text.len(), letter);
+    let mut i = streams::find(text, 0, text.len(), letter);
     while i < text.len() {
         let c = text[i];
         if c == b' ' {
@@ -66,25 +68,30 @@ fn network(text: &[u8]) -> Network {
     }
 }
 
+// Writes bytes.
+fn text(rt: &HostRuntime, s: &[u8]) -> io::Result<()> {
+    io::writer(rt).write_all(s)
+}
+
 // A number after a space.
-fn next(x: u64) {
-    io::write_all(STDOUT_FILENO, b" ");
-    io::print_decimal(STDOUT_FILENO, x);
+fn next(rt: &HostRuntime, x: u64) -> io::Result<()> {
+    print!(rt; " {x}")
 }
 
 // What the first n of eight places hold: a frame of each hop, or a cycle.
-fn show_places(eight: [u8; 8], n: usize)
+fn show_places(rt: &HostRuntime, eight: [u8; 8], n: usize) -> io::Result<()>
     requires { n ≤ 8 }
 {
     let mut j: usize = 0;
     while j < n {
-        next(eight[j] as u64);
+        next(rt, eight[j] as u64)?;
         j += 1;
     }
+    Ok(())
 }
 
 // The answer to a quote over a route of n hops.
-fn show(answer: Quoted, n: usize)
+fn show(rt: &HostRuntime, answer: Quoted, n: usize) -> io::Result<()>
     requires { n ≤ 8 }
 {
     let verdict = answer.verdict;
@@ -93,44 +100,46 @@ fn show(answer: Quoted, n: usize)
     let cycles = held.cycles;
     match verdict {
         Verdict::Passed => {
-            io::write_all(STDOUT_FILENO, b" ok");
-            next(held.delay.0 as u64);
-            next(answer.count as u64);
-            show_places(frames, n);
-            io::write_all(STDOUT_FILENO, b" /");
-            show_places(cycles, n);
+            text(rt, b" ok")?;
+            next(rt, held.delay.0 as u64)?;
+            next(rt, answer.count as u64)?;
+            show_places(rt, frames, n)?;
+            text(rt, b" /")?;
+            show_places(rt, cycles, n)?;
         }
         Verdict::Refused(refusal) => {
-            io::write_all(STDOUT_FILENO, b" no");
-            next(refusals::number(refusal) as u64);
+            text(rt, b" no")?;
+            next(rt, refusals::number(refusal) as u64)?;
             match refusal {
-                Refusal::NoSchedule(count) => next(count as u64),
+                Refusal::NoSchedule(count) => next(rt, count as u64)?,
                 _ => {}
             }
         }
     }
+    Ok(())
 }
 
 // The number of ways over a route.
-fn show_ways(numbered: Numbered) {
+fn show_ways(rt: &HostRuntime, numbered: Numbered) -> io::Result<()> {
     let verdict = numbered.verdict;
-    io::write_all(STDOUT_FILENO, b" ways");
+    text(rt, b" ways")?;
     match verdict {
-        Verdict::Passed => next(numbered.ways),
+        Verdict::Passed => next(rt, numbered.ways)?,
         Verdict::Refused(refusal) => {
-            io::write_all(STDOUT_FILENO, b" no");
-            next(refusals::number(refusal) as u64);
+            text(rt, b" no")?;
+            next(rt, refusals::number(refusal) as u64)?;
         }
     }
+    Ok(())
 }
 
 // A quote of a route on its fresh network, and the number of ways over it there; A is link 0. No route of the cases has more than 8 links.
-fn quote(text: &[u8]) {
+fn quote(rt: &HostRuntime, text: &[u8]) -> io::Result<()> {
     let mut links = [0u8; 8];
     let mut hops = 0;
     let mut i = 0;
     while i < text.len() {
-        let link = std::num::wrapping_sub_u8(text[i], b'A');
+        let link = text[i].wrapping_sub(b'A');
         if link < 26 {
             links[hops % 8] = link;
             hops = hops % 8 + 1;
@@ -141,27 +150,28 @@ fn quote(text: &[u8]) {
     let route = &links[0..hops];
     let served = sessions::quote(begun.state, route);
     let answer = served.answer;
-    show(answer, hops);
+    show(rt, answer, hops)?;
     let surveyed = sessions::number_of_ways(served.state, route);
     let numbered = surveyed.numbered;
-    show_ways(numbered);
+    show_ways(rt, numbered)
 }
 
 // Every line of standard input: a case has its name up to the colon, and its route from there to the comment.
-fn main() {
-    let mut buffer = io::large_buffer();
-    let n = io::read_full(STDIN_FILENO, &mut buffer);
+fn main(rt: HostRuntime) -> io::Result<()> {
+    let mut buffer = streams::large_buffer();
+    let n = streams::read_full(&mut rt.stdin(), &mut buffer);
     let lines = &buffer[..n];
     let mut from = 0;
     while from < lines.len() {
-        let stop = scan::find(lines, from, lines.len(), b'\n');
-        let end = scan::find(lines, from, stop, b';');
-        let at = scan::find(lines, from, end, b':');
+        let stop = streams::find(lines, from, lines.len(), b'\n');
+        let end = streams::find(lines, from, stop, b';');
+        let at = streams::find(lines, from, end, b':');
         if at < end {
-            io::write_all(STDOUT_FILENO, &lines[from..at + 1]);
-            quote(&lines[at + 1..end]);
-            io::write_all(STDOUT_FILENO, b"\n");
+            text(&rt, &lines[from..at + 1])?;
+            quote(&rt, &lines[at + 1..end])?;
+            text(&rt, b"\n")?;
         }
         from = stop + 1;
     }
+    Ok(())
 }

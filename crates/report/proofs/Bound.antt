@@ -2,7 +2,7 @@
 use mathlib.Core.Path.{◌≡◌, refl, ap, ◌∙◌}
 use mathlib.Core.Bool.{true}
 use mathlib.Core.List.{List, [], ◌∷◌}
-use Prim.Native.Nat.{ℕ, suc, ◌+◌, ◌-◌, ◌*◌, ◌<◌, ◌≤◌, min}
+use Prim.Native.Nat.{ℕ, suc, ◌+◌, ◌*◌, ◌<◌, ◌≤◌, min}
 use native.Mathlib.Nat.{mul-le-mul}
 use native.Mathlib.Omega.{arith}
 use lib.ListN.{length, get_or, take, length-append, length-map, length-take}
@@ -24,7 +24,7 @@ use Rattle.ledger.specs.Held.{Holding, held_over}
 use Rattle.ledger.specs.Sessions.{Session, View, hops_of, hop_of}
 use Rattle.ledger.specs.Routes.{route_check}
 use Rattle.ledger.specs.Sound.{intact}
-use Rattle.ledger.specs.Calls.{Call, links_of, SetUp, Quote, Release, Reply, schedule, freed, refusal, unless, call_check, granted, reply, next}
+use Rattle.ledger.specs.Calls.{Call, links_of, SetUp, Quote, Release, Reply, freed, refusal, unless, call_check, granted, reply, next}
 use Rattle.ledger.specs.Demand.{fresh, LeastOrBlocked, least, no_schedule}
 use Rattle.ledger.proofs.Held.{frames_length, frames_over, cycles_over, delay_over}
 use Rattle.ledger.proofs.Intact.{intact_is, fresh_intact}

@@ -15,13 +15,12 @@ use lib.Seq.{get_or-set_same, get_or-set_other}
 use borrow.Author.Count.{below_more}
 use Rattle.lists.specs.Count.{sum_below, count_below}
 use Rattle.lists.proofs.Count.{sum_bound, count_le}
-use Rattle.lists.proofs.Digits.{digits_back, digits_below, below_first, below_second}
+use Rattle.lists.proofs.Digits.{digits_back, digits_below, below_first}
 use Rattle.trellis.specs.Trellis.{Stage}
 use Rattle.trellis.specs.Paths.{reached}
-use Rattle.trellis.proofs.Survivor.{best_of}
 use Rattle.forwarding.specs.declared.Hop.{Hop}
 use Rattle.forwarding.specs.Route.{nodes, stage}
-use Rattle.search.specs.Inner.{cell_reach, way_of, offers, Within, place_from, place_of, node_in, node_cells, by_node, node_from, Lanes, Nearest, NearRow, NearLane, Offered, low_turn, near_span, Lane, LaneSet, Putting, LanePut, Entering, Landed, counts_into, Coloured, Colouring, Kept}
+use Rattle.search.specs.Inner.{cell_reach, way_of, Within, place_from, place_of, node_in, node_cells, by_node, node_from, NearRow, NearLane, Offered, low_turn, near_span, Lane, LaneSet, Putting, LanePut, Entering, Landed, counts_into, Coloured, Colouring, Kept}
 use Rattle.search.proofs.Placing.{digits_cell, node_digits, place_digits}
 use Rattle.search.proofs.Colours.{with_node, way_node, colour_best, colour_near, colour_count}
 use Rattle.search.proofs.Nearing.{near_none, near_more, near_of, near_fits}

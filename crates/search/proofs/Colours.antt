@@ -5,15 +5,15 @@ use mathlib.Core.Path.{◌≡◌, refl, sym, ◌∙◌, ap, ap₂, subst}
 use mathlib.Core.Bool.{Bool, true, false, ◌&&◌}
 use mathlib.Core.List.{List, [], ◌∷◌}
 use mathlib.Core.Logic.{◌⊎◌, inl, inr}
-use Prim.Native.Nat.{ℕ, zero, suc, ◌+◌, ◌-◌, ◌*◌, ◌/◌, ◌%◌, ◌<◌, ◌≤◌}
+use Prim.Native.Nat.{ℕ, suc, ◌+◌, ◌*◌, ◌/◌, ◌%◌, ◌<◌, ◌≤◌}
 use native.Mathlib.Nat.{add_assoc, one-mul, zero-mul, mul_comm, eq-or-lt_of_le, suc-mul, mul-le-mul_right}
 use native.Mathlib.Decide.{dec_lt}
 use native.Mathlib.Omega.{arith}
 use lib.ListN.{get_or}
 use Rattle.lists.specs.Count.{one_if, sum_below, count_below}
 use Rattle.lists.specs.Order.{Precedes}
-use Rattle.lists.proofs.Count.{sum_cong, sum_const, and_both, both_and}
-use Rattle.lists.proofs.Sums.{sum_times, sum_zero, sum_pairs}
+use Rattle.lists.proofs.Count.{sum_cong, and_both, both_and}
+use Rattle.lists.proofs.Sums.{sum_times, sum_pairs}
 use Rattle.lists.proofs.Digits.{digit_first, digit_second, digits_back, digits_below, below_first, below_second}
 use Rattle.trellis.specs.Trellis.{Reach, Stage}
 use Rattle.trellis.specs.Paths.{reached}

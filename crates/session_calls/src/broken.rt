@@ -7,6 +7,7 @@ use super::{calls, lines, same, show};
 use forwarding::Held;
 use network::Network;
 use state::State;
+use std::io;
 use table::{Place, Table};
 
 // A network with a new number of links, T, or K, Z, Y or closed frames of a link.
@@ -90,28 +91,28 @@ fn with_change(st: State, line: &[u8], k: usize) -> State
 }
 
 // A state built by hand, by one change, in place of a state; whether the comparison tells the two apart.
-pub(super) fn put(st: State, line: &[u8]) -> State {
+pub(super) fn put(rt: &HostRuntime, st: State, line: &[u8]) -> io::Result<State> {
     let next = with_change(st, line, 1);
-    show::text(b" live");
-    show::next(next.table.live as u64);
-    show::kept(same::state(st, next));
-    next
+    show::text(rt, b" live")?;
+    show::next(rt, next.table.live as u64)?;
+    show::kept(rt, same::state(st, next))?;
+    Ok(next)
 }
 
 // A state built by hand, by one change or two, and handed to six calls, each on what the one before returned; whether all of it is as it was after them,
 // and it isn't the state that was changed. The state itself stays.
-pub(super) fn case(st: State, line: &[u8]) -> State {
+pub(super) fn case(rt: &HostRuntime, st: State, line: &[u8]) -> io::Result<State> {
     let one = [0u8; 1];
     let route: &[u8] = &one;
     let built = with_change(with_change(st, line, 1), line, 5);
-    let first = calls::served(built, 9, route, false);
-    let second = calls::served(first, 9, route, true);
-    let third = calls::number_call(second, b'R', 5);
-    let fourth = calls::number_call(third, b'L', 5);
-    let fifth = calls::number_call(fourth, b'F', 0);
-    let sixth = calls::surveyed(fifth, route);
+    let first = calls::served(rt, built, 9, route, false)?;
+    let second = calls::served(rt, first, 9, route, true)?;
+    let third = calls::number_call(rt, second, b'R', 5)?;
+    let fourth = calls::number_call(rt, third, b'L', 5)?;
+    let fifth = calls::number_call(rt, fourth, b'F', 0)?;
+    let sixth = calls::surveyed(rt, fifth, route)?;
     let kept = same::state(built, sixth);
     let other = !same::state(built, st);
-    show::kept(kept & other);
-    st
+    show::kept(rt, kept & other)?;
+    Ok(st)
 }

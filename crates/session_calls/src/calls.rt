@@ -2,11 +2,11 @@
 ghost use Rattle.std.specs.Prelude.{◌<◌, ◌≤◌};
 
 use super::{broken, lines, same, show};
-use bytes::scan;
 use network::{Link, Network};
 use refusals::Verdict;
 use sessions::Begun;
 use state::{Released, State};
+use std::io;
 
 // The link whose values are the words from word k on: K, Z, closed frames and, where a link has four words, Y; where it has three, Y is 1.
 fn link_at(line: &[u8], k: usize, many: usize) -> Link
@@ -46,45 +46,51 @@ fn begin(line: &[u8], many: usize) -> Begun
 }
 
 // The same state, and what the network's checks say.
-fn fresh(line: &[u8], many: usize) -> State
+fn fresh(rt: &HostRuntime, line: &[u8], many: usize) -> io::Result<State>
     requires { (0 < many) × (many ≤ 4) }
 {
     let begun = begin(line, many);
     let verdict = begun.verdict;
-    show::verdict(verdict);
-    begun.state
+    show::verdict(rt, verdict)?;
+    Ok(begun.state)
 }
 
 // A set-up, or a quote, which never changes a state.
-pub(super) fn served(st: State, number: u32, route: &[u8], quotes: bool) -> State {
+pub(super) fn served(
+    rt: &HostRuntime,
+    st: State,
+    number: u32,
+    route: &[u8],
+    quotes: bool,
+) -> io::Result<State> {
     let served = if quotes {
         sessions::quote(st, route)
     } else {
         sessions::set_up(st, number, route)
     };
     let answer = served.answer;
-    show::answer(answer, route.len());
+    show::answer(rt, answer, route.len())?;
     let verdict = answer.verdict;
     let same = if quotes {
         same::state(st, served.state)
     } else {
         same::after(verdict, st, served.state)
     };
-    show::after(same);
-    served.state
+    show::after(rt, same)?;
+    Ok(served.state)
 }
 
 // The number of ways over a route, a call which never changes a state.
-pub(super) fn surveyed(st: State, route: &[u8]) -> State {
+pub(super) fn surveyed(rt: &HostRuntime, st: State, route: &[u8]) -> io::Result<State> {
     let surveyed = sessions::number_of_ways(st, route);
     let numbered = surveyed.numbered;
-    show::numbered(numbered);
-    show::after(same::state(st, surveyed.state));
-    surveyed.state
+    show::numbered(rt, numbered)?;
+    show::after(rt, same::state(st, surveyed.state))?;
+    Ok(surveyed.state)
 }
 
 // A set-up, a quote or the number of ways, by its letter, over the route that stands after k words. No line has a route of more than 40 links.
-fn route_call(st: State, line: &[u8], k: usize, letter: u8) -> State
+fn route_call(rt: &HostRuntime, st: State, line: &[u8], k: usize, letter: u8) -> io::Result<State>
     requires { k ≤ 2 }
 {
     let mut links = [0u8; 40];
@@ -93,12 +99,13 @@ fn route_call(st: State, line: &[u8], k: usize, letter: u8) -> State
         links[i] = lines::byte(lines::number(line, k + i));
         i += 1;
     }
-    let n = std::num::wrapping_sub_usize(lines::words(line), k) % 41;
+    let n = lines::words(line).wrapping_sub(k) % 41;
     let route = &links[..n];
     if letter == b'H' {
-        return surveyed(st, route);
+        return surveyed(rt, st, route);
     }
     served(
+        rt,
         st,
         lines::session_number(lines::number(line, 1)),
         route,
@@ -107,37 +114,37 @@ fn route_call(st: State, line: &[u8], k: usize, letter: u8) -> State
 }
 
 // A release, a lookup or the free frames of a link, by its letter; the last two never change a state. Any other letter leaves the state.
-pub(super) fn number_call(st: State, letter: u8, x: usize) -> State {
+pub(super) fn number_call(rt: &HostRuntime, st: State, letter: u8, x: usize) -> io::Result<State> {
     match letter {
         b'R' => {
             let released = sessions::release(st, lines::session_number(x));
             let verdict = released.verdict;
-            show::verdict(verdict);
-            show::after(same::after(verdict, st, released.state));
-            released.state
+            show::verdict(rt, verdict)?;
+            show::after(rt, same::after(verdict, st, released.state))?;
+            Ok(released.state)
         }
         b'L' | b'E' => {
             let looked = sessions::lookup(st, lines::session_number(x));
             let shown = looked.shown;
-            show::session(shown, letter);
-            show::after(same::state(st, looked.state));
-            looked.state
+            show::session(rt, shown, letter)?;
+            show::after(rt, same::state(st, looked.state))?;
+            Ok(looked.state)
         }
         b'F' => {
             let tallied = sessions::free_frames(st, lines::byte(x));
             let counted = tallied.counted;
-            show::counted(counted);
-            show::after(same::state(st, tallied.state));
-            tallied.state
+            show::counted(rt, counted)?;
+            show::after(rt, same::state(st, tallied.state))?;
+            Ok(tallied.state)
         }
-        _ => st,
+        _ => Ok(st),
     }
 }
 
 // One more accepted call, if the verdict is no refusal.
 fn with_verdict(accepted: u64, verdict: Verdict) -> u64 {
     match verdict {
-        Verdict::Passed => std::num::wrapping_add_u64(accepted, 1),
+        Verdict::Passed => accepted.wrapping_add(1),
         Verdict::Refused(_) => accepted,
     }
 }
@@ -156,7 +163,7 @@ fn set_up_or_release(st: State, number: u32, route: &[u8], sets_up: bool) -> Rel
 
 // A set-up over one link, or a release, for each number from one to before another, and how many of them were accepted. The state is compared
 // after each of them.
-fn many(st: State, line: &[u8], sets_up: bool) -> State {
+fn many(rt: &HostRuntime, st: State, line: &[u8], sets_up: bool) -> io::Result<State> {
     let one = [lines::byte(lines::number(line, 3)); 1];
     let route: &[u8] = &one;
     let to = lines::session_number(lines::number(line, 2));
@@ -172,43 +179,48 @@ fn many(st: State, line: &[u8], sets_up: bool) -> State {
         next = done.state;
         number += 1;
     }
-    show::verdict(Verdict::Passed);
-    show::next(accepted);
-    show::after(same);
-    next
+    show::verdict(rt, Verdict::Passed)?;
+    show::next(rt, accepted)?;
+    show::after(rt, same)?;
+    Ok(next)
 }
 
 // The call of a line. A line with a colon, whose words begin there, is a state built by hand.
-fn call(st: State, line: &[u8]) -> State {
+fn call(rt: &HostRuntime, st: State, line: &[u8]) -> io::Result<State> {
     let letter = lines::byte(lines::number(line, 0));
     match letter {
-        b'N' => fresh(line, 3),
-        b'Y' => fresh(line, 4),
-        b'S' => route_call(st, line, 2, letter),
-        b'Q' | b'H' => route_call(st, line, 1, letter),
-        b'M' => many(st, line, true),
-        b'D' => many(st, line, false),
+        b'N' => fresh(rt, line, 3),
+        b'Y' => fresh(rt, line, 4),
+        b'S' => route_call(rt, st, line, 2, letter),
+        b'Q' | b'H' => route_call(rt, st, line, 1, letter),
+        b'M' => many(rt, st, line, true),
+        b'D' => many(rt, st, line, false),
         b'W' => {
             let all = [0u8; 200];
             let route: &[u8] = &all;
-            surveyed(served(served(st, 5, route, false), 5, route, true), route)
+            surveyed(
+                rt,
+                served(rt, served(rt, st, 5, route, false)?, 5, route, true)?,
+                route,
+            )
         }
-        b'P' => broken::put(st, line),
-        b':' => broken::case(st, line),
-        _ => number_call(st, letter, lines::number(line, 1)),
+        b'P' => broken::put(rt, st, line),
+        b':' => broken::case(rt, st, line),
+        _ => number_call(rt, st, letter, lines::number(line, 1)),
     }
 }
 
 // The lines of a text, each on the state that the one before it left. The first network is of no account: a line tells another.
-pub(super) fn run(text: &[u8]) {
+pub(super) fn run(rt: &HostRuntime, text: &[u8]) -> io::Result<()> {
     let begun = begin(text, 3);
     let mut st = begun.state;
     let mut from = 0;
     while from < text.len() {
-        let end = scan::find(text, from, text.len(), b'\n');
+        let end = streams::find(text, from, text.len(), b'\n');
         let line = &text[from..end];
-        st = call(st, show::said(line));
-        show::end(line);
+        st = call(rt, st, show::said(rt, line)?)?;
+        show::end(rt, line)?;
         from = end + 1;
     }
+    Ok(())
 }

@@ -3,7 +3,7 @@
 // A word's value with one character more: of a number its value, of another word its first letter. The remainder changes no number of 64 bits.
 fn more(x: usize, c: u8) -> usize {
     if c < b':' {
-        return std::num::wrapping_add_usize(x % 1844674407370955162 * 10, (c % 16) as usize);
+        return (x % 1844674407370955162 * 10).wrapping_add((c % 16) as usize);
     }
     if x == 0 { c as usize } else { x }
 }
@@ -15,7 +15,7 @@ pub(super) fn number(line: &[u8], k: usize) -> usize {
     let mut i = 0;
     while i < line.len() {
         let c = line[i];
-        passed = std::num::wrapping_add_usize(passed, (c == b' ') as usize);
+        passed = passed.wrapping_add((c == b' ') as usize);
         if passed == k {
             x = more(x, c);
         }
@@ -29,7 +29,7 @@ pub(super) fn words(line: &[u8]) -> usize {
     let mut n: usize = 1;
     let mut i = 0;
     while i < line.len() {
-        n = std::num::wrapping_add_usize(n, (line[i] == b' ') as usize);
+        n = n.wrapping_add((line[i] == b' ') as usize);
         i += 1;
     }
     n

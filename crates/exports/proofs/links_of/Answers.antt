@@ -1,4 +1,3 @@
-use Prim.Native.Nat.{◌-◌}
 use Rattle.exports.proofs.Values.{none_filled, one_filled, all_filled}
 use Rattle.exports.proofs.links_of.Goals as goal
 

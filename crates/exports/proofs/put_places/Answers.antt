@@ -1,4 +1,3 @@
-use Prim.Native.Nat.{◌-◌}
 use Rattle.exports.proofs.Numbers.{none_stand, one_stands, all_stand}
 use Rattle.exports.proofs.put_places.Goals as goal
 

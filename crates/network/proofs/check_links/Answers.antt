@@ -1,4 +1,3 @@
-use Prim.Native.Nat.{◌-◌}
 use Rattle.network.proofs.Checks.{one_refused, one_passed, all_passed}
 use Rattle.network.proofs.check_links.Goals as goal
 

@@ -1,4 +1,3 @@
-use Prim.Native.Nat.{◌-◌}
 use native.Mathlib.Omega.{arith}
 use Rattle.places.proofs.Pieces.{one_measured, all_measured}
 use Rattle.network_file.proofs.Images.{links_pieces}

@@ -1,5 +1,4 @@
 use mathlib.Core.Path.{refl}
-use Prim.Native.Nat.{◌-◌}
 use native.Mathlib.Omega.{arith}
 use Rattle.network_file.proofs.Files.{one_refused, used_room, one_gone, bytes_follow, all_gone}
 use Rattle.network_file.proofs.read_links.Goals as goal

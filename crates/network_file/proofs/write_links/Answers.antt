@@ -1,4 +1,3 @@
-use Prim.Native.Nat.{◌-◌}
 use Rattle.places.proofs.Pieces.{none_placed, part_room, one_lent, all_placed}
 use Rattle.network_file.proofs.Images.{links_pieces}
 use Rattle.network_file.proofs.write_links.Goals as goal

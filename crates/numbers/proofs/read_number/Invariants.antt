@@ -1,5 +1,4 @@
 -- `word::read_number` meets its contract: from the last byte down, the number read so far is that of the bytes from i on.
-use Prim.Native.Nat.{◌-◌}
 use Rattle.numbers.proofs.Loops.{Got}
 use Rattle.numbers.proofs.read_number.Given as goal
 

@@ -1,4 +1,3 @@
-use Prim.Native.Nat.{◌-◌}
 use Rattle.numbers.proofs.Loops.{put_more, put_all}
 use Rattle.numbers.proofs.write_number.Goals as goal
 

@@ -1,4 +1,3 @@
-use Prim.Native.Nat.{◌-◌}
 use Rattle.records.proofs.Pieces.{one_mapped, all_mapped}
 use Rattle.records.proofs.Layouts.{laid_at}
 use Rattle.records.proofs.map_of.Goals as goal

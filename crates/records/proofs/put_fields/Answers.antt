@@ -1,4 +1,3 @@
-use Prim.Native.Nat.{◌-◌}
 use Rattle.places.proofs.Pieces.{none_placed, piece_room, one_placed, all_placed}
 use Rattle.records.proofs.Pieces.{fields_pieces}
 use Rattle.records.proofs.put_fields.Goals as goal

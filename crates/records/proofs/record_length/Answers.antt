@@ -1,4 +1,3 @@
-use Prim.Native.Nat.{◌-◌}
 use native.Mathlib.Omega.{arith}
 use Rattle.places.proofs.Pieces.{one_measured, all_measured}
 use Rattle.records.proofs.Pieces.{fields_pieces, field_small, record_measured}

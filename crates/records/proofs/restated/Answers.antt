@@ -1,4 +1,3 @@
-use Prim.Native.Nat.{◌-◌}
 use Rattle.records.proofs.Turns.{one_restated, one_unstated, all_unstated}
 use Rattle.records.proofs.Layouts.{laid_at}
 use Rattle.records.proofs.restated.Goals as goal

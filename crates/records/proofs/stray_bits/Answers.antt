@@ -1,4 +1,3 @@
-use Prim.Native.Nat.{◌-◌}
 use native.Mathlib.Omega.{arith}
 use Rattle.records.proofs.Layouts.{laid_at}
 use Rattle.records.proofs.Turns.{one_cleared, all_cleared}

@@ -1,5 +1,4 @@
 use mathlib.Core.List.{[]}
-use Prim.Native.Nat.{◌-◌}
 use native.Mathlib.Omega.{arith}
 use Rattle.places.proofs.Firsts.{firsts_filled}
 use Rattle.records.proofs.Turns.{none_taken, at_room, part_room, one_taken, all_taken}

@@ -1,5 +1,4 @@
 use native.Mathlib.Omega.{arith}
-use Prim.Native.Nat.{◌-◌}
 use Rattle.call_records.specs.Records.{calls_in}
 use Rattle.call_records.specs.Served.{view_after_all}
 use Rattle.call_records.proofs.Calls.{record_within_lem, next_within}

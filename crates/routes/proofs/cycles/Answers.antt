@@ -1,4 +1,3 @@
-use Prim.Native.Nat.{◌-◌}
 use Rattle.routes.proofs.HopCycles.{first_cycle, one_cycle, all_cycles}
 use Rattle.routes.proofs.cycles.Goals as goal
 

@@ -1,4 +1,3 @@
-use Prim.Native.Nat.{◌-◌}
 use native.Mathlib.Omega.{arith}
 use Rattle.routes.proofs.Hops.{none_filled, colour_in, one_filled}
 use Rattle.routes.proofs.free_words.Goals as goal

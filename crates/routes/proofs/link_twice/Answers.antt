@@ -1,4 +1,3 @@
-use Prim.Native.Nat.{◌-◌}
 use lib.Dec.{eqb}
 use Rattle.ledger.specs.Routes.{link_twice}
 use Rattle.routes.proofs.Sought.{here_again, nowhere_again}

@@ -1,4 +1,4 @@
-use Prim.Native.Nat.{ℕ, ◌-◌}
+use Prim.Native.Nat.{ℕ}
 use Rattle.ledger.specs.Routes.{unknown}
 use Rattle.routes.proofs.Tests.{not_known, known}
 use Rattle.routes.proofs.Sought.{here, not_here}

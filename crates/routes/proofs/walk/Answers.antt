@@ -1,4 +1,3 @@
-use Prim.Native.Nat.{◌-◌}
 use native.Mathlib.Omega.{arith}
 use Rattle.routes.proofs.Walks.{first_unfit, first_along, no_step, step_small, one_step, all_steps}
 use Rattle.routes.proofs.walk.Goals as goal

@@ -1,4 +1,3 @@
-use Prim.Native.Nat.{◌-◌}
 use Rattle.state_check.proofs.Sessions.{one_bad, one_good, all_good}
 use Rattle.state_check.proofs.good_sessions.Goals as goal
 

@@ -1,4 +1,3 @@
-use Prim.Native.Nat.{◌-◌}
 use Rattle.state_check.proofs.Same.{one_differs, one_same, all_same}
 use Rattle.state_check.proofs.same_places.Goals as goal
 

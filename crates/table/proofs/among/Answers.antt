@@ -1,4 +1,3 @@
-use Prim.Native.Nat.{◌-◌}
 use native.Mathlib.Omega.{arith}
 use Rattle.table.proofs.Numbers.{none_met, one_met}
 use Rattle.table.proofs.among.Goals as goal

@@ -1,5 +1,4 @@
 use mathlib.Core.Path.{◌∙◌}
-use Prim.Native.Nat.{◌-◌}
 use Rattle.table.proofs.Holding.{held_none, held_more, met_shares, frames_rule}
 use Rattle.table.proofs.Twice.{none_yet, two_found, two_missed, two_none}
 use Rattle.table.proofs.frame_twice.Goals as goal

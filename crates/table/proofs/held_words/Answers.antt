@@ -1,4 +1,3 @@
-use Prim.Native.Nat.{◌-◌}
 use native.Mathlib.Omega.{arith}
 use Rattle.table.proofs.Holding.{held_none, held_more}
 use Rattle.table.proofs.held_words.Goals as goal

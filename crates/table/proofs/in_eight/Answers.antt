@@ -1,4 +1,3 @@
-use Prim.Native.Nat.{◌-◌}
 use native.Mathlib.Omega.{arith}
 use Rattle.table.proofs.Eight.{none_filled, one_filled, all_filled}
 use Rattle.table.proofs.in_eight.Goals as goal

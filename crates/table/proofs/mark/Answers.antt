@@ -1,4 +1,3 @@
-use Prim.Native.Nat.{◌-◌}
 use Rattle.table.proofs.Marks.{no_hop_lem, one_hop, all_hops}
 use Rattle.table.proofs.mark.Goals as goal
 

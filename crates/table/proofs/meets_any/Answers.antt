@@ -1,4 +1,3 @@
-use Prim.Native.Nat.{◌-◌}
 use lib.ListN.{get_or}
 use Rattle.table.proofs.Marks.{met, unmet, unmet_all, marked_told}
 use Rattle.table.proofs.meets_any.Goals as goal

@@ -1,5 +1,4 @@
 use mathlib.Core.Path.{◌∙◌}
-use Prim.Native.Nat.{◌-◌}
 use native.Mathlib.Omega.{arith}
 use Rattle.table.proofs.Twice.{none_yet, two_found, two_missed, two_none}
 use Rattle.table.proofs.Numbers.{none_numbered, one_numbered, number_met, numbers_rule}

@@ -1,4 +1,3 @@
-use Prim.Native.Nat.{◌-◌}
 use Rattle.table.proofs.Tables.{here, not_here, nowhere}
 use Rattle.table.proofs.place_of.Goals as goal
 

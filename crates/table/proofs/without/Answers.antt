@@ -1,5 +1,5 @@
 use mathlib.Core.Path.{sym, subst₂}
-use Prim.Native.Nat.{ℕ, ◌-◌, ◌+◌}
+use Prim.Native.Nat.{ℕ, ◌+◌}
 use Rattle.table.specs.declared.Table.{Table}
 use Rattle.table.proofs.Tables.{Left, none_left, kept_one, left_one}
 use Rattle.table.proofs.without.Goals as goal

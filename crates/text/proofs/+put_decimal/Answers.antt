@@ -1,5 +1,5 @@
 use native.Mathlib.Omega.{arith}
-use Rattle.text.proofs.Digits.{room_small, put_small, room_less, room_last, put_more, same_more}
+use Rattle.text.proofs.Digits.{room_small, put_small, room_less, room_last, put_more}
 use Rattle.text.proofs.+put_decimal.Goals as goal
 
 pub bounds-out-at : goal.bounds-out-at

@@ -1,4 +1,3 @@
-use Prim.Native.Nat.{◌-◌}
 use Rattle.places.proofs.Pieces.{none_placed, piece_room, one_placed, all_placed}
 use Rattle.text.proofs.Pieces.{spaced_pieces}
 use Rattle.text.proofs.put_all.Goals as goal

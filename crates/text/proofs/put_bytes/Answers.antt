@@ -1,4 +1,3 @@
-use Prim.Native.Nat.{◌-◌}
 use Rattle.places.proofs.Pieces.{none_placed, one_placed}
 use Rattle.text.proofs.Pieces.{bytes_pieces}
 use Rattle.text.proofs.put_bytes.Goals as goal

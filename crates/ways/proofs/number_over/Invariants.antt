@@ -1,6 +1,6 @@
 -- `ways::number_over` meets its contract. The invariant: the row has the ways on from each frame of
 -- hop j. Assumes nothing.
-use Prim.Native.Nat.{◌-◌, ◌<◌}
+use Prim.Native.Nat.{◌<◌}
 use Rattle.ways.proofs.Hops.{Counts}
 use Rattle.ways.proofs.number_over.Given as goal
 

@@ -1,4 +1,4 @@
-use Prim.Native.Nat.{◌+◌, ◌-◌}
+use Prim.Native.Nat.{◌+◌}
 use native.Mathlib.Nat.{mod-lt}
 use lib.ListN.{get_or}
 use native.Mathlib.Omega.{arith}
