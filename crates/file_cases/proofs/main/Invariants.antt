@@ -3,7 +3,7 @@ use Rattle.std.proofs.Common.{◌+◌, ◌-◌, ◌≤◌, length}
 use Rattle.file_cases.proofs.main.Given as goal
 
 abbrev pub invariant-loop-from : goal.invariant-loop-from
-invariant-loop-from l = l.initial.from ≤ length l.n + 1
+invariant-loop-from l = l.from ≤ length l.text + 1
 
 abbrev pub decreases-loop-from : goal.decreases-loop-from
-decreases-loop-from l = length l.n + 1 - l.initial.from
+decreases-loop-from l = length l.text + 1 - l.from
