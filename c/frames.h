@@ -1,6 +1,6 @@
 /*
  * Reservation of time frames by the rules of document 01 and of the change requests that have landed, for C and C++: the
- * functions of the static library target/staticlib/libexports.a, which `rt staticlib exports` builds. A program is linked so:
+ * functions of the static library target/staticlib/libexports.a, which `c/library` builds. A program is linked so:
  *
  *     cc -Ic program.c target/staticlib/libexports.a
  *

@@ -1,7 +1,7 @@
 """Reservation of time frames by the rules of document 01 and of the change requests that have landed, for Python: the functions
 of the library by ctypes, with no package.
 
-The shared library is made of the static one, which `rt staticlib exports` builds; its code may stand at any address:
+The shared library is made of the static one, which `c/library` builds; its code may stand at any address:
 
     gcc -shared -o target/staticlib/libframes.so -Wl,--whole-archive target/staticlib/libexports.a -Wl,--no-whole-archive
 
