@@ -270,7 +270,7 @@ fn write_passed(network: Network, buffer: &mut [u8]) -> Written
 }
 
 // A network's file at the start of a buffer, and its length. A refused call leaves the buffer as it is. A buffer of 387 bytes serves for every
-// network (`image-bound`).
+// network (`image_bound`).
 pub fn write_network(network: Network, buffer: &mut [u8]) -> Written
     ensures { Writes (write_network (topology_of network) (length buffer.old)) buffer.old buffer.new result }
 {

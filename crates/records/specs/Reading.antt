@@ -1,7 +1,7 @@
 -- Reading a record of any layout: refusals 4, 5 and 6, or the fields and the length used. Assumes nothing.
 use Rattle.std.specs.Prelude.{◌≡◌, Bool, false, not, ◌&&◌, ◌||◌, cond, List, [], ◌∷◌, ℕ, ◌+◌, eqb, ltb, length, get_or, drop}
 use Rattle.places.specs.Places.{firsts}
-use Rattle.refusals.specs.Refusals.{Outcome, given, refuse_if, refused_or, ruling, ruling_of, given_or}
+use Rattle.refusals.specs.Refusals.{Outcome, given, refused, refuse_if, refused_or, ruling, ruling_of, given_or}
 use Rattle.refusals.specs.declared.Verdict.TheVariants.{Refused}
 use Rattle.refusals.specs.declared.Refusal.{Refusal}
 use Rattle.numbers.specs.Numbers.{number_in}

@@ -187,7 +187,7 @@ fn write_text(file: &[u8], calls: &[u8], out: &mut [u8]) -> usize
 }
 
 // The run of the program frames: the text at the start of a buffer, and its length. A buffer below 22 bytes and 11 for each call byte that counts, which serve
-// for every text (`text-bound`), is refused with 20 before any call is made, and left as it is.
+// for every text (`text_bound_lem`), is refused with 20 before any call is made, and left as it is.
 pub fn report(file: &[u8], calls: &[u8], out: &mut [u8]) -> Written
     ensures { Reports file.now calls.now out.old out.new result }
 {
