@@ -78,7 +78,7 @@ module _ (s : List ℕ) (r : Record) where
   unfolding read_record
   kind_read kind k e = e ∙ rw k
 
-  -- a set_up and a release, with the number in two bytes or in four
+  -- a set-up and a release, with the number in two bytes or in four
   module _ (width : ℕ) (w : width ≡ number_bytes (get_or s 0 0)) where
     pub set_up_read : (get_or s 0 0 ≡ 1) ⊎ (get_or s 0 0 ≡ 4) → r ≡ routed_record SetUp width s → r ≡ read_record s
     unfolding record_by number_bytes

@@ -34,7 +34,7 @@ record_releases : (v : View) (u : Width) (n : ℕ) (after : List ℕ) → Fits u
 record_releases v u n after h e = ap (λ (x : CallSaid). answer_to v x.call) (records_say u n [] after h).1 ∙ e
 
 module _ (v : View) (n : ℕ) (route : List ℕ) where
-  -- an accepted set_up: the state isn't broken, and its number is live after it
+  -- an accepted set-up: the state isn't broken, and its number is live after it
   entered : (r : Reply) → reply v (SetUp n route) ≡ r → has_schedule r ≡ true → (intact v ≡ true) × (is_live n (next v (SetUp n route)).live ≡ true)
   unfolding next left
   entered (schedule held count) e h =

@@ -15,7 +15,7 @@ record_within kind width start end s =
 unfoldable pub routed_record : Kind → ℕ → List ℕ → Record
 routed_record kind width s = record_within kind width (2 + width) (2 + width + get_or s (1 + width) 0) s
 
--- how many bytes the number of a set_up or of a release has, by its kind; it is asked of no other kind
+-- how many bytes the number of a set-up or of a release has, by its kind; it is asked of no other kind
 unfoldable pub number_bytes : ℕ → ℕ
 number_bytes kind = cond (ltb kind 4) 2 4
 

@@ -22,7 +22,7 @@ unfoldable pub with_route : (List ℕ → Call) → List ℕ → CallSaid
 with_route call [] = unreadable
 with_route call (n ∷ s) = cond (ltb (length s) n) unreadable (record { call = given (call (take n s)); rest = drop n s })
 
--- "set_up (number in two bytes low first, route length, route)", from the number on, for a number in so many bytes
+-- "set-up (number in two bytes low first, route length, route)", from the number on, for a number in so many bytes
 unfoldable pub set_up_said : ℕ → List ℕ → CallSaid
 set_up_said width s = with_number width (λ n. with_route (SetUp n)) s
 
@@ -34,7 +34,7 @@ quote_said s = with_route Quote s
 unfoldable pub release_said : ℕ → List ℕ → CallSaid
 release_said width s = with_number width (λ n rest. record { call = given (Release n); rest = rest }) s
 
--- WHAT THE RECORD AT THE START OF SOME CALL BYTES SAYS, by its kind: "01 set_up", "02 quote", "03 release"; W-205: "Call kinds 04 and 05 are set_up and release with
+-- WHAT THE RECORD AT THE START OF SOME CALL BYTES SAYS, by its kind: "01 set-up", "02 quote", "03 release"; W-205: "Call kinds 04 and 05 are set-up and release with
 -- the number in four bytes, low first; 01 and 03 remain"; a kind that is added later stands here
 unfoldable pub first_call : List ℕ → CallSaid
 first_call [] = unreadable

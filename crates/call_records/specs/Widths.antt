@@ -22,7 +22,7 @@ bytes_for long = 4
 abbrev pub Fits : Width → ℕ → Type 0
 Fits w n = n < 2 ^ (8 * bytes_for w)
 
--- "01 set_up"; W-205: "Call kinds 04 and 05 are set_up and release"
+-- "01 set-up"; W-205: "Call kinds 04 and 05 are set-up and release"
 abbrev pub set_up_kind : Width → ℕ
 set_up_kind short = 1
 set_up_kind long = 4
@@ -32,7 +32,7 @@ abbrev pub release_kind : Width → ℕ
 release_kind short = 3
 release_kind long = 5
 
--- the bytes of a set_up over a route of up to 255 links: its kind, "number ..., route length, route"
+-- the bytes of a set-up over a route of up to 255 links: its kind, "number ..., route length, route"
 abbrev pub set_up_record : Width → ℕ → List ℕ → List ℕ
 set_up_record w n route = set_up_kind w ∷ (bytes_of (bytes_for w) n ++ (length route ∷ route))
 
@@ -67,7 +67,7 @@ NumbersFit = (s : List ℕ) → IsBytes s
     × NumberFits short (first_call (1 ∷ s)).call
     × NumberFits short (first_call (3 ∷ s)).call
 
--- the bytes of a set_up, of the release of its number, and others
+-- the bytes of a set-up, of the release of its number, and others
 abbrev pub set_up_then_release : Width → Width → ℕ → List ℕ → List ℕ → List ℕ
 set_up_then_release w u n route rest = set_up_record w n route ++ (release_record u n ++ rest)
 

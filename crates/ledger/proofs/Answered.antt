@@ -27,7 +27,7 @@ pub reply_intact : (v : View) (call : Call) → intact v ≡ true → reply v ca
 unfolding reply
 reply_intact v call e = rw e
 
--- what a set_up shows that no check refused
+-- what a set-up shows that no check refused
 pub record Admitted (net : Topology) (ss : List Session) (n : ℕ) (route : List ℕ) : Type 0 where
   pub passed : route_check net route ≡ given pass
   pub unused : is_live n ss ≡ false

@@ -1,4 +1,4 @@
--- The ledger's entries: an entry stands in it just when a set_up that entered it was accepted, and no later release of its number. Assumes nothing.
+-- The ledger's entries: an entry stands in it just when a set-up that entered it was accepted, and no later release of its number. Assumes nothing.
 use mathlib.Core.Path.{◌≡◌, refl, sym, ap}
 use mathlib.Core.Logic.{◌⊎◌, inl, inr, ⊎_elim}
 use mathlib.Core.Bool.{false, not}
@@ -14,7 +14,7 @@ use Rattle.ledger.specs.Calls.{Call, SetUp, Quote, Release, Reply, schedule, fre
 use Rattle.ledger.specs.Ledger.{AnsweredCall, did, accepted_release_of, ledger_from, ledger}
 use Rattle.ledger.proofs.Lists.{neither_or, kept_member, member_kept}
 
--- ---- one step: a session after it stood before it, and its number was not released, or the step was the set_up that entered it
+-- ---- one step: a session after it stood before it, and its number was not released, or the step was the set-up that entered it
 struck_others : (n : ℕ) (ss : List Session) (e : Session) → Memᴰ e (keep (other_than n) ss) → Memᴰ e ss × (eqb e.number n ≡ false)
 struck_others n ss e m = let k = kept_member (other_than n) ss m in (k.0, not-true (eqb e.number n) k.1)
 

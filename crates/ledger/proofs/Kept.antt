@@ -38,7 +38,7 @@ module _ (net : Topology) (ss : List Session) (h : Intact net ss) where
   unfolding full
   few_more u e = omega (arith, leb-false 96 (length ss) e, length-append ss (u ∷ []))
 
-  -- ---- an accepted set_up
+  -- ---- an accepted set-up
   given_good : (n : ℕ) (route : List ℕ) (d count : ℕ) (w : List Spot) → route_check net route ≡ given pass
       → Given net.ticks (hops_of net ss route) d count w → GoodSession net (record { number = n; route = route; held = held_over (hops_of net ss route) d w })
   given_good n route d count w e g =

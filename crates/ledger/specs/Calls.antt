@@ -77,14 +77,14 @@ QuoteDepends = (v w : View) (route : List ℕ) → (reply v (Quote route) ≡ re
     → (reply v (Quote route) ≡ refusal 13 0 → ⊥) → (reply w (Quote route) ≡ refusal 13 0 → ⊥) → v.network.ticks ≡ w.network.ticks
     → hops_of v.network v.live route ≡ hops_of w.network w.live route → reply v (Quote route) ≡ reply w (Quote route)
 
--- what a call with its answer does to sessions and ledger: "An accepted set_up enters its number, its route and its answer's frames and delay" (with their
+-- what a call with its answer does to sessions and ledger: "An accepted set-up enters its number, its route and its answer's frames and delay" (with their
 -- cycles). "An accepted release strikes out what stands under its number. A quote or a refused call leaves the ledger as it is"
 pub data Effect : Type 0 where
   enters : Session → Effect
   strikes : (number : ℕ) → Effect
   leaves : Effect
 
--- "A set_up is accepted when its answer is a schedule, a release when it isn't refused"
+-- "A set-up is accepted when its answer is a schedule, a release when it isn't refused"
 abbrev pub effect : Call → Reply → Effect
 effect (SetUp n route) (schedule held count) = enters record { number = n; route = route; held = held }
 effect (SetUp n route) freed = leaves

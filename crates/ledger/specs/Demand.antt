@@ -33,7 +33,7 @@ pub record HoldsSlot (v : View) (n : ℕ) (x : Slot) : Type 0 where
   pub shown : lookup v n ≡ given session
   pub named : holds x session ≡ true
 
--- "an accepted set-up's answer named it and no later release of that number was accepted"; the set_up, with what its answer gave, is the entry
+-- "an accepted set-up's answer named it and no later release of that number was accepted"; the set-up, with what its answer gave, is the entry
 pub record NamedAndKept (steps : List AnsweredCall) (x : Slot) : Type 0 where
   pub entry : Session
   pub count : ℕ
@@ -79,7 +79,7 @@ pub record Demand3 (net : Topology) (v : View) (steps : List AnsweredCall) : Typ
   pub numbers : List ℕ
   pub live : LiveNumbers v numbers
   pub balance : count_steps accepted_set_up steps ≡ length numbers + count_steps accepted_release steps
-  -- "every set_up or quote that no other check refused got a least schedule over the frames then free, or was refused as blocked exactly when
+  -- "every set-up or quote that no other check refused got a least schedule over the frames then free, or was refused as blocked exactly when
   -- there was none"; "every other check refuses exactly under its condition, in the order of the refusal list"
   pub answers : (before : List AnsweredCall) (call : Call) (r : Reply) (later : List AnsweredCall) → steps ≡ before ++ (did call r ∷ later)
       → Right net (ledger before) call r

@@ -33,7 +33,7 @@ is_refusal (schedule held count) = false
 is_refusal freed = false
 is_refusal (refusal number count) = true
 
--- "A set_up is accepted when its answer is a schedule"
+-- "A set-up is accepted when its answer is a schedule"
 abbrev pub accepted_set_up : AnsweredCall → Bool
 accepted_set_up (did (SetUp n route) r) = has_schedule r
 accepted_set_up (did (Quote route) r) = false

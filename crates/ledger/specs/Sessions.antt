@@ -17,7 +17,7 @@ pub record Session : Type 0 where
   pub route : List ℕ
   pub held : Holding
 
--- what a stored state shows: its network, and its live sessions in the order of set_up
+-- what a stored state shows: its network, and its live sessions in the order of set-up
 pub record View : Type 0 where
   pub network : Topology
   pub live : List Session

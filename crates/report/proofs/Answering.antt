@@ -40,7 +40,7 @@ in_places_lem v call q w = go q.verdict refl (reply v call) refl w
         let y : ◌≡◌ {A = ℕ} 0 1 = cc in absurd (omega arith)
     go (Refused r) e a g k = tt
 
--- ---- the line of a set_up
+-- ---- the line of a set-up
 module _ (st : State) (ok : intact (view_of st) ≡ true) (number : ℕ) (route : List ℕ) (r : Served) (s : Serves st (SetUp number route) r) where
   pub set_up_room : (place at n : ℕ) → at + length (line_of place (view_of st) (given (SetUp number route))) ≤ n
       → InPlaces r.answer.verdict (length route) × (at + length (line place letter_s (quoted_in (length route) r.answer)) ≤ n)

@@ -28,7 +28,7 @@ abbrev pub LookupCycles : Type 0
 LookupCycles = (st : State) (n : ℕ) (q : Looked) → Looks st n q → q.shown.verdict ≡ Passed
     → CyclesBeside (topology_of st.network) (firsts q.shown.hops q.shown.route 0) q.shown.held
 
--- AN ANSWER THAT IS A SCHEDULE GIVES THE CYCLES OF ITS FRAMES, of a set_up and of a quote, on every state
+-- AN ANSWER THAT IS A SCHEDULE GIVES THE CYCLES OF ITS FRAMES, of a set-up and of a quote, on every state
 abbrev pub AnswerCycles : Type 0
 AnswerCycles = (st : State) (call : Call) (r : Served) → Serves st call r → r.answer.verdict ≡ Passed
     → CyclesBeside (topology_of st.network) (links_of call) r.answer.held

@@ -101,7 +101,7 @@ pub record Agree (st other : State) : Type 0 where
       → map call_of steps ≡ map call_of others → (steps ≡ others) × (view_of last ≡ view_of end)
 
 -- WHAT THE RULES LEAVE FREE IS FREE: "the inner arrangement of stored sessions, which is free so long as lookup and later answers agree". Free are the places
--- of the table past its live sessions and the places of a stored session past its hops; the order of the sessions is not, it is that of set_up. `view_of`
+-- of the table past its live sessions and the places of a stored session past its hops; the order of the sessions is not, it is that of set-up. `view_of`
 -- has none of these, and states that show the same agree
 abbrev pub ArrangementFree : Type 0
 ArrangementFree = (st other : State) → view_of st ≡ view_of other → Agree st other

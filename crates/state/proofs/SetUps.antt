@@ -1,4 +1,4 @@
--- Each return of a quote and of a set_up on a state that isn't broken. Assumes nothing.
+-- Each return of a quote and of a set-up on a state that isn't broken. Assumes nothing.
 use mathlib.Core.Path.{◌≡◌, refl, sym, ap, subst, ◌∙◌}
 use mathlib.Core.Bool.{Bool, true, false}
 use mathlib.Core.List.{List, [], ◌∷◌, ◌++◌}
@@ -58,7 +58,7 @@ use Rattle.state.specs.Inner.{found_places, found_quoted}
 use Rattle.state.proofs.Searches.{ticks_told, Searched, hops_ready, hops_back, hops_searched}
 use Rattle.state.proofs.Replies.{route_refuses, number_refuses, places_refuse, none_refuses, quote_check, refused_reply, granted_reply, refusal_leaves, stays, moves}
 
--- ---- the checks of a set_up after 0, in turn
+-- ---- the checks of a set-up after 0, in turn
 module _ (network : Network) (ss : List Session) (n : ℕ) (route : List ℕ) (v : Verdict) (ev : ruling v ≡ route_check (topology_of network) route) where
   pub checked_route : (r : Refusal) → v ≡ verdict.Refused r → outcome.refused (refusal_number r) ≡ call_check (topology_of network) ss (SetUp n route)
   checked_route r e = sym (route_refuses (topology_of network) ss n route (refusal_number r) (sym ev ∙ ap ruling e))
@@ -150,7 +150,7 @@ module _ (st : State) (ok : intact (view_of st) ≡ true) where
     pub serves_refused : (q : Quoted) → q ≡ not_quoted r → Serves st call (record { answer = q; state = st })
     serves_refused q w = record { answer = quotes_refused q w; after = stays st call (refusal_leaves call _ _ _ refused_told) }
 
-  -- ---- a quote, and a set_up that no check refused
+  -- ---- a quote, and a set-up that no check refused
   quote_granted : (route : List ℕ) → route_check (topology_of st.network) route ≡ given pass
       → reply (view_of st) (Quote route) ≡ answer_over (topology_of st.network).ticks (hops_of (topology_of st.network) (live_of st.table) route)
   unfolding granted

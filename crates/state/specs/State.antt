@@ -43,7 +43,7 @@ quoted_of held count = record { verdict = Passed; count = count; held = held_pla
 abbrev pub not_quoted : Refusal → Quoted
 not_quoted r = record { verdict = Refused r; count = 0; held = held_places no_holding }
 
--- the program's answer to a set_up or a quote is the rule's; no such call answers that frames are freed
+-- the program's answer to a set-up or a quote is the rule's; no such call answers that frames are freed
 abbrev pub Quotes : Reply → Quoted → Type 0
 Quotes (schedule held count) q = q ≡ quoted_of held count
 Quotes freed q = ⊥
@@ -54,7 +54,7 @@ abbrev pub reply_as : Verdict → Reply → Reply
 reply_as Passed answer = answer
 reply_as (Refused r) answer = refusal (refusal_number r) (refusal_count r)
 
--- of a set_up or a quote over n links, and of a release
+-- of a set-up or a quote over n links, and of a release
 abbrev pub quoted_in : ℕ → Quoted → Reply
 quoted_in n q = reply_as q.verdict (schedule (holding_of n q.held) q.count)
 
@@ -74,7 +74,7 @@ pub record Leaves (st : State) (call : Call) (after : State) : Type 0 where
 abbrev pub LeftIntact : Type 0
 LeftIntact = (st : State) (call : Call) (after : State) → Leaves st call after → intact (view_of st) ≡ true → intact (view_of after) ≡ true
 
--- a set_up or a quote
+-- a set-up or a quote
 pub record Serves (st : State) (call : Call) (r : Served) : Type 0 where
   pub answer : Quotes (reply (view_of st) call) r.answer
   pub after : Leaves st call r.state

@@ -18,7 +18,7 @@ no_place = record { number = 0; hops = 0; route = []; held = record { frames = [
 abbrev pub in_places : ℕ → List Place → List Session
 in_places n places = map session_of (firsts n places no_place)
 
--- the live sessions of a table, in the order of set_up; a number of sessions above the places shows in it
+-- the live sessions of a table, in the order of set-up; a number of sessions above the places shows in it
 abbrev pub live_of : Table → List Session
 live_of t = in_places t.live t.places
 

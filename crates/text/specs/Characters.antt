@@ -17,7 +17,7 @@ slash = 47
 abbrev pub digit0 : ℕ
 digit0 = 48
 
--- "S, Q or R": S for a set_up
+-- "S, Q or R": S for a set-up
 abbrev pub letter_s : ℕ
 letter_s = 83
 
