@@ -1,5 +1,5 @@
-// The functions for callers in other languages, on numbers and slices of numbers. They stand in a crate of their own, so that the static library is built from what is
-// proved already. Each answers a length or a count, or 1,000,000 and the number of the refusal; a refused call leaves every lent buffer as it is.
+// The functions for callers in other languages, on numbers and slices of numbers; `exports_c` gives them to C. They stand in a crate of their own, so that the static library is built from
+// what is proved already. Each answers a length or a count, or 1,000,000 and the number of the refusal; a refused call leaves every lent buffer as it is.
 #![tactic(auto)]
 
 ghost use Rattle.std.specs.Prelude.{◌≡◌, ◌++◌, ◌+◌, ◌≤◌, min, length, drop};
@@ -38,8 +38,7 @@ fn as_number(written: Written) -> u64
 }
 
 // The run of the program frames: the text's length, or 1,000,020 where the buffer is below the bound, 22 bytes and 11 for each call byte that counts.
-#[unsafe(no_mangle)]
-pub extern "C" fn frames_report(file: &[u8], calls: &[u8], out: &mut [u8]) -> u64
+pub fn frames_report(file: &[u8], calls: &[u8], out: &mut [u8]) -> u64
     ensures { Exports (reported file.now calls.now (length out.old)) out.old out.new result × (length (transcript file.now calls.now) ≤ text_bound (length calls.now)) }
 {
     let written = report::report(file, calls, out);
@@ -47,8 +46,7 @@ pub extern "C" fn frames_report(file: &[u8], calls: &[u8], out: &mut [u8]) -> u6
 }
 
 // A network file read, and the network written again: the image's length, or the refusal.
-#[unsafe(no_mangle)]
-pub extern "C" fn frames_image(file: &[u8], out: &mut [u8]) -> u64
+pub fn frames_image(file: &[u8], out: &mut [u8]) -> u64
     ensures { Exports (written_again file.now (length out.old)) out.old out.new result }
 {
     let loaded = network_file::read_network(file);
@@ -111,8 +109,7 @@ fn show(shown: Shown, out: &mut [u16]) -> u64
 }
 
 // Lookup on the state after call records: how many hops the live session with the number has, its delay, and the link, the frame and the cycle of each hop.
-#[unsafe(no_mangle)]
-pub extern "C" fn frames_lookup(file: &[u8], calls: &[u8], number: u32, out: &mut [u16]) -> u64
+pub fn frames_lookup(file: &[u8], calls: &[u8], number: u32, out: &mut [u16]) -> u64
     ensures { Exports (lookup_after file.now calls.now number (length out.old)) out.old out.new result }
 {
     let loaded = network_file::read_network(file);
@@ -140,8 +137,7 @@ fn count_number(counted: Counted) -> u64
 }
 
 // Free frames of a link on the state after call records.
-#[unsafe(no_mangle)]
-pub extern "C" fn frames_free_frames(file: &[u8], calls: &[u8], link: u8) -> u64
+pub fn frames_free_frames(file: &[u8], calls: &[u8], link: u8) -> u64
     ensures { result ≡ as_number (free_after file.now calls.now link) }
 {
     let loaded = network_file::read_network(file);
@@ -175,8 +171,7 @@ fn put_ways(numbered: Numbered, out: &mut [u64]) -> u64
 }
 
 // The number of ways through a route, given as its link numbers, on the state after call records. It is put into a buffer, since it can be larger than an answer that is a refusal.
-#[unsafe(no_mangle)]
-pub extern "C" fn frames_ways(file: &[u8], calls: &[u8], route: &[u8], out: &mut [u64]) -> u64
+pub fn frames_ways(file: &[u8], calls: &[u8], route: &[u8], out: &mut [u64]) -> u64
     ensures { Exports (ways_after file.now calls.now route.now (length out.old)) out.old out.new result }
 {
     let loaded = network_file::read_network(file);
@@ -228,8 +223,7 @@ fn links_of(
 }
 
 // The file of a network given as values: T, and for each link its K, its Z, the word of its closed frames and its Y. There are as many links as the shortest slice has numbers.
-#[unsafe(no_mangle)]
-pub extern "C" fn frames_write(
+pub fn frames_write(
     ticks: u16,
     frames: &[u16],
     range: &[u16],
