@@ -9,16 +9,16 @@ ghost use Rattle.forwarding.specs.Cycles.{next_cycle};
 
 // A hold counts frames of the outgoing link.
 // Form: a hold and a delay are tuple structs, so holds of unequal links are never summed as delays.
-#[derive(Clone, Copy)]
+#[derive(Clone, Copy, PartialEq, Eq)]
 pub struct Hold(pub u16);
 
 // A delay counts ticks.
-#[derive(Clone, Copy)]
+#[derive(Clone, Copy, PartialEq, Eq)]
 pub struct Delay(pub u16);
 
 // An answer's, a session's and a lookup's schedule: a frame, its cycle and its colour for each hop,
 // hop 0 first, in eight places, and the delay.
-#[derive(Clone, Copy)]
+#[derive(Clone, Copy, PartialEq, Eq)]
 pub struct Held {
     pub frames: [u8; 8],
     pub cycles: [u8; 8],
@@ -28,7 +28,7 @@ pub struct Held {
 
 // A hop of a route: its link's frames per cycle (K), forwarding range (Z), least hold (Y), colours
 // (C) and conversion range (R), and its free frames: bit i of word c for frame i in colour c.
-#[derive(Clone, Copy)]
+#[derive(Clone, Copy, PartialEq, Eq)]
 pub struct Hop {
     pub frames: u16,
     pub range: u16,

@@ -22,7 +22,7 @@ use words::BANK;
 // A session as it is stored ("Calls on sessions"; W-205: "A session stores 32 bits"): its links,
 // hop 0 first, its number, its number of hops and what it holds.
 // A place has 40 bytes. Only the byte after `hops` is padding: `held` begins at an even offset.
-#[derive(Clone, Copy)]
+#[derive(Clone, Copy, PartialEq, Eq)]
 pub struct Place {
     pub route: [u8; 8],
     pub number: u32,
@@ -31,7 +31,7 @@ pub struct Place {
 }
 
 // The live sessions: how many, and their places.
-#[derive(Clone, Copy)]
+#[derive(Clone, Copy, PartialEq, Eq)]
 pub struct Table {
     pub live: usize,
     pub places: [Place; 96],
