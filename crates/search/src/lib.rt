@@ -32,20 +32,19 @@ const NEVER: u16 = 32768;
 // The key of a frame that nothing leads to yet: no key of a frame that some cell leads to is larger, since a cycle has at most 960 ticks.
 const EMPTY: u16 = 33728;
 
-// What a search found: a schedule, with its delay; or that there is none.
+// A schedule: its delay, its frames and their colours, hop 0 first; unused places hold 0.
 #[derive(Clone, Copy)]
-pub enum Found {
-    Schedule(Delay),
-    Blocked,
-}
-
-// The enum, and beside it the count of transitions considered and the schedule's frames and their colours, hop 0 first; unused places hold 0.
-#[derive(Clone, Copy)]
-pub struct Finding {
-    pub found: Found,
-    pub count: u32,
+pub struct Schedule {
+    pub delay: Delay,
     pub frames: [u8; 8],
     pub colours: [u8; 8],
+}
+
+// What a search found: the least-delay schedule, where there is one, and the count of transitions considered.
+#[derive(Clone, Copy)]
+pub struct Finding {
+    pub schedule: Option<Schedule>,
+    pub count: u32,
 }
 
 // A frame, and the key that it is chosen by. Of a frame that the least hold leads to, the key is the delay as it would be at the end of the cycle without a hold: the cell of the frame
@@ -633,17 +632,10 @@ fn recover(preds: &[u8; 1792], j: usize, p: u8, out: &mut [u8; 8])
     recover(preds, j - 1, preds[at], out)
 }
 
-// Frames and colours, one for each hop.
-#[derive(Clone, Copy)]
-struct Split {
-    frames: [u8; 8],
-    colours: [u8; 8],
-}
-
-// The frame and the colour at each of the first n places; unused ones hold 0. Check 12.
-fn apart(n: usize, places: [u8; 8]) -> Split
+// The schedule with this delay, whose frame and colour at each hop are at the first n places; unused ones hold 0. Check 12.
+fn apart(delay: Delay, n: usize, places: [u8; 8]) -> Schedule
     requires { n ≤ 8 }
-    ensures { Parts n places result.frames result.colours }
+    ensures { (result.delay ≡ delay) × Parts n places result.frames result.colours }
 {
     let mut frames = [0u8; 8];
     let mut colours = [0u8; 8];
@@ -653,7 +645,11 @@ fn apart(n: usize, places: [u8; 8]) -> Split
         colours[j] = places[j] / 64;
         j += 1;
     }
-    Split { frames, colours }
+    Schedule {
+        delay,
+        frames,
+        colours,
+    }
 }
 
 // The least-delay schedule over hops 0 to n - 1, for a cycle of t ticks. Checks 3, 7, 8, 21, 23,
@@ -671,24 +667,14 @@ pub fn search(t: u16, hops: [Hop; 8], n: usize) -> Finding
     let hop = hops[last];
     let end = best_end(&row, hop.frames, hop.colours);
     let least = end.key;
-    let mut places = [0u8; 8];
     if NEVER <= least {
-        let colours = [0u8; 8];
         return Finding {
-            found: Found::Blocked,
+            schedule: None,
             count,
-            frames: places,
-            colours,
         };
     }
+    let mut places = [0u8; 8];
     recover(&preds, last, end.place, &mut places);
-    let parts = apart(n, places);
-    let frames = parts.frames;
-    let colours = parts.colours;
-    Finding {
-        found: Found::Schedule(Delay(least)),
-        count,
-        frames,
-        colours,
-    }
+    let schedule = Some(apart(Delay(least), n, places));
+    Finding { schedule, count }
 }

@@ -62,13 +62,13 @@ returns c = let a = c.args in
     let preds = w.new.preds in
     let low = c.if-least-ge-NEVER.false in
     let r = c.recover in
-    let parts = c.apart-parts in
+    let parts = c.apart in
     finds_schedule a.t a.hops a.n c.requires h (reverse (node_chain a.hops preds (a.n - 1) b.result.place)) (reverse (chain_of preds (a.n - 1) b.result.place))
-    r.new.out parts.result.frames parts.result.colours
+    r.new.out parts.result
     (rw e at (nodes_long a.t a.hops (a.n - 1) begun (replicate 1792 0) z row preds w.result w.ensures b.result.key b.result.place b.ensures l f.ensures))
     (rw e at (chain_long a.t a.hops (a.n - 1) begun (replicate 1792 0) z row preds w.result w.ensures b.result.key b.result.place b.ensures l f.ensures))
     (rw e at (chain_placed a.t a.hops (a.n - 1) begun (replicate 1792 0) z row preds w.result w.ensures b.result.key b.result.place b.ensures l f.ensures low))
     (rw e at r.ensures)
-    parts.ensures
-    b.result.key w.result
-    (rw e at (ends_found a.t a.hops (a.n - 1) begun (replicate 1792 0) z row preds w.result w.ensures b.result.key b.result.place b.ensures l f.ensures low))
+    parts.ensures.1
+    w.result
+    (rw parts.ensures.0 (rw e at (ends_found a.t a.hops (a.n - 1) begun (replicate 1792 0) z row preds w.result w.ensures b.result.key b.result.place b.ensures l f.ensures low)))
