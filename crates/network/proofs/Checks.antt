@@ -3,13 +3,14 @@ use mathlib.Core.Path.{◌≡◌, refl, sym, ◌∙◌}
 use mathlib.Core.Bool.{Bool, true, false}
 use mathlib.Core.List.{List, ◌∷◌}
 use Prim.Native.Nat.{ℕ, ◌+◌, ◌<◌, ◌≤◌}
+use native.Mathlib.Numerals.{add-one}
 use native.Mathlib.Omega.{arith}
-use lib.ListN.{length, get_or, drop}
+use lib.ListN.{length, get_or, take, drop, drop_of_length-le}
+use lib.Seq.{drop-cons}
+use Rattle.std.specs.Prelude.{Result, Ok, Err, ⊤}
 use Rattle.places.specs.Places.{firsts}
-use Rattle.places.proofs.Firsts.{length_firsts, next_first, no_first}
+use Rattle.places.proofs.Firsts.{length_firsts, firsts_take}
 use Rattle.refusals.specs.Refusals.{Ruling, given, refused, pass, refuse_if, refused_or, ruling, refusal_number}
-use Rattle.refusals.specs.declared.Verdict.{Verdict}
-use Rattle.refusals.specs.declared.Verdict.TheVariants.{Passed, Refused}
 use Rattle.refusals.specs.declared.Refusal.{Refusal}
 use Rattle.refusals.proofs.Refusals.{past, not_refused, both_passed}
 use Rattle.network.specs.Network.{Topology, no_link, topology_of}
@@ -46,29 +47,24 @@ module _ (T : ℕ) (l : Link) (b : Bool) (eb : b ≡ bad_frames T l.frames) wher
         link_passes i = rw (← eb, h, ← ed, g, ← ey, z, ← ef, i)
 
 -- ---- the links one after the other: the first i passed
-pub record Reached (T n : ℕ) (links : List Link) (i : ℕ) : Type 0 where
-  pub within : i ≤ n
-  pub same : links_check T (firsts n links no_link) ≡ links_check T (drop i (firsts n links no_link))
+abbrev pub Reached : ℕ → List Link → ℕ → Type 0
+Reached T links i = links_check T links ≡ links_check T (drop i links)
 
-module _ (T n : ℕ) (links : List Link) where
-  pub none_reached : Reached T n links 0
-  none_reached = record { within = omega arith; same = refl }
+module _ (T : ℕ) (links : List Link) (i : ℕ) (p : Reached T links i) where
+  one_more : i < length links → links_check T links ≡ refused_or (link_check T (get_or links i no_link)) (links_check T (drop (i + 1) links))
+  unfolding links_check
+  one_more h = p ∙ rw (drop-cons links i no_link h, add-one)
 
-  module _ (i : ℕ) (p : Reached T n links i) where
-    module _ (h : i < n) (v : Verdict) (ev : ruling v ≡ link_check T (get_or links i no_link)) where
-      split : links_check T (firsts n links no_link) ≡ refused_or (ruling v) (links_check T (drop (i + 1) (firsts n links no_link)))
-      unfolding links_check
-      split = p.same ∙ rw (next_first n i links no_link h, ← ev)
+  module _ (h : i < length links) (v : Result ⊤ Refusal) (ev : ruling v ≡ link_check T (get_or links i no_link)) where
+    pub one_refused : (r : Refusal) → v ≡ Err r → refused (refusal_number r) ≡ links_check T links
+    one_refused r e = sym (one_more h ∙ rw (← ev, e))
 
-      pub one_refused : (r : Refusal) → v ≡ Refused r → refused (refusal_number r) ≡ links_check T (firsts n links no_link)
-      one_refused r e = sym (split ∙ rw e)
+    pub one_passed : (x : ⊤) → v ≡ Ok x → Reached T links (i + 1)
+    one_passed x e = one_more h ∙ rw (← ev, e)
 
-      pub one_passed : v ≡ Passed → Reached T n links (i + 1)
-      one_passed e = record { within = omega arith; same = split ∙ rw e }
-
-    pub all_passed : n ≤ i → given pass ≡ links_check T (firsts n links no_link)
-    unfolding links_check
-    all_passed h = sym (p.same ∙ rw (no_first n i links no_link h))
+  pub all_passed : length links ≤ i → given pass ≡ links_check T links
+  unfolding links_check
+  all_passed h = sym (p ∙ rw (drop_of_length-le links {i = i} h))
 
 -- ---- a network
 module _ (n : Network) (b : Bool) (eb : b ≡ bad_count n.count) where
@@ -84,9 +80,9 @@ module _ (n : Network) (b : Bool) (eb : b ≡ bad_count n.count) where
     unfolding network_check topology_of
     cycle_refused g = rw (length_firsts, ← eb, h, ← ed, g)
 
-    pub links_rule : d ≡ false → (r : Ruling) → r ≡ links_check n.ticks (firsts n.count n.links no_link) → r ≡ network_check (topology_of n)
+    pub links_rule : d ≡ false → n.count ≤ length n.links → (r : Ruling) → r ≡ links_check n.ticks (take n.count n.links) → r ≡ network_check (topology_of n)
     unfolding network_check topology_of
-    links_rule g r e = rw (length_firsts, ← eb, h, ← ed, g) e
+    links_rule g few r e = rw (length_firsts, ← eb, h, ← ed, g, firsts_take n.count n.links no_link few) e
 
 -- ---- what a check that passed shows
 -- a link that passed

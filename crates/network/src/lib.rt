@@ -7,10 +7,10 @@ ghost use Rattle.refusals.specs.Refusals.{ruling};
 ghost use Rattle.network.specs.Network.{no_link, topology_of};
 ghost use Rattle.network.specs.Checks.{bad_count, bad_cycle, bad_frames, bad_range, bad_least, bad_closed, link_check, links_check, network_check};
 
-use refusals::{Refusal, Verdict};
+use refusals::Refusal;
 
 // A link ("Network"): K, Z, its least hold Y (W-206) and the word of its closed frames.
-#[derive(Clone, Copy)]
+#[derive(Clone, Copy, PartialEq, Eq)]
 pub struct Link {
     pub frames: u16,
     pub range: u16,
@@ -19,7 +19,7 @@ pub struct Link {
 }
 
 // A network ("Network"): T, the number of links, and their places, of which as many are used.
-#[derive(Clone, Copy)]
+#[derive(Clone, Copy, PartialEq, Eq)]
 pub struct Network {
     pub ticks: u16,
     pub count: usize,
@@ -85,51 +85,44 @@ fn bad_closed(frames: u16, closed: u64) -> bool
 }
 
 // The checks of a link, 7, 8, 21 and 9, on reading, on writing and on a network given as values.
-pub fn check_link(ticks: u16, link: Link) -> Verdict
+pub fn check_link(ticks: u16, link: Link) -> Result<(), Refusal>
     ensures { ruling result ≡ link_check ticks link }
 {
     if bad_frames(ticks, link.frames) {
-        return Verdict::Refused(Refusal::FrameCount);
+        return Err(Refusal::FrameCount);
     }
     if bad_range(link.frames, link.range) {
-        return Verdict::Refused(Refusal::RangeOutside);
+        return Err(Refusal::RangeOutside);
     }
     if bad_least(link.frames, link.range, link.least) {
-        return Verdict::Refused(Refusal::LeastOutside);
+        return Err(Refusal::LeastOutside);
     }
     if bad_closed(link.frames, link.closed) {
-        return Verdict::Refused(Refusal::ClosedOutside);
+        return Err(Refusal::ClosedOutside);
     }
-    Verdict::Passed
+    Ok(())
 }
 
-// The checks of the first links, one link after the other. Check 2 guarantees what it requires.
-fn check_links(ticks: u16, count: usize, links: [Link; 32]) -> Verdict
-    requires { count ≤ 32 }
-    ensures { ruling result ≡ links_check ticks (firsts count links no_link) }
+// The checks of some links, one link after the other.
+fn check_links(ticks: u16, links: &[Link]) -> Result<(), Refusal>
+    ensures { ruling result ≡ links_check ticks links.now }
 {
-    let mut i = 0;
-    while i < count {
-        let link = links[i];
-        match check_link(ticks, link) {
-            Verdict::Refused(refusal) => return Verdict::Refused(refusal),
-            Verdict::Passed => {}
-        }
-        i += 1;
+    for link in links {
+        check_link(ticks, *link)?;
     }
-    Verdict::Passed
+    Ok(())
 }
 
 // The checks of a network given as values.
-pub fn check_network(network: Network) -> Verdict
+pub fn check_network(network: Network) -> Result<(), Refusal>
     ensures { ruling result ≡ network_check (topology_of network) }
 {
     if bad_count(network.count) {
-        return Verdict::Refused(Refusal::LinkCount);
+        return Err(Refusal::LinkCount);
     }
     if bad_cycle(network.ticks) {
-        return Verdict::Refused(Refusal::CycleLength);
+        return Err(Refusal::CycleLength);
     }
     let links = network.links;
-    check_links(network.ticks, network.count, links)
+    check_links(network.ticks, &links[..network.count])
 }

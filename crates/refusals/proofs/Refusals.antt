@@ -7,7 +7,8 @@ use native.Mathlib.Omega.{arith}
 use lib.ListN.{get_or}
 use Rattle.refusals.specs.declared.Refusal.TheVariants.{BrokenState, ShortFile, LinkCount, CycleLength, ShortRecord, StrayBit, AbsentWritten, FrameCount, RangeOutside, ClosedOutside, BytesFollow, UnreadableCall, RouteLength, UnknownLink, LinkTwice, RatesApart, NumberLive, PlacesFull, NoSchedule, NumberNotLive, ShortBuffer, LeastOutside}
 use Rattle.refusals.specs.declared.Refusal.{Refusal}
-use Rattle.refusals.specs.Refusals.{refusal_number, refusal_count, RefusalOnly, Outcome, given, refused, pass, Ruling, refuse_if, refused_or, ruling_of, given_or}
+use Rattle.refusals.specs.Refusals.{refusal_number, refusal_count, RefusalOnly, Outcome, given, refused, pass, Ruling, refuse_if, refused_or, ruling_of, given_or, answered}
+use Rattle.std.specs.Prelude.{Result, Ok, Err, IsErr, IsErrAnd}
 
 listed : ℕ → List Refusal
 listed count = BrokenState ∷ ShortFile ∷ LinkCount ∷ CycleLength ∷ ShortRecord ∷ StrayBit ∷ AbsentWritten ∷ FrameCount ∷ RangeOutside ∷ ClosedOutside ∷ BytesFollow ∷ UnreadableCall ∷ RouteLength ∷ UnknownLink ∷ LinkTwice ∷ RatesApart ∷ NumberLive ∷ PlacesFull ∷ NoSchedule count ∷ NumberNotLive ∷ ShortBuffer ∷ LeastOutside ∷ []
@@ -104,3 +105,8 @@ pub other_count : (tag : Refusal → ℕ) → ((count : ℕ) → tag (NoSchedule
 unfolding numbered listed
 other_count tag h r other =
     sym (uncounted r (λ e. other (ap tag (sym (back r) ∙ ap (λ (n : ℕ). numbered n (refusal_count r)) e) ∙ h (refusal_count r))))
+
+-- what `?` passes on is the same refusal
+pub passed_on : {A B : Type 0} (of : A → B) (q : Result A Refusal) (r : Refusal) → IsErr q × IsErrAnd q (λ e. e ≡ r) → answered of q ≡ refused (refusal_number r)
+passed_on of (Ok x) r h = let e : ◌≡◌ {A = Bool} false true = h.0 in cc
+passed_on of (Err e) r h = ap (λ (x : Refusal). refused (refusal_number x)) h.1

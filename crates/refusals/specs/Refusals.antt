@@ -1,7 +1,5 @@
 -- The refusal list of document 01 with the refusals of document 02, and what a call comes to. Assumes nothing.
-use Rattle.std.specs.Prelude.{◌≡◌, Bool, true, false, ℕ}
-use Rattle.refusals.specs.declared.Verdict.TheVariants.{Passed, Refused}
-use Rattle.refusals.specs.declared.Verdict.{Verdict}
+use Rattle.std.specs.Prelude.{◌≡◌, Bool, true, false, ℕ, Result, Ok, Err, ⊤}
 use Rattle.refusals.specs.declared.Refusal.TheVariants.{BrokenState, ShortFile, LinkCount, CycleLength, ShortRecord, StrayBit, AbsentWritten, FrameCount, RangeOutside, ClosedOutside, BytesFollow, UnreadableCall, RouteLength, UnknownLink, LinkTwice, RatesApart, NumberLive, PlacesFull, NoSchedule, NumberNotLive, ShortBuffer, LeastOutside}
 use Rattle.refusals.specs.declared.Refusal.{Refusal}
 
@@ -97,7 +95,11 @@ abbrev pub given_or : {A : Type 0} → A → Outcome A → A
 given_or a (given x) = x
 given_or a (refused n) = a
 
--- what the program's answer says in these words
-abbrev pub ruling : Verdict → Ruling
-ruling Passed = given pass
-ruling (Refused r) = refused (refusal_number r)
+-- what the program's answer says in these words, where what it gives says `of`
+abbrev pub answered : {A B : Type 0} → (A → B) → Result A Refusal → Outcome B
+answered of (Ok a) = given (of a)
+answered of (Err r) = refused (refusal_number r)
+
+-- and the answer of a check
+abbrev pub ruling : Result ⊤ Refusal → Ruling
+ruling r = answered (λ _. pass) r

@@ -1,11 +1,11 @@
-// The refusal list of document 01 with the refusals of document 02, and what a check says.
+// The refusal list of document 01 with the refusals of document 02. A check answers `Ok(())`, or its refusal.
 #![tactic(auto)]
 
 ghost use Rattle.std.specs.Prelude.{◌≡◌};
 ghost use Rattle.refusals.specs.Refusals.{refusal_number, refusal_count};
 
 // A refusal ("Refusal list"): a variant for each number, from 0 on.
-#[derive(Clone, Copy)]
+#[derive(Clone, Copy, PartialEq, Eq)]
 pub enum Refusal {
     // 0. The stored state handed to a call is broken.
     BrokenState,
@@ -53,40 +53,35 @@ pub enum Refusal {
     LeastOutside,
 }
 
-// What a check says.
-#[derive(Clone, Copy)]
-pub enum Verdict {
-    Passed,
-    Refused(Refusal),
-}
-
 // A refusal's number.
-pub fn number(refusal: Refusal) -> u8
-    ensures { result ≡ refusal_number refusal }
-{
-    match refusal {
-        Refusal::BrokenState => 0,
-        Refusal::ShortFile => 1,
-        Refusal::LinkCount => 2,
-        Refusal::CycleLength => 3,
-        Refusal::ShortRecord => 4,
-        Refusal::StrayBit => 5,
-        Refusal::AbsentWritten => 6,
-        Refusal::FrameCount => 7,
-        Refusal::RangeOutside => 8,
-        Refusal::ClosedOutside => 9,
-        Refusal::BytesFollow => 10,
-        Refusal::UnreadableCall => 11,
-        Refusal::RouteLength => 12,
-        Refusal::UnknownLink => 13,
-        Refusal::LinkTwice => 14,
-        Refusal::RatesApart => 15,
-        Refusal::NumberLive => 16,
-        Refusal::PlacesFull => 17,
-        Refusal::NoSchedule(_) => 18,
-        Refusal::NumberNotLive => 19,
-        Refusal::ShortBuffer => 20,
-        Refusal::LeastOutside => 21,
+impl From<Refusal> for u8 {
+    ghost from_gives = { λ refusal n. n ≡ refusal_number refusal };
+
+    fn from(refusal: Refusal) -> u8 {
+        match refusal {
+            Refusal::BrokenState => 0,
+            Refusal::ShortFile => 1,
+            Refusal::LinkCount => 2,
+            Refusal::CycleLength => 3,
+            Refusal::ShortRecord => 4,
+            Refusal::StrayBit => 5,
+            Refusal::AbsentWritten => 6,
+            Refusal::FrameCount => 7,
+            Refusal::RangeOutside => 8,
+            Refusal::ClosedOutside => 9,
+            Refusal::BytesFollow => 10,
+            Refusal::UnreadableCall => 11,
+            Refusal::RouteLength => 12,
+            Refusal::UnknownLink => 13,
+            Refusal::LinkTwice => 14,
+            Refusal::RatesApart => 15,
+            Refusal::NumberLive => 16,
+            Refusal::PlacesFull => 17,
+            Refusal::NoSchedule(_) => 18,
+            Refusal::NumberNotLive => 19,
+            Refusal::ShortBuffer => 20,
+            Refusal::LeastOutside => 21,
+        }
     }
 }
 
