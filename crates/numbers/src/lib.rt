@@ -4,23 +4,14 @@
 ghost use Rattle.std.specs.Prelude.{◌≡◌, ◌++◌, ◌≤◌, length, drop};
 ghost use Rattle.numbers.specs.Numbers.{number_in, bytes_of};
 
-// A byte as a number of 64 bits.
-fn wide(x: u8) -> u64
-    ensures { result ≡ x }
-{
-    x as u64
-}
-
 // The number that the first n bytes of s say. Its callers know the size of the field.
 pub fn read_number(s: &[u8], n: usize) -> u64
     requires { (n ≤ length s.now) × (n ≤ 8) }
     ensures { result ≡ number_in n s.now }
 {
     let mut x: u64 = 0;
-    let mut i = n;
-    while 0 < i {
-        i -= 1;
-        x = x * 256 + wide(s[i]);
+    for i in (0..n).rev() {
+        x = x * 256 + u64::from(s[i]);
     }
     x
 }
@@ -31,10 +22,8 @@ pub fn write_number(s: &mut [u8], n: usize, x: u64)
     ensures { s.new ≡ bytes_of n x ++ drop n s.old }
 {
     let mut rest = x;
-    let mut i = 0;
-    while i < n {
+    for i in 0..n {
         s[i] = (rest % 256) as u8;
         rest /= 256;
-        i += 1;
     }
 }

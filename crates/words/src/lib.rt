@@ -14,12 +14,12 @@ pub const COLOURS: usize = 4;
 // The words of a bank: one for each of 32 links in each colour.
 pub const BANK: usize = 32 * COLOURS;
 
-// The place of a link's word of a colour. The factor is COLOURS, as a byte: 4 × 31 + 3 fits one.
+// The place of a link's word of a colour.
 pub fn bank(link: u8, colour: u8) -> usize
     requires { (link < 32) × (colour < most_colours) }
     ensures { result ≡ bank_at link colour }
 {
-    (4 * link + colour) as usize
+    COLOURS * usize::from(link) + usize::from(colour)
 }
 
 // Whether bit i of a word stands.
@@ -88,7 +88,7 @@ fn one_at(word: u64, i: u16) -> u32
     requires { i < 64 }
     ensures { result ≡ one_if (bit_of word i) }
 {
-    if has_bit(word, i) { 1 } else { 0 }
+    u32::from(has_bit(word, i))
 }
 
 // How many of the first n bits of a word stand.
@@ -106,10 +106,8 @@ pub fn window_ones(word: u64, frames: u16, width: u16, ones: &mut [u8; 64])
     ensures { WindowOnes word frames width frames ones.old ones.new }
 {
     let mut n = ones_among(word, width);
-    let mut a: u16 = 0;
-    while a < frames {
-        ones[a as usize] = n as u8;
+    for a in 0..frames {
+        ones[usize::from(a)] = n as u8;
         n = n + one_at(word, frame_on(a, width, frames)) - one_at(word, a);
-        a += 1;
     }
 }

@@ -10,8 +10,7 @@ pub overflow_mul-x : goal.overflow_mul-x
 overflow_mul-x c = omega (arith, got_room _ _ _ _ c.loop-i-test.true c.requires.1 c.loop-i.invariant)
 
 pub overflow_add-x : goal.overflow_add-x
-overflow_add-x c = omega (arith, got_room _ _ _ _ c.loop-i-test.true c.requires.1 c.loop-i.invariant, c.wide.ensures, c.shared_slice_known-in-loop-i-1.given (c.loop-i.i - 1))
+overflow_add-x c = omega (arith, got_room _ _ _ _ c.loop-i-test.true c.requires.1 c.loop-i.invariant, c.from.ensures, c.type_inv.s (c.loop-i.i - 1))
 
 pub loop-i-preserved : goal.loop-i-preserved
-loop-i-preserved c = got_more _ _ _ _ _ c.loop-i-test.true c.loop-i.invariant c.wide.ensures
-    (omega (arith, c.wide.ensures, c.shared_slice_known-in-loop-i-1.given (c.loop-i.i - 1)))
+loop-i-preserved c = got_more _ _ _ _ _ c.loop-i-test.true c.loop-i.invariant c.from.ensures (omega (arith, c.from.ensures, c.type_inv.s (c.loop-i.i - 1)))

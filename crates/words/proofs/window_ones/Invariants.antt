@@ -1,11 +1,7 @@
 -- `words::window_ones` meets its contract. The invariant: the windows of the frames below a are there, and n is the next. Assumes nothing.
 use mathlib.Core.Path.{◌≡◌}
-use Prim.Native.Nat.{◌-◌, ◌≤◌}
 use Rattle.words.specs.Inner.{window_ones, WindowOnes}
 use Rattle.words.proofs.window_ones.Given as goal
 
 abbrev pub invariant-loop-a : goal.invariant-loop-a
-invariant-loop-a l = (l.a ≤ l.frames) × WindowOnes l.word l.frames l.width l.a l.initial.ones l.ones × (l.n ≡ window_ones l.word l.frames l.width l.a)
-
-abbrev pub decreases-loop-a : goal.decreases-loop-a
-decreases-loop-a l = l.frames - l.a
+invariant-loop-a l = WindowOnes l.word l.frames l.width l.a l.initial.ones l.ones × (l.n ≡ window_ones l.word l.frames l.width l.a)
