@@ -10,6 +10,7 @@ use lib.Dec.{ltb}
 use lib.ListN.{get_or, drop}
 use borrow.Author.Tests.{ltb-true}
 use Rattle.lists.proofs.Count.{and_both}
+use Rattle.std.specs.Prelude as std
 use Rattle.places.specs.Places.{firsts}
 use Rattle.places.proofs.Firsts.{next_first, no_first}
 use Rattle.forwarding.specs.declared.Hop.{Hop}
@@ -18,8 +19,6 @@ use Rattle.forwarding.specs.Forwarding.{Spot, is_free, hold_into, is_allowed, de
 use Rattle.forwarding.specs.Hops.{no_hop, Ready}
 use Rattle.forwarding.specs.Schedule.{in_colours, is_on, goes_on, onward_delay}
 use Rattle.forwarding.proofs.Transitions.{allowed_cap}
-use Rattle.routes.specs.declared.Walked.{Walked}
-use Rattle.routes.specs.declared.Walked.TheVariants as variants
 use Rattle.routes.specs.Hops.{delay_if, walked_delay}
 use Rattle.routes.specs.Inner.{spot, step_if}
 use Rattle.routes.proofs.Steps.{frame_in}
@@ -108,17 +107,17 @@ module _ (T n : ℕ) (hops : List Hop) (frames colours : List ℕ) (r : Ready T 
         }
 
   module _ (k s : ℕ) (g : Hop) (c j : ℕ) (p : Along T n hops frames colours k s g c j) where
-    module _ (h : j < n) (i : ℕ) (ei : i ≡ get_or frames j 0) (t : ℕ) (et : t ≡ get_or colours j 0) (v : Walked) (ev : walked_delay v ≡ step_if T g (get_or hops j no_hop) (spot k s) (spot i t)) where
+    module _ (h : j < n) (i : ℕ) (ei : i ≡ get_or frames j 0) (t : ℕ) (et : t ≡ get_or colours j 0) (v : std.Option Delay) (ev : walked_delay v ≡ step_if T g (get_or hops j no_hop) (spot k s) (spot i t)) where
       abbrev later : List Spot
       later = in_colours (drop (j + 1) (firsts n frames 0)) (drop (j + 1) (firsts n colours 0))
 
       here : whole ≡ delay_on T g (spot k s) c (get_or hops j no_hop ∷ drop (j + 1) (firsts n hops no_hop)) (spot i t ∷ later)
       here = p.same ∙ rw (next_first n j hops no_hop h, next_first n j frames 0 h, next_first n j colours 0 h, ← ei, ← et)
 
-      pub no_step : v ≡ variants.Unfit → none ≡ whole
+      pub no_step : v ≡ std.None → none ≡ whole
       no_step e = sym (here ∙ stop T g (get_or hops j no_hop) (spot k s) (spot i t) c (drop (j + 1) (firsts n hops no_hop)) later (sym (ap walked_delay e) ∙ ev))
 
-      module _ (d : Delay) (e : v ≡ variants.Delayed d) where
+      module _ (d : Delay) (e : v ≡ std.Some d) where
         step_is : some d.0 ≡ step_if T g (get_or hops j no_hop) (spot k s) (spot i t)
         step_is = sym (ap walked_delay e) ∙ ev
 

@@ -1,6 +1,7 @@
 -- The hops of a route from stored values, and what a walk over frames says. Assumes nothing.
-use Rattle.std.specs.Prelude.{◌≡◌, cond, List, map, ◌↔◌, ℕ, ◌<◌, ◌≤◌, length, get_or}
-use Rattle.std.proofs.Math.Option.{Option, some, none}
+use Rattle.std.specs.Prelude.{◌≡◌, cond, List, map, ◌↔◌, ℕ, ◌<◌, ◌≤◌, length, get_or, Option, Some, None}
+use Rattle.std.proofs.Math.Option.{some, none}
+use Rattle.std.proofs.Math.Option as math
 use Rattle.places.specs.Places.{firsts}
 use Rattle.refusals.specs.Refusals.{given, pass}
 use Rattle.words.specs.Word.{free_word}
@@ -9,13 +10,12 @@ use Rattle.network.specs.Network.{Topology, no_link}
 use Rattle.network.specs.Checks.{network_check}
 use Rattle.network.specs.declared.Link.{Link}
 use Rattle.forwarding.specs.declared.Hop.{Hop}
+use Rattle.forwarding.specs.declared.Delay.{Delay}
 use Rattle.forwarding.specs.Forwarding.{Spot, IsHold, hold}
 use Rattle.forwarding.specs.Hops.{blank_hop, Ready}
 use Rattle.forwarding.specs.Schedule.{is_schedule, schedule_delay}
 use Rattle.ledger.specs.Sessions.{Session, link_at, link_colours, link_turn, by_colour, hop_of, hops_of}
 use Rattle.ledger.specs.Routes.{route_check}
-use Rattle.routes.specs.declared.Walked.{Walked}
-use Rattle.routes.specs.declared.Walked.TheVariants.{Delayed, Unfit}
 
 -- the free frames of link l in colour c, by the bank of held frames
 abbrev pub free_in : Link → ℕ → List ℕ → ℕ → ℕ
@@ -52,10 +52,10 @@ LinkHoldOnly = (net : Topology) (ss : List Session) (l : ℕ) → network_check 
     → (D : ℕ) → IsHold (hop_of net ss l) r i D ↔ ((D ≡ hold (link_at net l).least (link_at net l).frames r i) × (D ≤ (link_at net l).range))
 
 -- the delay of frames in their colours over hops, if they are a schedule
-abbrev pub delay_if : ℕ → List Hop → List Spot → Option ℕ
+abbrev pub delay_if : ℕ → List Hop → List Spot → math.Option ℕ
 delay_if T hops xs = cond (is_schedule hops xs) (some (schedule_delay T hops xs)) none
 
 -- what a walk of the code says in these words
-abbrev pub walked_delay : Walked → Option ℕ
-walked_delay (Delayed d) = some d.0
-walked_delay Unfit = none
+abbrev pub walked_delay : Option Delay → math.Option ℕ
+walked_delay (Some d) = some d.0
+walked_delay None = none

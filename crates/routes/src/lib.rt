@@ -18,15 +18,8 @@ ghost use Rattle.routes.specs.Inner.{spot, step_if, FramesLaid};
 
 use forwarding::{Delay, Hop};
 use network::{Link, Network};
-use refusals::{Refusal, Verdict};
+use refusals::Refusal;
 use words::{BANK, COLOURS};
-
-// What frames over the hops of a route come to: a schedule's delay, or that they are no schedule.
-#[derive(Clone, Copy)]
-pub enum Walked {
-    Delayed(Delay),
-    Unfit,
-}
 
 // Whether check 12 refuses a number of links.
 fn bad_length(n: usize) -> bool
@@ -105,25 +98,25 @@ fn rates_apart(network: Network, route: &[u8]) -> bool
 }
 
 // The checks of a route, 12 to 15, over a network that passed its own.
-pub fn check_route(network: Network, route: &[u8]) -> Verdict
+pub fn check_route(network: Network, route: &[u8]) -> Result<(), Refusal>
     requires { network_check (topology_of network) ≡ given pass }
     ensures { ruling result ≡ route_check (topology_of network) route.now }
 {
     if bad_length(route.len()) {
-        return Verdict::Refused(Refusal::RouteLength);
+        return Err(Refusal::RouteLength);
     }
     let unknown = unknown_link(network.count, route);
     let twice = link_twice(route);
     if unknown {
-        return Verdict::Refused(Refusal::UnknownLink);
+        return Err(Refusal::UnknownLink);
     }
     if twice {
-        return Verdict::Refused(Refusal::LinkTwice);
+        return Err(Refusal::LinkTwice);
     }
     if rates_apart(network, route) {
-        return Verdict::Refused(Refusal::RatesApart);
+        return Err(Refusal::RatesApart);
     }
-    Verdict::Passed
+    Ok(())
 }
 
 // The colours of a link (C).
@@ -215,26 +208,26 @@ fn may_turn(hop: Hop, c: u16, d: u16) -> bool
 
 // The transition from frame k of the hop before, in colour c, to frame i of a hop in colour d: its delay, if it is allowed.
 // Checks 3, 7, 8, 21, 23 and 24 guarantee what is required; the walk has found frame k free.
-fn step(t: u16, before: Hop, k: u16, c: u16, hop: Hop, i: u16, d: u16) -> Walked
+fn step(t: u16, before: Hop, k: u16, c: u16, hop: Hop, i: u16, d: u16) -> Option<Delay>
     requires { (t ≤ 960) × (k < before.frames) × (before.frames ≤ 64) × (c ≤ 4) × HopReady t hop }
     ensures { walked_delay result ≡ step_if t before hop (spot k c) (spot i d) }
 {
     if !frame_free(hop, i, d) {
-        return Walked::Unfit;
+        return None;
     }
     if !may_turn(hop, c, d) {
-        return Walked::Unfit;
+        return None;
     }
     let hold = forwarding::hold_into(k, before, hop, i);
     if hop.range < hold.0 {
-        return Walked::Unfit;
+        return None;
     }
     let time = forwarding::frame_time(t, hop.frames);
-    Walked::Delayed(forwarding::delay_of(hold, time))
+    Some(forwarding::delay_of(hold, time))
 }
 
 // Whether the frames in their colours are a schedule over the first n hops, and its delay. Checks 3, 7, 8, 21, 23, 24 and 12 guarantee what is required.
-pub fn walk(t: u16, hops: [Hop; 8], frames: [u8; 8], colours: [u8; 8], n: usize) -> Walked
+pub fn walk(t: u16, hops: [Hop; 8], frames: [u8; 8], colours: [u8; 8], n: usize) -> Option<Delay>
     requires { Ready t hops n }
     ensures { walked_delay result ≡ delay_if t (firsts n hops no_hop) (in_colours (firsts n frames 0) (firsts n colours 0)) }
 {
@@ -242,7 +235,7 @@ pub fn walk(t: u16, hops: [Hop; 8], frames: [u8; 8], colours: [u8; 8], n: usize)
     let mut k = places::short(frames[0]);
     let mut colour = places::short(colours[0]);
     if !frame_free(first, k, colour) {
-        return Walked::Unfit;
+        return None;
     }
     let mut before = first;
     let mut total = Delay(0);
@@ -251,18 +244,14 @@ pub fn walk(t: u16, hops: [Hop; 8], frames: [u8; 8], colours: [u8; 8], n: usize)
         let hop = hops[j];
         let i = places::short(frames[j]);
         let d = places::short(colours[j]);
-        match step(t, before, k, colour, hop, i, d) {
-            Walked::Unfit => return Walked::Unfit,
-            Walked::Delayed(delay) => {
-                total = forwarding::sum(total, delay);
-            }
-        }
+        let delay = step(t, before, k, colour, hop, i, d)?;
+        total = forwarding::sum(total, delay);
         before = hop;
         k = i;
         colour = d;
         j += 1;
     }
-    Walked::Delayed(total)
+    Some(total)
 }
 
 // The cycles of frames, one for each of the first n hops; unused places hold 0. Checks 7, 8, 21 and 12 bound the hops, and a schedule has frames of theirs.
