@@ -3,13 +3,13 @@ use mathlib.Core.Path.{◌≡◌, refl, sym, ◌∙◌, ap, ap₂, subst}
 use mathlib.Core.Bool.{Bool, true, false, ◌&&◌, cond}
 use mathlib.Core.List.{List, [], ◌∷◌}
 use mathlib.Core.Logic.{◌⊎◌, inl, inr}
-use Prim.Native.Nat.{ℕ, ◌+◌, ◌-◌, ◌*◌, ◌%◌, ◌<◌, ◌≤◌}
+use Prim.Native.Nat.{ℕ, ◌+◌, ◌-◌, ◌*◌, ◌%◌, ◌<◌, ◌≤◌, min}
 use native.Mathlib.Nat.{mod-lt, add-mul, eq-or-lt_of_le}
 use native.Mathlib.Decide.{dec_lt}
 use native.Mathlib.Omega.{arith}
 use lib.Dec.{ltb}
 use lib.ListN.{get_or}
-use borrow.Author.Tests.{ltb-true, lt-ltb, le-ltb}
+use borrow.Author.Tests.{ltb-true, lt-ltb}
 use Rattle.lists.specs.Order.{Precedes}
 use Rattle.lists.proofs.Count.{and_both, both_and}
 use Rattle.trellis.specs.Trellis.{Reach, Stage}
@@ -20,7 +20,7 @@ use Rattle.forwarding.specs.declared.Hop.{Hop}
 use Rattle.forwarding.specs.Forwarding.{reference_into, least_hold, gap, may_hold, hold_into}
 use Rattle.forwarding.proofs.Holds.{into_gap}
 use Rattle.forwarding.proofs.Windows.{first_frame}
-use Rattle.search.specs.Inner.{way_of, cell_if, lower, Within, Latest, key_at, Opens, key_from, Gathers, offers}
+use Rattle.search.specs.Inner.{way_of, cell_if, Within, Latest, key_at, Opens, key_from, Gathers, offers}
 use Rattle.search.proofs.Cells.{reach_after, reach_never, way_best, way_nobody}
 use Rattle.search.proofs.Positions.{cycle_most, frame_in, gap_position, times_split, position_of}
 use Rattle.search.proofs.Gathering.{within_time}
@@ -245,10 +245,10 @@ module _ (time : ℕ) (g h : Hop) (w free : ℕ) (cells keys froms : List ℕ) (
           ))
 
       -- WHAT IS STORED OF A FRAME IS THE BEST WAY INTO IT, with some hold
-      module _ (lead next pred : ℕ) (led : lead ≡ Y * time) (stored : next ≡ cell_if free i (lower (key p + lead - (K - i) * time) 32768)) (from_is : pred ≡ from) where
+      module _ (lead next pred : ℕ) (led : lead ≡ Y * time) (stored : next ≡ cell_if free i (min (key p + lead - (K - i) * time) 32768)) (from_is : pred ≡ from) where
         -- the cell, where the frame is free
-        open_cell : bit_of free i ≡ true → next ≡ lower (key p + lead - (K - i) * time) 32768
-        open_cell t = stored ∙ ap (λ (b : Bool). cond b (lower (key p + lead - (K - i) * time) 32768) 32768) t
+        open_cell : bit_of free i ≡ true → next ≡ min (key p + lead - (K - i) * time) 32768
+        open_cell t = stored ∙ ap (λ (b : Bool). cond b (min (key p + lead - (K - i) * time) 32768) 32768) t
 
         reached_cell : get_or keys (p % K) 0 < 32768 → bit_of free i ≡ true → (next ≡ get_or cells from 0 + hold * time) × (next < 32768)
         reached_cell m t =
@@ -261,17 +261,13 @@ module _ (time : ℕ) (g h : Hop) (w free : ℕ) (cells keys froms : List ℕ) (
               within_time time K Y least short,
               within_time time K (i + K - p) (omega (arith, behind_i)) short,
             ) in
-            let x : next ≡ get_or cells from 0 + hold * time =
-            open_cell t ∙ ap (λ (y : ℕ). lower y 32768) v ∙ ap (λ (b : Bool). cond b (get_or cells from 0 + hold * time) 32768) (lt-ltb (get_or cells from 0 + hold * time) 32768 l) in
-            (x, omega arith)
+            (omega (arith, open_cell t), omega (arith, open_cell t))
 
         never_cell : 32768 ≤ get_or keys (p % K) 0 → bit_of free i ≡ true → next ≡ 32768
-        never_cell m t =
-            open_cell t
-            ∙ ap (λ (b : Bool). cond b (key p + lead - (K - i) * time) 32768) (le-ltb (key p + lead - (K - i) * time) 32768 (omega (arith, key_never p behind_i L.ends m)))
+        never_cell m t = omega (arith, open_cell t, key_never p behind_i L.ends m)
 
         shut_cell : bit_of free i ≡ false → next ≡ 32768
-        shut_cell t = stored ∙ ap (λ (b : Bool). cond b (lower (key p + lead - (K - i) * time) 32768) 32768) t
+        shut_cell t = stored ∙ ap (λ (b : Bool). cond b (min (key p + lead - (K - i) * time) 32768) 32768) t
 
         pub landed : (D : ℕ) × (way_of next D pred ≡ best_of (offers st cells i) g.frames)
         landed = go (bit_of free i) refl (dec_lt (get_or keys (p % K) 0) 32768)

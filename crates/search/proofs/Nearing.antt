@@ -19,7 +19,7 @@ use Rattle.trellis.specs.Paths.{reached}
 use Rattle.forwarding.specs.declared.Hop.{Hop}
 use Rattle.forwarding.specs.Forwarding.{MayTurn, may_turn}
 use Rattle.forwarding.proofs.Transitions.{may_turn_lem, turn_may}
-use Rattle.search.specs.Inner.{cell_reach, lower, low_turn, near_span, Nearest}
+use Rattle.search.specs.Inner.{cell_reach, low_turn, near_span, Nearest}
 
 -- ---- the best of a run of cells
 module _ (row : List ℕ) (first : ℕ) where
@@ -71,31 +71,16 @@ module _ (row : List ℕ) (first : ℕ) where
             }
 
 -- ---- which colours these are
-lower_is : (a b d : ℕ) → (d < lower a b → (d < a) × (d < b)) × (d < a → d < b → d < lower a b)
-lower_is a b d = go (ltb a b) refl
-  where
-    go : (t : Bool) → ltb a b ≡ t → (d < cond t a b → (d < a) × (d < b)) × (d < a → d < b → d < cond t a b)
-    go true t = (λ l. (omega arith, omega (arith, ltb-true a b t)), λ l m. omega arith)
-    go false t = (λ l. (omega (arith, ltb-false a b t), omega arith), λ l m. omega arith)
-
-pub lower_most : (a b : ℕ) → lower a b ≤ a
-lower_most a b = go (ltb a b) refl
-  where
-    go : (t : Bool) → ltb a b ≡ t → cond t a b ≤ a
-    go true t = omega arith
-    go false t = omega (arith, ltb-false a b t)
-
 module _ (g h : Hop) (c : ℕ) where
   -- exactly those from which c may be reached
   pub near_of : (e : ℕ) → e < near_span g h c → (low_turn h c + e < g.colours) × MayTurn h (low_turn h c + e) c
   near_of e l =
-      let u = (lower_is g.colours (c + h.turn + 1) (low_turn h c + e)).0 (omega arith) in
-      (u.0, (omega (arith, u.1), omega arith))
+      (omega arith, (omega arith, omega arith))
 
   pub near_in : (d : ℕ) → d < g.colours → MayTurn h d c → (e : ℕ) × (e < near_span g h c) × (d ≡ low_turn h c + e)
   near_in d l m =
       let low : c ≤ d + h.turn = m.1 in
-      let u = (lower_is g.colours (c + h.turn + 1) d).1 l (omega (arith, m.0)) in
+      let high : d < c + h.turn + 1 = omega (arith, m.0) in
       (d - low_turn h c, omega arith, omega arith)
 
   -- and so many

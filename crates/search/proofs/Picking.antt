@@ -1,6 +1,6 @@
 -- The picks of windows, stored frame by frame. Assumes nothing.
 use mathlib.Core.Path.{◌≡◌, refl, sym, ◌∙◌, ap, subst}
-use mathlib.Core.Bool.{Bool, true, false, cond}
+use mathlib.Core.Bool.{cond}
 use mathlib.Core.List.{List}
 use Prim.Native.Nat.{ℕ, ◌+◌, ◌-◌, ◌<◌, ◌≤◌}
 use native.Mathlib.Omega.{arith}
@@ -8,8 +8,7 @@ use lib.Dec.{ltb}
 use lib.ListN.{get_or, set, length, length-set}
 use lib.Seq.{get_or-set_same, get_or-set_other}
 use borrow.Author.Count.{below_more}
-use borrow.Author.Tests.{ltb-true, ltb-false}
-use Rattle.search.specs.Inner.{lower, key_at, Picked, Trail, Windows}
+use Rattle.search.specs.Inner.{key_at, Picked, Trail, Windows}
 use Rattle.search.proofs.Latest.{Chosen, chosen_join}
 use Rattle.search.proofs.Positions.{chosen_own, picked_seen, picked_in}
 
@@ -18,14 +17,6 @@ stored : (P : ℕ → ℕ → Type 0) (at : ℕ → ℕ) (l : List ℕ) (n v : �
     → (i : ℕ) → i < n + 1 → P i (get_or (set l (at n) v) (at i) 0)
 stored P at l n v h apart each here =
     below_more (λ i. P i (get_or (set l (at n) v) (at i) 0)) n (λ i q. rw (get_or-set_other l (at n) (at i) v 0 (apart i q)) (each i q)) (rw (get_or-set_same l (at n) v 0 h) here)
-
--- the smaller of two numbers
-pub smaller_within : (a b r : ℕ) → r ≡ lower a b → (r ≤ a) × (r ≤ b) × (0 < a → 0 < b → 0 < r)
-smaller_within a b r e = go (ltb a b) refl e
-  where
-    go : (t : Bool) → ltb a b ≡ t → r ≡ cond t a b → (r ≤ a) × (r ≤ b) × (0 < a → 0 < b → 0 < r)
-    go true t q = (omega arith, omega (arith, ltb-true a b t), λ x y. omega arith)
-    go false t q = (omega (arith, ltb-false a b t), omega arith, λ x y. omega arith)
 
 module _ (cycle K : ℕ) (keys : List ℕ) where
   abbrev key : ℕ → ℕ

@@ -2,7 +2,7 @@
 use mathlib.Core.Path.{◌≡◌, refl, sym, ◌∙◌, ap, ap₂, subst, fun_ext}
 use mathlib.Core.Bool.{cond}
 use mathlib.Core.List.{List}
-use Prim.Native.Nat.{ℕ, ◌+◌, ◌-◌, ◌*◌, ◌%◌, ◌<◌, ◌≤◌}
+use Prim.Native.Nat.{ℕ, ◌+◌, ◌-◌, ◌*◌, ◌%◌, ◌<◌, ◌≤◌, min}
 use native.Mathlib.Nat.{mul-div-le}
 use native.Mathlib.Omega.{arith}
 use lib.Dec.{ltb}
@@ -18,7 +18,7 @@ use Rattle.forwarding.specs.Hops.{HopReady}
 use Rattle.forwarding.proofs.Holds.{least_in}
 use Rattle.forwarding.proofs.Transitions.{delay_frames}
 use Rattle.forwarding.proofs.Windows.{first_frame}
-use Rattle.search.specs.Inner.{cell_if, lower, Latest, key_at, Picked, Keys, Windows, Opens, Gathers, leadings, Gathering, place_from, Lanes, Settled, Settling, lane_of, offers, Lane, LaneSet}
+use Rattle.search.specs.Inner.{cell_if, Latest, key_at, Picked, Keys, Windows, Opens, Gathers, leadings, Gathering, place_from, Lanes, Settled, Settling, lane_of, offers, Lane, LaneSet}
 use Rattle.search.proofs.Positions.{cycle_most, frame_in, times_split, seen_key, picked_in}
 use Rattle.search.proofs.Gathering.{within_time, none_gathered, gathered_keys, gathered_waits}
 use Rattle.search.proofs.Counting.{lane_by, all_counted, ones_few}
@@ -38,7 +38,7 @@ module _ (time lead K free w : ℕ) (keys froms lanes : List ℕ) where
   }
 
   module _ (n : ℕ) (next preds : List ℕ) (s : Settled time lead K free w keys froms lanes n next preds) (few : n < 64) (frame value cell place : ℕ) (P : Picked key K (n + K) w frame)
-      (valued : value ≡ key P.position) (lands : cell ≡ cell_if free n (lower (value + lead - (K - n) * time) 32768))
+      (valued : value ≡ key P.position) (lands : cell ≡ cell_if free n (min (value + lead - (K - n) * time) 32768))
       (placed : place ≡ place_from lanes (get_or froms frame 0)) where
     -- one frame more
     one_settled : Settled time lead K free w keys froms lanes (n + 1) (set next n cell) (set preds n place)
@@ -51,14 +51,14 @@ module _ (time lead K free w : ℕ) (keys froms lanes : List ℕ) where
     }
       where
         Is : ℕ → Type 0
-        Is i = (p : ℕ) × Latest key (i + K) w p × (get_or (set next n cell) i 0 ≡ cell_if free i (lower (key p + lead - (K - i) * time) 32768))
+        Is i = (p : ℕ) × Latest key (i + K) w p × (get_or (set next n cell) i 0 ≡ cell_if free i (min (key p + lead - (K - i) * time) 32768))
             × (get_or (set preds n place) i 0 ≡ place_from lanes (get_or froms (p % K) 0))
 
         here : Is n
         here = (
           P.position,
           P.latest,
-          get_or-set_same next n cell 0 (omega (arith, s.next_long)) ∙ lands ∙ ap (λ (x : ℕ). cell_if free n (lower (x + lead - (K - n) * time) 32768)) valued,
+          get_or-set_same next n cell 0 (omega (arith, s.next_long)) ∙ lands ∙ ap (λ (x : ℕ). cell_if free n (min (x + lead - (K - n) * time) 32768)) valued,
           get_or-set_same preds n place 0 (omega (arith, s.long)) ∙ placed ∙ ap (λ (x : ℕ). place_from lanes (get_or froms x 0)) P.stands,
         )
 
@@ -101,10 +101,10 @@ module _ (time lead K free w : ℕ) (keys froms lanes row₀ preds₀ : List ℕ
         waits_there : (K - i) * time ≤ key_at (K * time) K keys pick.position
         waits_there = key_waits K i pick.position l (omega (arith, pick.latest.begins, S.narrow)) pick.latest.ends time keys S.waits
 
-    pub settled_on : (wait cell place : ℕ) → wait ≡ (K - i) * time → i < 64 → cell ≡ cell_if free i (lower (value + lead - wait) 32768) → place ≡ place_from lanes (get_or froms frame 0)
+    pub settled_on : (wait cell place : ℕ) → wait ≡ (K - i) * time → i < 64 → cell ≡ cell_if free i (min (value + lead - wait) 32768) → place ≡ place_from lanes (get_or froms frame 0)
         → Settled time lead K free w keys froms lanes (i + 1) (set row i cell) (set preds i place)
     settled_on wait cell place e few c q =
-        one_settled time lead K free w keys froms lanes i row preds s few (get_or preds i 0) value cell place pick valued (c ∙ ap (λ (x : ℕ). cell_if free i (lower (value + lead - x) 32768)) e)
+        one_settled time lead K free w keys froms lanes i row preds s few (get_or preds i 0) value cell place pick valued (c ∙ ap (λ (x : ℕ). cell_if free i (min (value + lead - x) 32768)) e)
         (q ∙ ap (λ (x : ℕ). place_from lanes (get_or froms x 0)) is)
 
 -- a place fits a byte

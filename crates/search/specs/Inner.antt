@@ -1,6 +1,6 @@
 -- Words of the contracts of inner functions. They are no part of what is promised: `search::search` promises in the words of `Reading` alone. They say what the
 -- rows of the code are in the terms of survivor search, whose definitions stand in `trellis/proofs` since it is a method and no rule. Assumes nothing.
-use Rattle.std.specs.Prelude.{◌≡◌, Bool, true, false, ◌&&◌, ◌||◌, cond, List, [], ◌∷◌, ℕ, zero, suc, ◌+◌, ◌-◌, ◌*◌, ◌/◌, ◌%◌, ◌<◌, ◌≤◌, eqb, ltb, get_or, set, length}
+use Rattle.std.specs.Prelude.{◌≡◌, Bool, true, false, ◌&&◌, ◌||◌, cond, List, [], ◌∷◌, ℕ, zero, suc, ◌+◌, ◌-◌, ◌*◌, ◌/◌, ◌%◌, ◌<◌, ◌≤◌, eqb, ltb, get_or, set, length, min}
 use Rattle.lists.specs.Count.{one_if, sum_below, count_below}
 use Rattle.trellis.specs.Trellis.{Reach, never, after, Stage, Trellis, entry, width}
 use Rattle.trellis.specs.Paths.{reached}
@@ -32,12 +32,9 @@ way_if false d h k = nobody
 unfoldable pub way_of : ℕ → ℕ → ℕ → Best
 way_of c h k = way_if (ltb c 32768) c h k
 
--- the cell of a frame, where it is free; and of two numbers the smaller
+-- the cell of a frame, where it is free
 abbrev pub cell_if : ℕ → ℕ → ℕ → ℕ
 cell_if free i c = cond (bit_of free i) c 32768
-
-abbrev pub lower : ℕ → ℕ → ℕ
-lower a b = cond (ltb a b) a b
 
 -- a cell after at most d ticks, or none
 pub record Within (d c : ℕ) : Type 0 where
@@ -157,7 +154,7 @@ pub record Settled (time lead K free w : ℕ) (keys froms lanes : List ℕ) (n :
   pub long : length preds ≡ 64
   pub next_long : length next ≡ 64
   pub settled : (i : ℕ) → i < n → (p : ℕ) × Latest (key_at (K * time) K keys) (i + K) w p
-      × (get_or next i 0 ≡ cell_if free i (lower (key_at (K * time) K keys p + lead - (K - i) * time) 32768)) × (get_or preds i 0 ≡ place_from lanes (get_or froms (p % K) 0))
+      × (get_or next i 0 ≡ cell_if free i (min (key_at (K * time) K keys p + lead - (K - i) * time) 32768)) × (get_or preds i 0 ≡ place_from lanes (get_or froms (p % K) 0))
   pub picked : (i : ℕ) → n ≤ i → i < K → Picked (key_at (K * time) K keys) K (i + K) w (get_or preds i 0)
 
 -- what is known where the frames of a hop are settled
@@ -235,7 +232,7 @@ abbrev pub low_turn : Hop → ℕ → ℕ
 low_turn h c = c - h.turn
 
 abbrev pub high_turn : Hop → Hop → ℕ → ℕ
-high_turn g h c = lower g.colours (c + h.turn + 1)
+high_turn g h c = min g.colours (c + h.turn + 1)
 
 abbrev pub near_span : Hop → Hop → ℕ → ℕ
 near_span g h c = high_turn g h c - low_turn h c

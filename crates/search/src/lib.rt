@@ -22,7 +22,7 @@ ghost use Rattle.forwarding.specs.Hops.{no_hop, Ready};
 ghost use Rattle.forwarding.specs.Route.{nodes, stage};
 ghost use Rattle.forwarding.proofs.Windows.{first_frame};
 ghost use Rattle.search.specs.Reading.{Finds};
-ghost use Rattle.search.specs.Inner.{cell_reach, way_of, cell_if, lower, Keys, Trail, Windows, Entered, Gathers, leadings, Gathering, Settled, Settling, Lane, LaneSet, low_turn, high_turn, near_span, NearRow, NearLane, LanePut, Putting, Coloured, Colouring, Kept, Entering, Advanced, by_node, FirstLane, FirstRow, Sweeps, Swept, lane_offers, end_sooner, EndOf, chain_of, ChainFits, Parts};
+ghost use Rattle.search.specs.Inner.{cell_reach, way_of, cell_if, Keys, Trail, Windows, Entered, Gathers, leadings, Gathering, Settled, Settling, Lane, LaneSet, low_turn, high_turn, near_span, NearRow, NearLane, LanePut, Putting, Coloured, Colouring, Kept, Entering, Advanced, by_node, FirstLane, FirstRow, Sweeps, Swept, lane_offers, end_sooner, EndOf, chain_of, ChainFits, Parts};
 
 use forwarding::{Delay, Hold, Hop};
 
@@ -98,7 +98,7 @@ fn enter(keys: &mut [u16; 64], froms: &mut [u8; 64], i: u16, key: u16, k: u16)
 fn one_reached(cell: u16) -> u8
     ensures { result ≡ one_if (reached (cell_reach cell)) }
 {
-    if cell < NEVER { 1 } else { 0 }
+    u8::from(cell < NEVER)
 }
 
 // The transitions from a frame that some schedule leads to in so many colours, each of which leads to so many free frames. W-211: there are at most four.
@@ -137,17 +137,14 @@ fn gather(
     ensures { Gathers (first_frame before hop) time.0 hop.frames row.now before.frames keys.new froms.new × (result ≡ leadings (first_frame before hop) many.now ones.now before.frames) }
 {
     let frames = hop.frames;
-    let last = before.frames;
     let least = forwarding::least_hold(hop);
     let mut count: u32 = 0;
-    let mut k: u16 = 0;
-    while k < last {
+    for k in 0..before.frames {
         let cell = row[k as usize];
         let i = words::frame_on(reference(k, before, hop), least, frames);
         let wait = forwarding::delay_of(Hold(frames - i), time);
         count += leaving(many[k as usize], ones[i as usize]);
         enter(keys, froms, i, cell + wait.0, k);
-        k += 1;
     }
     count
 }
@@ -191,11 +188,9 @@ fn trail(keys: &[u16; 64], cycle: Delay, frames: u16, end: u16, width: u16, behi
         frame: end as u8,
     };
     behind[0] = kept.frame;
-    let mut o: u16 = 1;
-    while o < width {
+    for o in 1..width {
         kept = sooner(kept, back(keys, cycle, frames, end, o));
         behind[o as usize] = kept.frame;
-        o += 1;
     }
 }
 
@@ -218,8 +213,7 @@ fn block(
         frame: first as u8,
     };
     preds[first as usize] = behind[(width - 1) as usize];
-    let mut j: u16 = 1;
-    while j < span {
+    for j in 1..span {
         let i = first + j;
         let own = Choice {
             key: keys[i as usize],
@@ -228,20 +222,12 @@ fn block(
         run = sooner(own, run);
         let frame = behind[(width - 1 - j) as usize];
         let far = Choice {
-            key: seen(keys, cycle, places::short(frame), first),
+            key: seen(keys, cycle, u16::from(frame), first),
             frame,
         };
         let pick = sooner(run, far);
         preds[i as usize] = pick.frame;
-        j += 1;
     }
-}
-
-// The smaller of two numbers.
-fn smaller(a: u16, b: u16) -> u16
-    ensures { result ≡ lower a b }
-{
-    if a < b { a } else { b }
 }
 
 // The picks of the windows of `width` frames, each at the frame that it ends with, block by block; `behind` is lent.
@@ -256,12 +242,10 @@ fn windows(
     requires { Keys cycle.0 frames keys.now × (0 < width) × (width ≤ frames) × (length behind.old ≡ 64) × (length preds.old ≡ 64) }
     ensures { Windows cycle.0 frames keys.now width frames preds.new }
 {
-    let mut first: u16 = 0;
-    while first < frames {
-        let span = smaller(width, frames - first);
+    for first in (0..frames).step_by(width as usize) {
+        let span = width.min(frames - first);
         trail(keys, cycle, frames, first, width, behind);
         block(keys, cycle, frames, width, first, span, behind, preds);
-        first += span;
     }
 }
 
@@ -283,16 +267,15 @@ fn settle(
     ensures { (w : ℕ) → Settling time.0 lead.0 frames free w keys.now froms.now lanes.now row.old preds.old → Settled time.0 lead.0 frames free w keys.now froms.now lanes.now frames row.new preds.new }
 {
     let cycle = forwarding::delay_of(Hold(frames), time);
-    let mut i: u16 = 0;
-    while i < frames {
+    for i in 0..frames {
         let at = i as usize;
-        let frame = places::short(preds[at]);
+        let frame = u16::from(preds[at]);
         let key = seen(keys, cycle, frame, i);
         let wait = forwarding::delay_of(Hold(frames - i), time);
-        row[at] = if_free(free, i, smaller(key + lead.0 - wait.0, NEVER));
+        let cell = key + lead.0 - wait.0;
+        row[at] = if_free(free, i, cell.min(NEVER));
         let from = froms[frame as usize];
-        preds[at] = lanes[places::index(from)] + from;
-        i += 1;
+        preds[at] = lanes[usize::from(from)] + from;
     }
 }
 
@@ -339,7 +322,7 @@ fn high_turn(before: Hop, hop: Hop, c: u16) -> u16
     requires { (c < 4) × (hop.turn < 4) }
     ensures { result ≡ high_turn before hop c }
 {
-    smaller(before.colours, c + hop.turn + 1)
+    before.colours.min(c + hop.turn + 1)
 }
 
 // Offers each of the frames its cell in one lane of a row: `cells` has the least so far, `lanes`
@@ -355,9 +338,8 @@ fn near_lane(
     requires { (lane ≤ 192) × (frames ≤ 64) × (length cells.old ≡ 64) × (length lanes.old ≡ 64) × (length many.old ≡ 64) × ((k : ℕ) → k < frames → get_or many.old k 0 ≤ 3) }
     ensures { NearLane lane row.now frames cells.old lanes.old many.old cells.new lanes.new many.new }
 {
-    let first = places::index(lane);
-    let mut k: u16 = 0;
-    while k < frames {
+    let first = usize::from(lane);
+    for k in 0..frames {
         let at = k as usize;
         let cell = row[first + at];
         let kept = Choice {
@@ -371,8 +353,7 @@ fn near_lane(
         let choice = sooner(kept, other);
         cells[at] = choice.key;
         lanes[at] = choice.frame;
-        many[at] = many[at] + one_reached(cell);
-        k += 1;
+        many[at] += one_reached(cell);
     }
 }
 
@@ -392,10 +373,9 @@ fn near_row(
 {
     let frames = before.frames;
     let high = high_turn(before, hop, c);
-    let mut d = low_turn(hop, c);
-    while d < high {
+    let low = low_turn(hop, c);
+    for d in low..high {
         near_lane(row, (64 * d) as u8, frames, cells, lanes, many);
-        d += 1;
     }
 }
 
@@ -414,12 +394,8 @@ fn put_lane(
 {
     let first = 64 * c as usize;
     let start = base + first;
-    let mut i: usize = 0;
-    while i < 64 {
-        next[first + i] = cells[i];
-        preds[start + i] = froms[i];
-        i += 1;
-    }
+    next[first..first + 64].copy_from_slice(cells);
+    preds[start..start + 64].copy_from_slice(froms);
 }
 
 // Enters a hop in colour c, whose free word this is: its lane and the places before. Answers the
@@ -463,29 +439,13 @@ fn advance(
     requires { Entering t before hop row.now preds.old base × (length next.old ≡ 256) }
     ensures { Coloured t before hop hop.colours (by_node before row.now) base preds.old next.new preds.new result }
 {
-    let colours = hop.colours;
     let free = hop.free;
     let mut count: u32 = 0;
-    let mut c: u16 = 0;
-    while c < colours {
+    for c in 0..hop.colours {
         let word = free[c as usize];
         count = colour(row, t, before, hop, c, word, count, next, preds, base);
-        c += 1;
     }
     count
-}
-
-// Copies the lane of colour c of a row to another row, which has the lanes before it.
-fn keep_lane(next: &[u16; 256], c: u16, row: &mut [u16; 256])
-    requires { (c < 4) × Kept next.now (64 * c) row.old }
-    ensures { Kept next.now (64 * c + 64) row.new }
-{
-    let first = 64 * c as usize;
-    let mut i: usize = 0;
-    while i < 64 {
-        row[first + i] = next[first + i];
-        i += 1;
-    }
 }
 
 // Copies the lanes of a row to another row.
@@ -493,11 +453,8 @@ fn keep(next: &[u16; 256], colours: u16, row: &mut [u16; 256])
     requires { (colours ≤ 4) × (length row.old ≡ 256) }
     ensures { Kept next.now (64 * colours) row.new }
 {
-    let mut c: u16 = 0;
-    while c < colours {
-        keep_lane(next, c, row);
-        c += 1;
-    }
+    let end = 64 * colours as usize;
+    row[..end].copy_from_slice(&next[..end]);
 }
 
 // The lane of hop 0 in colour c, whose free word this is: a free frame has delay 0.
@@ -506,10 +463,8 @@ fn first_lane(free: u64, frames: u16, c: u16, cells: &mut [u16; 256])
     ensures { FirstLane free c frames cells.old cells.new }
 {
     let first = 64 * c as usize;
-    let mut i: u16 = 0;
-    while i < frames {
+    for i in 0..frames {
         cells[first + i as usize] = if_free(free, i, 0);
-        i += 1;
     }
 }
 
@@ -519,12 +474,9 @@ fn first_row(hop: Hop, cells: &mut [u16; 256])
     ensures { FirstRow hop.free hop.frames hop.colours cells.new }
 {
     let frames = hop.frames;
-    let colours = hop.colours;
     let free = hop.free;
-    let mut c: u16 = 0;
-    while c < colours {
+    for c in 0..hop.colours {
         first_lane(free[c as usize], frames, c, cells);
-        c += 1;
     }
 }
 
@@ -536,12 +488,10 @@ fn sweep(t: u16, hops: [Hop; 8], last: usize, row: &mut [u16; 256], preds: &mut 
 {
     let mut next = [NEVER; 256];
     let mut count: u32 = 0;
-    let mut j: usize = 0;
-    while j < last {
+    for j in 0..last {
         let from = hops[j];
         let base = 256 * j;
-        j += 1;
-        let hop = hops[j];
+        let hop = hops[j + 1];
         count += advance(row, t, from, hop, &mut next, preds, base);
         keep(&next, hop.colours, row);
     }
@@ -558,14 +508,12 @@ fn best_frame(row: &[u16; 256], c: u16, frames: u16) -> Choice
         key: NEVER,
         frame: 0,
     };
-    let mut f: u16 = 0;
-    while f < frames {
+    for f in 0..frames {
         let choice = Choice {
             key: row[first + f as usize],
             frame: f as u8,
         };
         end = sooner(end, choice);
-        f += 1;
     }
     end
 }
@@ -604,15 +552,13 @@ fn best_end(row: &[u16; 256], frames: u16, colours: u16) -> End
         key: NEVER,
         place: 0,
     };
-    let mut c: u16 = 0;
-    while c < colours {
+    for c in 0..colours {
         let best = best_frame(row, c, frames);
         let other = End {
             key: best.key,
             place: (64 * c) as u8 + best.frame,
         };
         end = sooner_end(end, other);
-        c += 1;
     }
     end
 }
@@ -628,7 +574,7 @@ fn recover(preds: &[u8; 1792], j: usize, p: u8, out: &mut [u8; 8])
     if j == 0 {
         return;
     }
-    let at = 256 * (j - 1) + places::index(p);
+    let at = 256 * (j - 1) + usize::from(p);
     recover(preds, j - 1, preds[at], out)
 }
 
@@ -639,11 +585,9 @@ fn apart(delay: Delay, n: usize, places: [u8; 8]) -> Schedule
 {
     let mut frames = [0u8; 8];
     let mut colours = [0u8; 8];
-    let mut j: usize = 0;
-    while j < n {
+    for j in 0..n {
         frames[j] = places[j] % 64;
         colours[j] = places[j] / 64;
-        j += 1;
     }
     Schedule {
         delay,

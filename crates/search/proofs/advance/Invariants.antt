@@ -1,13 +1,9 @@
 -- `search::advance` meets its contract. The invariant: the colours below c are entered. Assumes
 -- nothing.
 use mathlib.Core.Path.{◌≡◌}
-use Prim.Native.Nat.{◌-◌, ◌≤◌}
 use lib.ListN.{length}
 use Rattle.search.specs.Inner.{by_node, Coloured}
 use Rattle.search.proofs.advance.Given as goal
 
 abbrev pub invariant-loop-c : goal.invariant-loop-c
-invariant-loop-c l = (l.c ≤ l.colours) × (length l.free ≡ 4) × Coloured l.t l.before l.hop l.c (by_node l.before l.row) l.base l.initial.preds l.next l.preds l.count
-
-abbrev pub decreases-loop-c : goal.decreases-loop-c
-decreases-loop-c l = l.colours - l.c
+invariant-loop-c l = (length l.free ≡ 4) × Coloured l.t l.before l.hop l.c (by_node l.before l.row) l.base l.initial.preds l.next l.preds l.count

@@ -1,6 +1,5 @@
 use mathlib.Core.Path.{refl}
 use Prim.Native.Nat.{◌+◌, ◌*◌}
-use native.Mathlib.Omega.{arith}
 use Rattle.search.proofs.Ends.{end_more}
 use Rattle.search.proofs.best_end.Goals as goal
 
@@ -8,8 +7,6 @@ pub loop-c-preserved : goal.loop-c-preserved
 loop-c-preserved c = let a = c.args in
     let l = c.loop-c in
     let b = c.best_frame-best in
-    let r = c.sooner_end-end in (
-      omega arith,
-      end_more a.row.now a.frames l.c l.end.key l.end.place b.result.key b.result.frame (64 * l.c + b.result.frame) r.result.key r.result.place
-          l.invariant.1 b.ensures.0 b.ensures.1 refl r.ensures.0 r.ensures.1,
-    )
+    let r = c.sooner_end-end in
+    end_more a.row.now a.frames l.c l.end.key l.end.place b.result.key b.result.frame (64 * l.c + b.result.frame) r.result.key r.result.place
+    l.invariant b.ensures.0 b.ensures.1 refl r.ensures.0 r.ensures.1

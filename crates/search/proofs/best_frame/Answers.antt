@@ -8,7 +8,7 @@ use Rattle.search.proofs.Ends.{few_chosen}
 use Rattle.search.proofs.best_frame.Goals as goal
 
 pub loop-f-init : goal.loop-f-init
-loop-f-init c = (omega arith, way_nobody 32768 0 0 (omega arith), omega arith)
+loop-f-init c = (way_nobody 32768 0 0 (omega arith), omega arith)
 
 pub loop-f-preserved : goal.loop-f-preserved
 loop-f-preserved c = let a = c.args in
@@ -16,7 +16,6 @@ loop-f-preserved c = let a = c.args in
     let r = c.sooner-end in
     let cell : ℕ = get_or a.row.now (64 * a.c + l.f) 0 in
     let e = end_chosen l.end.key l.end.frame cell l.f r.result.key r.result.frame r.ensures.0 r.ensures.1 in (
-      omega arith,
-      rw (add-one l.f) (rw l.invariant.1 at e),
-      rw r.ensures.1 (few_chosen (ltb cell l.end.key) l.end.frame l.f l.invariant.2 (omega (arith, c.loop-f-test.true, c.requires.0))),
+      rw (add-one l.f) (rw l.invariant.0 at e),
+      rw r.ensures.1 (few_chosen (ltb cell l.end.key) l.end.frame l.f l.invariant.1 (omega (arith, c.loop-f-test.true, c.requires.0))),
     )

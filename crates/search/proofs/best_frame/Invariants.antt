@@ -1,13 +1,10 @@
 -- `search::best_frame` meets its contract. Assumes nothing.
 -- Invariant: the choice is the best of the frames below f.
 use mathlib.Core.Path.{◌≡◌}
-use Prim.Native.Nat.{◌-◌, ◌<◌, ◌≤◌}
+use Prim.Native.Nat.{◌<◌}
 use Rattle.trellis.proofs.Survivor.{best_of}
 use Rattle.search.specs.Inner.{way_of, lane_offers}
 use Rattle.search.proofs.best_frame.Given as goal
 
 abbrev pub invariant-loop-f : goal.invariant-loop-f
-invariant-loop-f l = (l.f ≤ l.frames) × (way_of l.end.key 0 l.end.frame ≡ best_of (lane_offers l.row l.c) l.f) × (l.end.frame < 64)
-
-abbrev pub decreases-loop-f : goal.decreases-loop-f
-decreases-loop-f l = l.frames - l.f
+invariant-loop-f l = (way_of l.end.key 0 l.end.frame ≡ best_of (lane_offers l.row l.c) l.f) × (l.end.frame < 64)

@@ -1,13 +1,10 @@
 -- `search::block` meets its contract. The invariant: the windows that end before frame first + j have their picks, and the best of the frames from `first` on is kept with its key. Assumes nothing.
 use mathlib.Core.Path.{◌≡◌}
-use Prim.Native.Nat.{ℕ, ◌+◌, ◌-◌, ◌<◌, ◌≤◌}
+use Prim.Native.Nat.{ℕ, ◌+◌}
 use Rattle.search.specs.Inner.{key_at, Windows}
 use Rattle.search.proofs.Latest.{Chosen}
 use Rattle.search.proofs.block.Given as goal
 
 abbrev pub invariant-loop-j : goal.invariant-loop-j
-invariant-loop-j l = (0 < l.j) × (l.j ≤ l.span) × Windows l.cycle.0 l.frames l.keys l.width (l.first + l.j) l.preds
+invariant-loop-j l = Windows l.cycle.0 l.frames l.keys l.width (l.first + l.j) l.preds
     × ((e : ℕ) × (e + 1 ≡ l.first + l.frames + l.j) × Chosen (key_at l.cycle.0 l.frames l.keys) l.frames e l.j l.run.frame l.run.key)
-
-abbrev pub decreases-loop-j : goal.decreases-loop-j
-decreases-loop-j l = l.span - l.j

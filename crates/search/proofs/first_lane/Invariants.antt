@@ -1,10 +1,6 @@
 -- `search::first_lane` meets its contract. The invariant: the cells below i are there. Assumes nothing.
-use Prim.Native.Nat.{◌-◌, ◌≤◌}
 use Rattle.search.specs.Inner.{FirstLane}
 use Rattle.search.proofs.first_lane.Given as goal
 
 abbrev pub invariant-loop-i : goal.invariant-loop-i
-invariant-loop-i l = (l.i ≤ l.frames) × FirstLane l.free l.c l.i l.initial.cells l.cells
-
-abbrev pub decreases-loop-i : goal.decreases-loop-i
-decreases-loop-i l = l.frames - l.i
+invariant-loop-i l = FirstLane l.free l.c l.i l.initial.cells l.cells

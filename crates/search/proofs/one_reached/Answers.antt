@@ -1,13 +1,16 @@
--- `search::one_reached` meets its contract. Assumes nothing.
-use mathlib.Core.Path.{sym, ap}
+use mathlib.Core.Path.{◌≡◌, refl, ◌∙◌}
+use mathlib.Core.Bool.{Bool, true, false}
+use mir.Val.{bool_byte}
+use lib.Dec.{ltb}
 use Rattle.lists.specs.Count.{one_if}
-use Rattle.trellis.specs.Trellis.{Reach}
 use Rattle.trellis.specs.Paths.{reached}
-use Rattle.search.proofs.Cells.{reach_after, reach_never}
+use Rattle.search.specs.Inner.{cell_reach, reach_if}
 use Rattle.search.proofs.one_reached.Goals as goal
 
-pub returns-then-cell-lt-NEVER : goal.returns-then-cell-lt-NEVER
-returns-then-cell-lt-NEVER c = sym (ap (λ (x : Reach). one_if (reached x)) (reach_after c.args.cell c.if-cell-lt-NEVER.true))
-
-pub returns-else-cell-lt-NEVER : goal.returns-else-cell-lt-NEVER
-returns-else-cell-lt-NEVER c = sym (ap (λ (x : Reach). one_if (reached x)) (reach_never c.args.cell c.if-cell-lt-NEVER.false))
+pub returns : goal.returns
+unfolding cell_reach
+returns c = c.from.ensures ∙ told (ltb c.args.cell 32768)
+  where
+    told : (b : Bool) → bool_byte b ≡ one_if (reached (reach_if b c.args.cell))
+    told true = refl
+    told false = refl

@@ -10,7 +10,7 @@ use Rattle.search.proofs.sweep.Goals as goal
 
 pub loop-j-init : goal.loop-j-init
 loop-j-init c = let a = c.args in
-    (omega arith, omega arith, swept_none a.t a.hops a.last a.row.now a.preds.now c.requires, length-replicate {A = ℕ} 256 32768)
+    (omega arith, swept_none a.t a.hops a.last a.row.now a.preds.now c.requires, length-replicate {A = ℕ} 256 32768)
 
 pub advance-count-requires : goal.advance-count-requires
 advance-count-requires c = let a = c.args in
@@ -23,11 +23,11 @@ advance-count-requires c = let a = c.args in
         few_before = (r.each l.j (omega (arith, less))).few_frames;
         few_colours = (r.each l.j (omega (arith, less))).few_colours;
         ready = r.each (l.j + 1) (omega (arith, less));
-        small = cells_small a.t a.hops a.last a.row.now a.preds.now c.requires l.j l.row l.preds l.count (omega (arith, less)) l.invariant.2;
+        small = cells_small a.t a.hops a.last a.row.now a.preds.now c.requires l.j l.row l.preds l.count (omega (arith, less)) l.invariant.1;
         within = omega (arith, r.few_hops);
-        long = l.invariant.2.long;
+        long = l.invariant.1.long;
       },
-      l.invariant.3,
+      l.invariant.2,
     )
 
 pub overflow_add-count : goal.overflow_add-count
@@ -52,8 +52,7 @@ loop-j-preserved c = let a = c.args in
     let before = hop_at a.hops l.j in
     let hop = hop_at a.hops (l.j + 1) in
     let d = all_colours a.t before hop (by_node before l.row) l.preds (256 * l.j) h next preds row v.result (64 * hop.colours) refl v.ensures k.ensures in (
-      omega (arith, less),
-      omega (arith, n, l.invariant.1),
-      swept_more a.t a.hops a.last a.row.now a.preds.now c.requires l.j l.row row l.preds preds l.count v.result (omega (arith, less)) l.invariant.2 k.ensures.long d,
+      omega (arith, n, l.invariant.0),
+      swept_more a.t a.hops a.last a.row.now a.preds.now c.requires l.j l.row row l.preds preds l.count v.result (omega (arith, less)) l.invariant.1 k.ensures.long d,
       v.ensures.next_long,
     )

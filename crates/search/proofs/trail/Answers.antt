@@ -10,7 +10,7 @@ use Rattle.search.proofs.trail.Goals as goal
 pub loop-o-init : goal.loop-o-init
 loop-o-init c = let a = c.args in
     let own = chosen_own a.cycle.0 a.frames a.keys.now a.end a.end _ c.requires.1 refl refl in
-    (omega arith, c.requires.2, trail_more a.cycle.0 a.frames a.keys.now a.end 0 a.end _ a.behind.now (omega arith) (trail_none a.cycle.0 a.frames a.keys.now a.end a.behind.now c.requires.4) own, own)
+    (trail_more a.cycle.0 a.frames a.keys.now a.end 0 a.end _ a.behind.now (omega arith) (trail_none a.cycle.0 a.frames a.keys.now a.end a.behind.now c.requires.4) own, own)
 
 pub loop-o-preserved : goal.loop-o-preserved
 loop-o-preserved c = let a = c.args in
@@ -19,5 +19,5 @@ loop-o-preserved c = let a = c.args in
     let few = c.requires.0.few_frames in
     let far = chosen_behind a.cycle.0 a.frames a.keys.now a.end l.o b.result.frame b.result.key c.requires.1 (omega arith) b.ensures.0 b.ensures.1 in
     let next = chosen_join (key_at a.cycle.0 a.frames a.keys.now) a.frames (a.end + a.frames) (a.end + (a.frames - l.o)) l.o l.o 1 (l.o + 1) l.kept.frame l.kept.key b.result.frame b.result.key
-    c.sooner-kept.result.frame c.sooner-kept.result.key (omega arith) (omega arith) (omega arith) refl l.invariant.3 far c.sooner-kept.ensures.0 c.sooner-kept.ensures.1 in
-    (omega arith, omega arith, trail_more a.cycle.0 a.frames a.keys.now a.end l.o c.sooner-kept.result.frame c.sooner-kept.result.key l.behind (omega arith) l.invariant.2 next, next)
+    c.sooner-kept.result.frame c.sooner-kept.result.key (omega arith) (omega arith) (omega arith) refl l.invariant.1 far c.sooner-kept.ensures.0 c.sooner-kept.ensures.1 in
+    (trail_more a.cycle.0 a.frames a.keys.now a.end l.o c.sooner-kept.result.frame c.sooner-kept.result.key l.behind (omega arith) l.invariant.0 next, next)
