@@ -9,12 +9,12 @@ use borrow.Author.Tests.{lt-ltb, le-ltb, eq-eqb, ne_eqb}
 use lib.Seq.{drop-drop}
 use lib.ListN.{length, get_or, drop, take, set, length-append, length-drop}
 use lib.Dec.{eqb}
+use Rattle.std.specs.Prelude.{Result, Ok, Err}
 use Rattle.places.specs.Places.{firsts}
 use Rattle.places.proofs.Parts.{part_rest}
 use Rattle.places.proofs.Firsts.{firsts_more}
-use Rattle.refusals.specs.declared.Verdict.TheVariants as verdicts
 use Rattle.refusals.specs.declared.Refusal.{Refusal}
-use Rattle.refusals.specs.declared.Verdict.TheVariants.{Passed}
+use Rattle.refusals.specs.declared.Refusal.TheVariants.{ShortFile, LinkCount, CycleLength, BytesFollow}
 use Rattle.refusals.specs.Refusals.{Outcome, given, refused, pass, Ruling, refuse_if, refused_or, on_given, refusal_number}
 use Rattle.refusals.proofs.Refusals.{not_given}
 use Rattle.numbers.specs.Numbers.{number_in}
@@ -22,15 +22,13 @@ use Rattle.numbers.proofs.Laws.{number_bound}
 use Rattle.numbers.proofs.Trip.{bytes_drop}
 use Rattle.network.specs.Checks.{bad_count, bad_cycle, link_check}
 use Rattle.network.specs.declared.Link.{Link}
-use Rattle.network.specs.Network.{Topology, no_link}
+use Rattle.network.specs.declared.Network.{Network}
+use Rattle.network.specs.Network.{no_link}
 use Rattle.network.proofs.Tests.{count_passed}
 use Rattle.records.specs.Reading.{Said, read_record}
 use Rattle.records.proofs.ReadWrite.{Whole, record_only}
-use Rattle.network_file.specs.declared.Loaded.{Loaded}
-use Rattle.network_file.specs.Reading.{Linked, read_link, read_links, within, read_network, link_read, no_network, Reads}
+use Rattle.network_file.specs.Reading.{Linked, read_link, read_links, within, read_network, link_read, Reads}
 use Rattle.network_file.specs.Fields.{link_layout, link_of}
-use Rattle.network_file.specs.declared.LinkRecord.TheVariants.{Fields, Refused}
-use Rattle.network_file.specs.declared.LinkRecord.{LinkRecord}
 use Rattle.network_file.proofs.Records.{link_layout_lem}
 
 -- ---- a link that was read
@@ -83,31 +81,25 @@ pub record Gone (T count : ℕ) (records : List ℕ) (links : List Link) (at i :
   pub held : links ≡ firsts 32 done no_link
   pub same : read_links T count records ≡ after done (read_links T (count - i) (drop at records))
 
-reads_refused : (o : Outcome Topology) (r : Refusal) → o ≡ refused (refusal_number r) → (x : Loaded) → x ≡ no_network r → Reads o x
-reads_refused o r e x q = rw (q, e) (record { verdict = refl; network = refl })
-
-pub no_network_lem : (r : Refusal) (links : List Link) → links ≡ firsts 32 [] no_link → ◌≡◌ {A = Loaded} (record { verdict = verdicts.Refused r; network = record { ticks = 0; count = 0; links = links } }) (no_network r)
-no_network_lem r links e = rw e
-
 module _ (T count : ℕ) (records : List ℕ) where
   pub none_gone : (links : List Link) → links ≡ firsts 32 [] no_link → Gone T count records links 0 0
   none_gone links e = record { within = omega arith; place = omega arith; done = []; many = refl; held = e; same = rw sub-zero (sym (after_none (read_links T count records))) }
 
   module _ (links : List Link) (at i : ℕ) (g : Gone T count records links at i) where
-    module _ (h : i < count) (x : LinkRecord) (ex : link_read x ≡ read_link T (take (length records - at) (drop at records))) where
+    module _ (h : i < count) (x : Result (Link × ℕ) Refusal) (ex : link_read x ≡ read_link T (take (length records - at) (drop at records))) where
       step : count - i ≡ suc (count - (i + 1))
       step = omega arith
 
       here : read_link T (drop at records) ≡ link_read x
       here = sym (ex ∙ ap (read_link T) (part_rest at records))
 
-      pub one_refused : (r : Refusal) → x ≡ Refused r → (y : Loaded) → y ≡ no_network r → Reads (within T (read_links T count records)) y
+      pub one_refused : (r : Refusal) → x ≡ Err r → Reads (within T (read_links T count records)) (Err r)
       unfolding read_links
-      one_refused r e y q =
+      one_refused r e =
           let z : read_links T count records ≡ refused (refusal_number r) = g.same ∙ rw (step, here, e) in
-          reads_refused (within T (read_links T count records)) r (rw z) y q
+          rw z
 
-      module _ (l : Link) (u : ℕ) (e : x ≡ Fields l u) (b : (j : ℕ) → get_or records j 0 < 256) where
+      module _ (l : Link) (u : ℕ) (e : x ≡ Ok (l, u)) (b : (j : ℕ) → get_or records j 0 < 256) where
         pub used_room : at + u ≤ length records
         used_room =
             let z : read_link T (drop at records) ≡ given (record { link = l; used = u }) = here ∙ ap link_read e in
@@ -129,39 +121,39 @@ module _ (T count : ℕ) (records : List ℕ) where
       unfolding read_links
       last = let z : count - i ≡ 0 = omega arith in g.same ∙ rw z
 
-      pub bytes_follow : at < length records → (r : Refusal) → refusal_number r ≡ 10 → (y : Loaded) → y ≡ no_network r → Reads (within T (read_links T count records)) y
-      bytes_follow k r c y q =
+      pub bytes_follow : at < length records → Reads (within T (read_links T count records)) (Err BytesFollow)
+      bytes_follow k =
           let z : length (drop at records) ≡ 0 → ⊥ = λ d. omega (arith, length-drop at records) in
-          reads_refused (within T (read_links T count records)) r (rw (last, ne_eqb (length (drop at records)) 0 z, c)) y q
+          rw (last, ne_eqb (length (drop at records)) 0 z)
 
-      pub all_gone : length records ≤ at → Reads (within T (read_links T count records)) (record { verdict = Passed; network = record { ticks = T; count = count; links = links } })
+      pub all_gone : length records ≤ at → Reads (within T (read_links T count records)) (Ok (record { ticks = T; count = count; links = links }))
       all_gone k =
           let z : length (drop at records) ≡ 0 = omega (arith, length-drop at records) in
           let e : read_links T count records ≡ given g.done = last ∙ rw (eq-eqb (length (drop at records)) 0 z, append-nil g.done) in
           let m : count ≡ length g.done = omega (arith, g.many, g.within) in
-          rw (e, m, g.held) (record { verdict = refl; network = refl })
+          rw (e, m, g.held)
 
 -- ---- the head of a file
 pub ticks_small : (s : List ℕ) → ((i : ℕ) → get_or s i 0 < 256) → (T : ℕ) → T ≡ number_in 2 s → T < 65536
 ticks_small s b T e = rw e (number_bound 2 s b)
 
-pub file_short : (s : List ℕ) → length s < 3 → (r : Refusal) → refusal_number r ≡ 1 → (x : Loaded) → x ≡ no_network r → Reads (read_network s) x
+pub file_short : (s : List ℕ) → length s < 3 → Reads (read_network s) (Err ShortFile)
 unfolding read_network
-file_short s h r c x q = reads_refused (read_network s) r (rw (lt-ltb (length s) 3 h, c)) x q
+file_short s h = rw (lt-ltb (length s) 3 h)
 
 module _ (s : List ℕ) (h : 3 ≤ length s) (n : ℕ) (en : n ≡ get_or s 2 0) (b : Bool) (eb : b ≡ bad_count n) where
-  pub count_bad : b ≡ true → (r : Refusal) → refusal_number r ≡ 2 → (x : Loaded) → x ≡ no_network r → Reads (read_network s) x
+  pub count_bad : b ≡ true → Reads (read_network s) (Err LinkCount)
   unfolding read_network
-  count_bad g r c x q = reads_refused (read_network s) r (rw (le-ltb (length s) 3 h, ← en, ← eb, g, c)) x q
+  count_bad g = rw (le-ltb (length s) 3 h, ← en, ← eb, g)
 
   pub count_good : b ≡ false → n ≤ 32
   count_good g = (count_passed n (sym eb ∙ g)).1
 
   module _ (g : b ≡ false) (T : ℕ) (et : T ≡ number_in 2 s) (d : Bool) (ed : d ≡ bad_cycle T) where
-    pub cycle_bad : d ≡ true → (r : Refusal) → refusal_number r ≡ 3 → (x : Loaded) → x ≡ no_network r → Reads (read_network s) x
+    pub cycle_bad : d ≡ true → Reads (read_network s) (Err CycleLength)
     unfolding read_network
-    cycle_bad f r c x q = reads_refused (read_network s) r (rw (le-ltb (length s) 3 h, ← en, ← eb, g, ← et, ← ed, f, c)) x q
+    cycle_bad f = rw (le-ltb (length s) 3 h, ← en, ← eb, g, ← et, ← ed, f)
 
-    pub head_good : d ≡ false → (x : Loaded) → Reads (within T (read_links T n (take (length s - 3) (drop 3 s)))) x → Reads (read_network s) x
+    pub head_good : d ≡ false → (x : Result Network Refusal) → Reads (within T (read_links T n (take (length s - 3) (drop 3 s)))) x → Reads (read_network s) x
     unfolding read_network
     head_good f x k = rw (le-ltb (length s) 3 h, ← en, ← eb, g, ← et, ← ed, f) (rw (part_rest 3 s) at k)

@@ -4,15 +4,14 @@ use mathlib.Core.List.{List, [], ◌∷◌, ◌++◌, append_assoc}
 use Prim.Native.Nat.{ℕ, ◌+◌, ◌<◌, ◌≤◌}
 use native.Mathlib.Omega.{arith}
 use lib.ListN.{length, get_or, drop, set, length-append}
+use Rattle.std.specs.Prelude.{Result, Ok, Err, ⊤}
 use Rattle.places.specs.Put.{put_at}
 use Rattle.places.specs.Places.{firsts}
 use Rattle.places.proofs.Pieces.{Pieces}
 use Rattle.places.proofs.Puts.{Grown, grow, put_length, put_set, put_zero}
 use Rattle.places.proofs.Firsts.{length_firsts, next_first, no_first}
-use Rattle.refusals.specs.declared.Verdict.TheVariants as verdicts
-use Rattle.refusals.specs.declared.Verdict.{Verdict}
 use Rattle.refusals.specs.declared.Refusal.{Refusal}
-use Rattle.refusals.specs.Refusals.{given, pass, refusal_number, ruling}
+use Rattle.refusals.specs.Refusals.{given, refused, pass, refusal_number, ruling}
 use Rattle.numbers.specs.Numbers.{bytes_of}
 use Rattle.numbers.proofs.Laws.{length_bytes}
 use Rattle.network.specs.declared.Link.{Link}
@@ -24,8 +23,7 @@ use Rattle.network.proofs.Tests.{count_passed}
 use Rattle.records.specs.declared.Field.{Field}
 use Rattle.records.specs.Writing.{record_of}
 use Rattle.records.specs.Layout.{no_field}
-use Rattle.network_file.specs.declared.Written.TheVariants.{Length, Refused}
-use Rattle.network_file.specs.Lent.{Writes}
+use Rattle.network_file.specs.Lent.{length_read, Writes}
 use Rattle.network_file.specs.Writing.{link_bytes, links_bytes, image_of, write_network}
 use Rattle.network_file.specs.Inner.{Writable}
 use Rattle.network_file.specs.Fields.{link_layout, values_of}
@@ -105,21 +103,21 @@ module _ (n : Network) (passed : network_check (topology_of n) ≡ given pass) w
       image_put = three.holds ∙ ap (λ (x : List ℕ). put_at 0 x buffer) (sym image_is) ∙ put_zero image buffer
 
   module _ (buffer : List ℕ) (size : ℕ) (es : size ≡ 3 + length records) where
-    pub short : length buffer < size → (r : Refusal) → refusal_number r ≡ 20 → Writes (write_network (topology_of n) (length buffer)) buffer buffer (Refused r)
+    pub short : length buffer < size → (r : Refusal) → refusal_number r ≡ 20 → Writes (write_network (topology_of n) (length buffer)) buffer buffer (Err r)
     unfolding write_network
     short h r c = rw passed (short_written (length image) image buffer (omega (arith, image_long)) r c)
 
     pub enough : size ≤ length buffer → Writable n (length buffer)
     enough h = record { passed = passed; enough = omega (arith, image_long) }
 
-    pub image_written : size ≤ length buffer → (after : List ℕ) → after ≡ image ++ drop (length image) buffer → Writes (write_network (topology_of n) (length buffer)) buffer after (Length size)
+    pub image_written : size ≤ length buffer → (after : List ℕ) → after ≡ image ++ drop (length image) buffer → Writes (write_network (topology_of n) (length buffer)) buffer after (Ok size)
     unfolding write_network
     image_written h after ea = rw passed (long_written (length image) image buffer (omega (arith, image_long)) after size (es ∙ sym image_long) ea)
 
 -- ---- one that did not
-pub check_refused : (n : Network) (v : Verdict) → ruling v ≡ network_check (topology_of n) → (r : Refusal) → v ≡ verdicts.Refused r → (buffer : List ℕ) → Writes (write_network (topology_of n) (length buffer)) buffer buffer (Refused r)
+pub check_refused : (n : Network) (v : Result ⊤ Refusal) → ruling v ≡ network_check (topology_of n) → (r : Refusal) → v ≡ Err r → (buffer : List ℕ) (q : Result ℕ Refusal) → length_read q ≡ refused (refusal_number r) → Writes (write_network (topology_of n) (length buffer)) buffer buffer q
 unfolding write_network
-check_refused n v ev r e buffer = rw (← ev, e) record { answer = refl; buffer = refl }
+check_refused n v ev r e buffer q a = rw (← ev, e) record { answer = a; buffer = refl }
 
-pub check_passed : (n : Network) (v : Verdict) → ruling v ≡ network_check (topology_of n) → v ≡ verdicts.Passed → network_check (topology_of n) ≡ given pass
-check_passed n v ev e = sym ev ∙ ap ruling e
+pub check_passed : (n : Network) (v : Result ⊤ Refusal) → ruling v ≡ network_check (topology_of n) → (x : ⊤) → v ≡ Ok x → network_check (topology_of n) ≡ given pass
+check_passed n v ev x e = sym ev ∙ rw e

@@ -1,25 +1,23 @@
 -- A link record: its layout, its values, and the cases of reading it. Assumes nothing.
-use mathlib.Core.Path.{◌≡◌, refl, sym, ap, ◌∙◌}
+use mathlib.Core.Path.{◌≡◌, refl, sym, ◌∙◌}
 use mathlib.Core.Bool.{true, false, true≢false}
-use mathlib.Core.List.{List, []}
+use mathlib.Core.List.{List}
 use Prim.Native.Nat.{ℕ, zero, suc, ◌<◌, ◌≤◌}
 use native.Mathlib.Omega.{arith}
 use borrow.Author.Tests.{ne_eqb}
 use lib.ListN.{get_or}
+use Rattle.std.specs.Prelude.{Result, Ok, Err, ⊤}
 use Rattle.places.specs.Places.{firsts}
 use Rattle.places.proofs.Firsts.{get_d_firsts}
-use Rattle.refusals.specs.declared.Verdict.{Verdict}
-use Rattle.refusals.specs.Refusals.{Outcome, given, refused, refused_or, refusal_number, ruling}
+use Rattle.refusals.specs.Refusals.{given, refused, refused_or, refusal_number, ruling, answered}
 use Rattle.refusals.specs.declared.Refusal.{Refusal}
-use Rattle.refusals.specs.declared.Verdict.TheVariants.{Passed, Refused}
-use Rattle.refusals.proofs.Refusals.{refused_is, given_is}
 use Rattle.words.proofs.Words.{word_below}
 use Rattle.words.proofs.Bits.{bit_high}
 use Rattle.network.specs.declared.Link.{Link}
 use Rattle.network.specs.Checks.{link_check}
 use Rattle.records.specs.declared.Record.{Record}
 use Rattle.records.specs.declared.Field.{Field}
-use Rattle.records.specs.Reading.{Said, read_record, said_in, Told}
+use Rattle.records.specs.Reading.{Said, read_record, said_of}
 use Rattle.records.specs.Layout.{no_field, is_bit, is_layout, Laid, Fits}
 use Rattle.records.proofs.Layouts.{fits_at}
 use Rattle.records.proofs.Maps.{none_stray, stray_none}
@@ -67,45 +65,41 @@ unfolding link_layout
 fields_small vs h = (fits_at link_layout vs h 0 (omega arith), fits_at link_layout vs h 1 (omega arith), fits_at link_layout vs h 3 (omega arith))
 
 -- the values of a record in their places
-pub link_places : (vs : List ℕ) → link_of (firsts 8 vs 0) ≡ link_of vs
+pub link_places : (vs : List ℕ) → link_of (firsts 4 vs 0) ≡ link_of vs
 unfolding link_of
-link_places vs = rw (get_d_firsts 8 0 vs 0 (omega arith), get_d_firsts 8 1 vs 0 (omega arith), get_d_firsts 8 2 vs 0 (omega arith), get_d_firsts 8 3 vs 0 (omega arith))
+link_places vs = rw (get_d_firsts 4 0 vs 0 (omega arith), get_d_firsts 4 1 vs 0 (omega arith), get_d_firsts 4 2 vs 0 (omega arith), get_d_firsts 4 3 vs 0 (omega arith))
 
 -- ---- reading
 pub link_said : (T : ℕ) (s : List ℕ) (x : Said) → read_record link_layout s ≡ given x → read_link T s ≡ refused_or (link_check T (link_of x.values)) (given (record { link = link_of x.values; used = x.used }))
 unfolding read_link
 link_said T s x e = rw e
 
-module _ (T : ℕ) (s : List ℕ) (fields : List Field) (ef : fields ≡ firsts 8 link_layout no_field) (r : Record) (t : Told (read_record (firsts 4 fields no_field) s) r) where
-  abbrev o : Outcome Said
-  o = read_record link_layout s
-
-  told : Told o r
+module _ (T : ℕ) (s : List ℕ) (fields : List Field) (ef : fields ≡ firsts 8 link_layout no_field) (q : Result Record Refusal) (t : answered (said_of 4) q ≡ read_record (firsts 4 fields no_field) s) where
+  told : answered (said_of 4) q ≡ read_record link_layout s
   told = rw (ef, layout_back) at t
 
-  pub record_refused : (x : Refusal) → r.verdict ≡ Refused x → refused (refusal_number x) ≡ read_link T s
+  pub record_refused : (x : Refusal) → q ≡ Err x → refused (refusal_number x) ≡ read_link T s
   unfolding read_link
-  record_refused x e = rw (refused_is o (refusal_number x) (sym (ap ruling e) ∙ told.verdict))
+  record_refused x e = rw (← told, e)
 
-  module _ (e : r.verdict ≡ Passed) where
-    said : o ≡ given (said_in o)
-    said = given_is o (record { values = []; used = 0 }) (sym (ap ruling e) ∙ told.verdict)
+  module _ (r : Record) (e : q ≡ Ok r) where
+    said : read_record link_layout s ≡ given (said_of 4 r)
+    said = sym told ∙ rw e
 
     pub record_small : ((i : ℕ) → get_or s i 0 < 256) → (get_or r.values 0 0 < 256) × (get_or r.values 1 0 < 256) × (get_or r.values 3 0 < 256)
     record_small b =
-        let w : Whole link_layout s (said_in o) = record_only link_layout s (said_in o) link_layout_lem b said in
-        let f = fields_small (said_in o).values w.fit in
-        rw (told.values, get_d_firsts 8 0 (said_in o).values 0 (omega arith), get_d_firsts 8 1 (said_in o).values 0 (omega arith), get_d_firsts 8 3 (said_in o).values 0 (omega arith)) f
+        let w : Whole link_layout s (said_of 4 r) = record_only link_layout s (said_of 4 r) link_layout_lem b said in
+        rw (get_d_firsts 4 0 r.values 0 (omega arith), get_d_firsts 4 1 r.values 0 (omega arith), get_d_firsts 4 3 r.values 0 (omega arith)) at (fields_small (said_of 4 r).values w.fit)
 
-    module _ (l : Link) (el : l ≡ link_of r.values) (v : Verdict) (ev : ruling v ≡ link_check T l) where
-      same : l ≡ link_of (said_in o).values
-      same = el ∙ ap link_of told.values ∙ link_places (said_in o).values
+    module _ (l : Link) (el : l ≡ link_of r.values) (v : Result ⊤ Refusal) (ev : ruling v ≡ link_check T l) where
+      same : l ≡ link_of (said_of 4 r).values
+      same = el ∙ sym (link_places r.values)
 
       split : read_link T s ≡ refused_or (ruling v) (given (record { link = l; used = r.used }))
-      split = link_said T s (said_in o) said ∙ rw (← same, ← told.used, ← ev)
+      split = link_said T s (said_of 4 r) said ∙ rw (← same, ← ev)
 
-      pub link_refused : (x : Refusal) → v ≡ Refused x → refused (refusal_number x) ≡ read_link T s
-      link_refused x q = sym (split ∙ rw q)
+      pub link_refused : (x : Refusal) → v ≡ Err x → refused (refusal_number x) ≡ read_link T s
+      link_refused x p = sym (split ∙ rw p)
 
-      pub link_read_lem : v ≡ Passed → given (record { link = l; used = r.used }) ≡ read_link T s
-      link_read_lem q = sym (split ∙ rw q)
+      pub link_read_lem : (x : ⊤) → v ≡ Ok x → given (record { link = l; used = r.used }) ≡ read_link T s
+      link_read_lem x p = sym (split ∙ rw p)

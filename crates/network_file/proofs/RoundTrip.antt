@@ -8,28 +8,25 @@ use borrow.Author.Tests.{le-ltb, ltb-false}
 use lib.Seq.{take_at}
 use lib.Dec.{ltb}
 use lib.ListN.{length, drop, take}
+use Rattle.std.specs.Prelude.{Result, Ok, Err}
 use Rattle.places.proofs.Firsts.{firsts_back}
 use Rattle.refusals.specs.declared.Refusal.{Refusal}
-use Rattle.refusals.specs.declared.Verdict.TheVariants.{Passed}
-use Rattle.refusals.specs.declared.Verdict.TheVariants as verdicts
-use Rattle.refusals.specs.Refusals.{Outcome, given, refused, pass, Ruling, refuse_if, refused_or, refusal_number, ruling, ruling_of, given_or}
-use Rattle.refusals.proofs.Refusals.{not_given, refused_is, given_is}
+use Rattle.refusals.specs.Refusals.{Outcome, given, refused, pass, Ruling, refuse_if, refused_or, refusal_number, given_or, answered}
+use Rattle.refusals.proofs.Refusals.{not_given}
 use Rattle.numbers.specs.Numbers.{bytes_of, IsBytes}
 use Rattle.numbers.proofs.Trip.{bytes_cons, bytes_none, bytes_append, bytes_of_lem}
 use Rattle.network.specs.declared.Link.{Link}
 use Rattle.network.specs.Checks.{network_check}
+use Rattle.network.specs.declared.Network.{Network}
 use Rattle.network.specs.Network.{Topology, no_link, topology_of}
 use Rattle.network.proofs.Checks.{network_good}
 use Rattle.network.proofs.Tests.{count_passed}
 use Rattle.records.proofs.OneRecord.{record_bytes}
-use Rattle.network_file.specs.declared.Written.TheVariants.{Length, Refused}
-use Rattle.network_file.specs.declared.Loaded.{Loaded}
 use Rattle.network_file.specs.OneFile.{EachNetworkHasOneFile, ReadPasses, ReadStands, WrittenReads, ReadWrites}
 use Rattle.network_file.specs.Lent.{length_of, length_read, buffer_after, Writes}
 use Rattle.network_file.specs.Writing.{link_bytes, links_bytes, image_of, write_network}
 use Rattle.network_file.specs.Fields.{link_layout, values_of}
 use Rattle.network_file.specs.Reading.{read_network, stored, stored_in, Reads}
-use Rattle.network_file.specs.declared.Written.{Written}
 use Rattle.network_file.proofs.Records.{link_layout_lem}
 use Rattle.network_file.proofs.Inverse.{image_reads, Is, file_only}
 
@@ -52,14 +49,26 @@ one_file t e = record { bytes = image_bytes t e; reads = image_reads t e; only =
 pub read_passes : ReadPasses
 read_passes s t b e = (file_only s t b e).passed
 
--- what a file says, by the verdict of its reader
-pub refused_says : (s : List ℕ) (l : Loaded) → Reads (read_network s) l → (r : Refusal) → l.verdict ≡ verdicts.Refused r → read_network s ≡ refused (refusal_number r)
-refused_says s l d r e = refused_is (read_network s) (refusal_number r) (ap ruling (sym e) ∙ d.verdict)
+-- what a file says, by the answer of its reader
+pub refused_says : (s : List ℕ) (l : Result Network Refusal) → Reads (read_network s) l → (r : Refusal) → l ≡ Err r → read_network s ≡ refused (refusal_number r)
+refused_says s l d r e = go (read_network s) (sym (ap (answered (λ n. n)) e) ∙ d)
+  where
+    go : (o : Outcome Topology) → refused (refusal_number r) ≡ stored_in o → o ≡ refused (refusal_number r)
+    go (given t) q = absurd (not_given (refusal_number r) (stored t.ticks t.links) q)
+    go (refused m) q = let e : m ≡ refusal_number r = cc in ap refused e
 
-pub passed_says : (s : List ℕ) (l : Loaded) → Reads (read_network s) l → l.verdict ≡ Passed → (t : Topology) × (read_network s ≡ given t)
-passed_says s l d e =
-    let nothing : Topology = record { ticks = 0; links = [] } in
-    (given_or nothing (read_network s), given_is (read_network s) nothing (ap ruling (sym e) ∙ d.verdict))
+-- the network that a file says, and in which values it is stored
+pub record Says (s : List ℕ) (n : Network) : Type 0 where
+  pub network : Topology
+  pub is : read_network s ≡ given network
+  pub held : n ≡ stored network.ticks network.links
+
+pub passed_says : (s : List ℕ) (l : Result Network Refusal) → Reads (read_network s) l → (n : Network) → l ≡ Ok n → Says s n
+passed_says s l d n e = go (read_network s) refl (sym (ap (answered (λ n. n)) e) ∙ d)
+  where
+    go : (o : Outcome Topology) → read_network s ≡ o → given n ≡ stored_in o → Says s n
+    go (given t) p q = record { network = t; is = p; held = cc }
+    go (refused m) p q = absurd (not_given m n (sym q))
 
 -- what is stored of a network that passed stands for it
 stored_back : (t : Topology) → network_check t ≡ given pass → topology_of (stored t.ticks t.links) ≡ t
@@ -69,14 +78,21 @@ stored_back t e =
     rw (firsts_back 32 t.links no_link c.1)
 
 -- WHAT `read_network` READ STANDS FOR THE NETWORK THAT THE FILE SAYS
+stands : (t : Topology) (r : Result Network Refusal) → network_check t ≡ given pass → Reads (given t) r → answered topology_of r ≡ given t
+stands t (Ok n) e d =
+    let h : n ≡ stored t.ticks t.links = cc in
+    rw h (ap given (stored_back t e))
+stands t (Err x) e d = absurd (not_given (refusal_number x) (stored t.ticks t.links) d)
+
 pub read_stands : ReadStands
-read_stands s t r b e d = ap topology_of (d.network ∙ ap stored_in e) ∙ stored_back t (read_passes s t b e)
+read_stands s t r b e d = stands t r (read_passes s t b e) (rw e at d)
 
 -- and it passed its checks, so that a state may be begun on it
-pub loaded_passes : (s : List ℕ) (r : Loaded) → IsBytes s → Reads (read_network s) r → r.verdict ≡ Passed → network_check (topology_of r.network) ≡ given pass
-loaded_passes s r b d e =
-    let t = passed_says s r d e in
-    ap network_check (read_stands s t.0 r b t.1 d) ∙ read_passes s t.0 b t.1
+pub loaded_passes : (s : List ℕ) (l : Result Network Refusal) → IsBytes s → Reads (read_network s) l → (n : Network) → l ≡ Ok n → network_check (topology_of n) ≡ given pass
+loaded_passes s l b d n e =
+    let x : Says s n = passed_says s l d n e in
+    let p : network_check x.network ≡ given pass = read_passes s x.network b x.is in
+    ap network_check (ap topology_of x.held ∙ stored_back x.network p) ∙ p
 
 -- a write that was not refused
 record Done (t : Topology) (room size : ℕ) : Type 0 where
@@ -106,19 +122,19 @@ written_reads n before after size r w d =
     let a : after ≡ image_of t ++ rest = w.buffer ∙ ap (λ (o : Outcome (List ℕ)). buffer_after o before) (passes t (length before) k.passed k.enough) in
     let i : take size after ≡ image_of t = ap (take size) a ∙ take_at (image_of t) rest size (sym k.is) in
     let e : read_network (take size after) ≡ given t = ap read_network i ∙ image_reads t k.passed in
-    (d.verdict ∙ ap ruling_of e, ap topology_of (d.network ∙ ap stored_in e) ∙ stored_back t k.passed)
+    stands t r k.passed (rw e at d)
 
-length_is : (w : Written) (n : ℕ) → length_read w ≡ given n → w ≡ Length n
-length_is (Length m) n e = ap Length (ap (given_or 0) e)
-length_is (Refused r) n e = absurd (not_given (refusal_number r) n e)
+length_is : (w : Result ℕ Refusal) (n : ℕ) → length_read w ≡ given n → w ≡ Ok n
+length_is (Ok m) n e = ap Ok (ap (given_or 0) e)
+length_is (Err r) n e = absurd (not_given (refusal_number r) n e)
 
 -- READ, THEN WRITTEN: whatever `read_network` reads as a network, `write_network` writes as that file
 pub read_writes : ReadWrites
-read_writes file r before after w b d p room x =
-    let t : Topology = (passed_says file r d p).0 in
-    let e : read_network file ≡ given t = (passed_says file r d p).1 in
-    let q : Is file t = file_only file t b e in
-    let same : topology_of r.network ≡ t = read_stands file t r b e d in
+read_writes file n before after w b d room x =
+    let says : Says file n = passed_says file (Ok n) d n refl in
+    let t : Topology = says.network in
+    let q : Is file t = file_only file t b says.is in
+    let same : topology_of n ≡ t = ap topology_of says.held ∙ stored_back t q.passed in
     let y : Writes (write_network t (length before)) before after w = subst (λ (z : Topology). Writes (write_network z (length before)) before after w) same x in
     let fits : length (image_of t) ≤ length before = omega (arith, ap length q.image) in
     let g : write_network t (length before) ≡ given (image_of t) = passes t (length before) q.passed fits in

@@ -1,8 +1,7 @@
 -- Writing into a lent buffer: what it answers and what it leaves, of an image, a text and whatever else is written. Assumes nothing.
-use Rattle.std.specs.Prelude.{◌≡◌, List, ◌++◌, ℕ, ltb, length, drop}
-use Rattle.refusals.specs.Refusals.{Outcome, given, refused, refuse_if, refused_or, refusal_number}
-use Rattle.network_file.specs.declared.Written.TheVariants.{Length, Refused}
-use Rattle.network_file.specs.declared.Written.{Written}
+use Rattle.std.specs.Prelude.{◌≡◌, Result, List, ◌++◌, ℕ, ltb, length, drop}
+use Rattle.refusals.specs.declared.Refusal.{Refusal}
+use Rattle.refusals.specs.Refusals.{Outcome, given, refused, refuse_if, refused_or, answered}
 
 -- x is to be written into a buffer of `room` places; 20: "the buffer is shorter than what is to be written", for which `least` places are asked
 abbrev pub in_room : ℕ → ℕ → List ℕ → Outcome (List ℕ)
@@ -19,11 +18,10 @@ buffer_after (given x) buffer = x ++ drop (length x) buffer
 buffer_after (refused n) buffer = buffer
 
 -- the program's answer in these words
-abbrev pub length_read : Written → Outcome ℕ
-length_read (Length n) = given n
-length_read (Refused r) = refused (refusal_number r)
+abbrev pub length_read : Result ℕ Refusal → Outcome ℕ
+length_read r = answered (λ n. n) r
 
 -- WRITING INTO A LENT BUFFER what is to be written, or its refusal
-pub record Writes (o : Outcome (List ℕ)) (before after : List ℕ) (r : Written) : Type 0 where
+pub record Writes (o : Outcome (List ℕ)) (before after : List ℕ) (r : Result ℕ Refusal) : Type 0 where
   pub answer : length_read r ≡ length_of o
   pub buffer : after ≡ buffer_after o before

@@ -1,19 +1,15 @@
 -- What a network file says: a network, or the refusal, 1, 2, 3, then for each record 4 to 8, 21 and 9, then 10. Assumes nothing.
-use Rattle.std.specs.Prelude.{◌≡◌, not, List, [], ◌∷◌, ℕ, zero, suc, ◌<◌, ◌≤◌, length, get_or, drop, take, eqb, ltb}
+use Rattle.std.specs.Prelude.{◌≡◌, Result, not, List, [], ◌∷◌, ℕ, zero, suc, ◌<◌, ◌≤◌, length, get_or, drop, take, eqb, ltb}
 use Rattle.places.specs.Places.{firsts}
-use Rattle.refusals.specs.declared.Verdict.TheVariants as verdicts
 use Rattle.refusals.specs.declared.Refusal.{Refusal}
-use Rattle.refusals.specs.Refusals.{Outcome, given, refused, refuse_if, refused_or, on_given, refusal_number, ruling, ruling_of}
+use Rattle.refusals.specs.Refusals.{Outcome, given, refuse_if, refused_or, on_given, answered}
 use Rattle.numbers.specs.Numbers.{number_in}
 use Rattle.network.specs.Checks.{bad_count, bad_cycle, link_check}
 use Rattle.network.specs.declared.Link.{Link}
 use Rattle.network.specs.declared.Network.{Network}
 use Rattle.network.specs.Network.{Topology, no_link}
 use Rattle.records.specs.Reading.{stray_bits, read_record}
-use Rattle.network_file.specs.declared.Loaded.{Loaded}
 use Rattle.network_file.specs.Fields.{link_layout, link_of}
-use Rattle.network_file.specs.declared.LinkRecord.TheVariants.{Fields, Refused}
-use Rattle.network_file.specs.declared.LinkRecord.{LinkRecord}
 
 -- a link, and the length of its record
 pub record Linked : Type 0 where
@@ -56,24 +52,17 @@ FirstBytes = (s : List ℕ) (m : ℕ) → 388 ≤ m → read_network (take m s) 
 
 -- ---- what the program's answers say in these words
 -- the answer of a link record's reader
-abbrev pub link_read : LinkRecord → Outcome Linked
-link_read (Fields l used) = given (record { link = l; used = used })
-link_read (Refused r) = refused (refusal_number r)
+abbrev pub link_read : Result (Link × ℕ) Refusal → Outcome Linked
+link_read r = answered (λ x. record { link = x.0; used = x.1 }) r
 
 -- the values in which a network is stored; a place that no link stands in has 0 in each field
 abbrev pub stored : ℕ → List Link → Network
 stored T ls = record { ticks = T; count = length ls; links = firsts 32 ls no_link }
 
--- those of what a file says; nothing where it is refused
-abbrev pub stored_in : Outcome Topology → Network
-stored_in (given t) = stored t.ticks t.links
-stored_in (refused n) = stored 0 []
-
--- the answer where a file is refused
-abbrev pub no_network : Refusal → Loaded
-no_network r = record { verdict = verdicts.Refused r; network = stored 0 [] }
+-- those of what a file says
+abbrev pub stored_in : Outcome Topology → Outcome Network
+stored_in o = on_given o (λ t. given (stored t.ticks t.links))
 
 -- the answer of the file's reader
-pub record Reads (o : Outcome Topology) (r : Loaded) : Type 0 where
-  pub verdict : ruling r.verdict ≡ ruling_of o
-  pub network : r.network ≡ stored_in o
+abbrev pub Reads : Outcome Topology → Result Network Refusal → Type 0
+Reads o r = answered (λ n. n) r ≡ stored_in o

@@ -9,35 +9,14 @@ ghost use Rattle.refusals.specs.Refusals.{given, pass};
 ghost use Rattle.network.specs.Checks.{network_check};
 ghost use Rattle.records.specs.Layout.{no_field};
 ghost use Rattle.network_file.specs.Fields.{link_layout, values_of, link_of};
-ghost use Rattle.network_file.specs.Reading.{read_link, read_links, read_network, link_read, no_network, Reads, within};
+ghost use Rattle.network_file.specs.Reading.{read_link, read_links, read_network, link_read, Reads, within};
 ghost use Rattle.network_file.specs.Lent.{Writes};
 ghost use Rattle.network_file.specs.Writing.{link_bytes, links_bytes, image_of, write_network};
 ghost use Rattle.network_file.specs.Inner.{Writable};
 
 use network::{Link, Network};
 use records::Field;
-use refusals::{Refusal, Verdict};
-
-// What a link record says: the link and the length used, or the refusal.
-#[derive(Clone, Copy)]
-pub enum LinkRecord {
-    Fields(Link, usize),
-    Refused(Refusal),
-}
-
-// What a file says: the refusal, or the network; unused places hold 0.
-#[derive(Clone, Copy)]
-pub struct Loaded {
-    pub verdict: Verdict,
-    pub network: Network,
-}
-
-// What writing answers: the image's length, or the refusal.
-#[derive(Clone, Copy)]
-pub enum Written {
-    Length(usize),
-    Refused(Refusal),
-}
+use refusals::Refusal;
 
 // The number of fields of a link record.
 const FIELDS: usize = 4;
@@ -105,23 +84,14 @@ fn link_of(values: [u64; 8]) -> Link
 
 // The link record that starts `rest`, with the checks of its values. The form asked for: "The record reader is handed the file's remaining part and
 // answers fields and length used".
-pub fn read_link(ticks: u16, rest: &[u8]) -> LinkRecord
+pub fn read_link(ticks: u16, rest: &[u8]) -> Result<(Link, usize), Refusal>
     ensures { link_read result ≡ read_link ticks rest.now }
 {
     let fields = link_fields();
-    let record = records::read_record(rest, fields, FIELDS);
-    let verdict = record.verdict;
-    match verdict {
-        Verdict::Refused(refusal) => LinkRecord::Refused(refusal),
-        Verdict::Passed => {
-            let values = record.values;
-            let link = link_of(values);
-            match network::check_link(ticks, link) {
-                Verdict::Refused(refusal) => LinkRecord::Refused(refusal),
-                Verdict::Passed => LinkRecord::Fields(link, record.used),
-            }
-        }
-    }
+    let record = records::read_record(rest, fields, FIELDS)?;
+    let link = link_of(record.values);
+    network::check_link(ticks, link)?;
+    Ok((link, record.used))
 }
 
 // The places of a network without links.
@@ -131,66 +101,42 @@ fn no_links() -> [Link; 32]
     [network::no_link(); 32]
 }
 
-// The answer for a file that is refused.
-fn refused(refusal: Refusal) -> Loaded
-    ensures { result ≡ no_network refusal }
-{
-    let links = no_links();
-    Loaded {
-        verdict: Verdict::Refused(refusal),
-        network: Network {
-            ticks: 0,
-            count: 0,
-            links,
-        },
-    }
-}
-
 // The links of a file, from its records on, which are to fill it. Check 2 guarantees what it requires.
-fn read_links(records: &[u8], ticks: u16, count: usize) -> Loaded
+fn read_links(records: &[u8], ticks: u16, count: usize) -> Result<Network, Refusal>
     requires { count ≤ 32 }
     ensures { Reads (within ticks (read_links ticks count records.now)) result }
 {
     let mut links = no_links();
     let mut at = 0;
-    let mut i = 0;
-    while i < count {
-        match read_link(ticks, &records[at..]) {
-            LinkRecord::Refused(refusal) => return refused(refusal),
-            LinkRecord::Fields(link, used) => {
-                links[i] = link;
-                at += used;
-            }
-        }
-        i += 1;
+    for i in 0..count {
+        let (link, used) = read_link(ticks, &records[at..])?;
+        links[i] = link;
+        at += used;
     }
     if at < records.len() {
-        return refused(Refusal::BytesFollow);
+        return Err(Refusal::BytesFollow);
     }
-    Loaded {
-        verdict: Verdict::Passed,
-        network: Network {
-            ticks,
-            count,
-            links,
-        },
-    }
+    Ok(Network {
+        ticks,
+        count,
+        links,
+    })
 }
 
 // The network that a file says, or the refusal.
-pub fn read_network(file: &[u8]) -> Loaded
+pub fn read_network(file: &[u8]) -> Result<Network, Refusal>
     ensures { Reads (read_network file.now) result }
 {
     if file.len() < 3 {
-        return refused(Refusal::ShortFile);
+        return Err(Refusal::ShortFile);
     }
-    let count = file[2] as usize;
+    let count = usize::from(file[2]);
     if network::bad_count(count) {
-        return refused(Refusal::LinkCount);
+        return Err(Refusal::LinkCount);
     }
     let ticks = numbers::read_number(file, 2) as u16;
     if network::bad_cycle(ticks) {
-        return refused(Refusal::CycleLength);
+        return Err(Refusal::CycleLength);
     }
     read_links(&file[3..], ticks, count)
 }
@@ -256,26 +202,24 @@ fn write_image(network: Network, buffer: &mut [u8])
 }
 
 // Check 20, then the image, of a network that passed its checks.
-fn write_passed(network: Network, buffer: &mut [u8]) -> Written
+fn write_passed(network: Network, buffer: &mut [u8]) -> Result<usize, Refusal>
     requires { network_check (topology_of network) ≡ given pass }
     ensures { Writes (write_network (topology_of network) (length buffer.old)) buffer.old buffer.new result }
 {
     let links = network.links;
     let length = 3 + links_length(links, network.count);
     if buffer.len() < length {
-        return Written::Refused(Refusal::ShortBuffer);
+        return Err(Refusal::ShortBuffer);
     }
     write_image(network, buffer);
-    Written::Length(length)
+    Ok(length)
 }
 
 // A network's file at the start of a buffer, and its length. A refused call leaves the buffer as it is. A buffer of 387 bytes serves for every
 // network (`image_bound`).
-pub fn write_network(network: Network, buffer: &mut [u8]) -> Written
+pub fn write_network(network: Network, buffer: &mut [u8]) -> Result<usize, Refusal>
     ensures { Writes (write_network (topology_of network) (length buffer.old)) buffer.old buffer.new result }
 {
-    match network::check_network(network) {
-        Verdict::Refused(refusal) => Written::Refused(refusal),
-        Verdict::Passed => write_passed(network, buffer),
-    }
+    network::check_network(network)?;
+    write_passed(network, buffer)
 }

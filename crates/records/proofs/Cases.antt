@@ -8,24 +8,15 @@ use borrow.Author.Tests.{lt-ltb, le-ltb, eq-eqb, ne_eqb}
 use lib.ListN.{length, get_or, drop}
 use Rattle.places.specs.Places.{firsts}
 use Rattle.places.proofs.Firsts.{length_firsts, firsts_back}
-use Rattle.refusals.specs.declared.Refusal.{Refusal}
-use Rattle.refusals.specs.declared.Verdict.TheVariants.{Passed, Refused}
-use Rattle.refusals.specs.Refusals.{Outcome, refused, refusal_number}
+use Rattle.refusals.specs.Refusals.{Outcome, given, refused}
 use Rattle.records.specs.Layout.{no_field, Laid}
-use Rattle.records.specs.declared.Record.{Record}
 use Rattle.records.specs.declared.Field.{Field}
-use Rattle.records.specs.Reading.{size_in, needed, values_in, stray_bits, restated, Said, read_mapped, read_record, no_record, Told}
+use Rattle.records.specs.Reading.{size_in, needed, values_in, stray_bits, restated, Said, read_mapped, read_record}
 
 pub length_values : (fs : List Field) (map : ℕ) (s : List ℕ) → length (values_in fs map s) ≡ length fs
 unfolding values_in
 length_values [] map s = refl
 length_values (f ∷ fs) map s = ap suc (length_values fs map (drop (size_in map f) s))
-
-pub no_record_lem : (r : Refusal) (l : List ℕ) → l ≡ firsts 8 [] 0 → ◌≡◌ {A = Record} (record { verdict = Refused r; values = l; used = 0 }) (no_record r)
-no_record_lem r l e = rw e
-
-told_refused : (o : Outcome Said) (r : Refusal) → o ≡ refused (refusal_number r) → (x : Record) → x ≡ no_record r → Told o x
-told_refused o r e x q = rw (q, e) (record { verdict = refl; values = refl; used = refl })
 
 module _ (fields : List Field) (n : ℕ) (s : List ℕ) where
   abbrev fs : List Field
@@ -34,19 +25,19 @@ module _ (fields : List Field) (n : ℕ) (s : List ℕ) where
   abbrev o : Outcome Said
   o = read_record fs s
 
-  pub none_left : length s ≡ 0 → (r : Refusal) → refusal_number r ≡ 4 → (x : Record) → x ≡ no_record r → Told o x
+  pub none_left : length s ≡ 0 → refused 4 ≡ o
   unfolding read_record
-  none_left h r c x q = told_refused o r (rw (eq-eqb (length s) 0 h, c)) x q
+  none_left h = rw (eq-eqb (length s) 0 h)
 
   module _ (h : length s ≡ 0 → ⊥) (map u : ℕ) (em : map ≡ get_or s 0 0) (eu : u ≡ 1 + needed fs map) where
-    pub too_short : length s < u → (r : Refusal) → refusal_number r ≡ 4 → (x : Record) → x ≡ no_record r → Told o x
+    pub too_short : length s < u → refused 4 ≡ o
     unfolding read_record read_mapped
-    too_short g r c x q = told_refused o r (rw (ne_eqb (length s) 0 h, ← em, ← eu, lt-ltb (length s) u g, c)) x q
+    too_short g = rw (ne_eqb (length s) 0 h, ← em, ← eu, lt-ltb (length s) u g)
 
     module _ (g : u ≤ length s) (left : ℕ) (el : left ≡ stray_bits fs map) where
-      pub stray : (left ≡ 0 → ⊥) → (r : Refusal) → refusal_number r ≡ 5 → (x : Record) → x ≡ no_record r → Told o x
+      pub stray : (left ≡ 0 → ⊥) → refused 5 ≡ o
       unfolding read_record read_mapped
-      stray k r c x q = told_refused o r (rw (ne_eqb (length s) 0 h, ← em, ← eu, le-ltb (length s) u g, ← el, ne_eqb left 0 k, c)) x q
+      stray k = rw (ne_eqb (length s) 0 h, ← em, ← eu, le-ltb (length s) u g, ← el, ne_eqb left 0 k)
 
       module _ (k : left ≡ 0) (l : Laid fields n) (values : List ℕ) (ev : values ≡ firsts 8 (values_in fs map (drop 1 s)) 0) (b : Bool) (eb : b ≡ restated fs map (firsts n values 0)) where
         abbrev vs : List ℕ
@@ -60,10 +51,10 @@ module _ (fields : List Field) (n : ℕ) (s : List ℕ) where
         tested : b ≡ restated fs map vs
         tested = eb ∙ ap (restated fs map) same
 
-        pub again : b ≡ true → (r : Refusal) → refusal_number r ≡ 6 → (x : Record) → x ≡ no_record r → Told o x
+        pub again : b ≡ true → refused 6 ≡ o
         unfolding read_record read_mapped
-        again t r c x q = told_refused o r (rw (ne_eqb (length s) 0 h, ← em, ← eu, le-ltb (length s) u g, ← el, eq-eqb left 0 k, ← tested, t, c)) x q
+        again t = rw (ne_eqb (length s) 0 h, ← em, ← eu, le-ltb (length s) u g, ← el, eq-eqb left 0 k, ← tested, t)
 
-        pub said : b ≡ false → Told o (record { verdict = Passed; values = values; used = u })
+        pub said : b ≡ false → given (record { values = firsts n values 0; used = u }) ≡ o
         unfolding read_record read_mapped
-        said t = rw (ne_eqb (length s) 0 h, ← em, ← eu, le-ltb (length s) u g, ← el, eq-eqb left 0 k, ← tested, t) (record { verdict = refl; values = ev; used = refl })
+        said t = rw (ne_eqb (length s) 0 h, ← em, ← eu, le-ltb (length s) u g, ← el, eq-eqb left 0 k, ← tested, t, same)

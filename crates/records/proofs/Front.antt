@@ -14,7 +14,7 @@ use Rattle.numbers.specs.Numbers.{number_in}
 use Rattle.numbers.proofs.Front.{byte_front, number_front}
 use Rattle.records.specs.declared.Field.{Field}
 use Rattle.records.specs.Layout.{stands}
-use Rattle.records.specs.Reading.{size_in, needed, value_in, values_in, stray_bits, restated, Said, read_mapped, read_record, said_in}
+use Rattle.records.specs.Reading.{size_in, needed, value_in, values_in, stray_bits, restated, Said, read_mapped, read_record}
 use Rattle.records.proofs.Sizes.{all_bytes, size_some, size_none}
 
 -- ---- the bytes that a map byte needs
@@ -82,5 +82,5 @@ used_bound fs s x e =
     let p : (ltb (length s) (1 + n) ≡ false) × (five ≡ given x) = past (ltb (length s) (1 + n)) 4 five x o.1 in
     let q : (not (eqb (stray_bits fs map) 0) ≡ false) × (six ≡ given x) = past (not (eqb (stray_bits fs map) 0)) 5 six x p.1 in
     let r : (restated fs map vs ≡ false) × (given y ≡ given x) = past (restated fs map vs) 6 (given y) x q.1 in
-    let same : 1 + n ≡ x.used = ap (λ (z : Outcome Said). (said_in z).used) r.1 in
-    omega (arith, needed_bound fs map)
+    let same : y ≡ x = (let e = r.1 in cc) in
+    rw (← same) (omega (arith, needed_bound fs map))

@@ -17,7 +17,7 @@ use Rattle.numbers.proofs.Trip.{bytes_number, bytes_drop}
 use Rattle.numbers.proofs.Laws.{number_bound}
 use Rattle.records.specs.declared.Field.{Field}
 use Rattle.records.specs.Writing.{is_written, map_of, field_of, body_of, record_of}
-use Rattle.records.specs.Reading.{size_in, needed, value_in, values_in, stray_bits, restated, Said, read_mapped, read_record, said_in}
+use Rattle.records.specs.Reading.{size_in, needed, value_in, values_in, stray_bits, restated, Said, read_mapped, read_record}
 use Rattle.records.specs.Layout.{is_layout, stands, Fits, fits_none, fits_more}
 use Rattle.records.proofs.Sizes.{size_some, size_none, field_some, field_none}
 use Rattle.records.proofs.Layouts.{Leads, leads}
@@ -110,7 +110,7 @@ mapped_whole fs map t x l b e =
     let d : body_of fs vs ≡ take n t = body_read fs map t (λ i. b (suc i)) (omega arith) a in
     let z : map_of fs vs ∷ body_of fs vs ≡ take (1 + n) (map ∷ t) = ap₂ ◌∷◌ m d ∙ ap (λ (k : ℕ). take k (map ∷ t)) (sym (one-add n)) in
     let w : Whole fs (map ∷ t) y = record { room = long; bytes = z; fit = values_fit fs map t l (λ i. b (suc i)) } in
-    let same : y ≡ x = ap said_in r.1 in
+    let same : y ≡ x = (let e = r.1 in cc) in
     rw (← same) w
 
 pub record_only : (fs : List Field) (s : List ℕ) (x : Said) → is_layout fs ≡ true → ((i : ℕ) → get_or s i 0 < 256) → read_record fs s ≡ given x → Whole fs s x

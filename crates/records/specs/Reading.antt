@@ -1,9 +1,7 @@
 -- Reading a record of any layout: refusals 4, 5 and 6, or the fields and the length used. Assumes nothing.
-use Rattle.std.specs.Prelude.{◌≡◌, Bool, false, not, ◌&&◌, ◌||◌, cond, List, [], ◌∷◌, ℕ, ◌+◌, eqb, ltb, length, get_or, drop}
+use Rattle.std.specs.Prelude.{Bool, false, not, ◌&&◌, ◌||◌, cond, List, [], ◌∷◌, ℕ, ◌+◌, eqb, ltb, length, get_or, drop}
 use Rattle.places.specs.Places.{firsts}
-use Rattle.refusals.specs.Refusals.{Outcome, given, refused, refuse_if, refused_or, ruling, ruling_of, given_or}
-use Rattle.refusals.specs.declared.Verdict.TheVariants.{Refused}
-use Rattle.refusals.specs.declared.Refusal.{Refusal}
+use Rattle.refusals.specs.Refusals.{Outcome, given, refuse_if, refused_or}
 use Rattle.numbers.specs.Numbers.{number_in}
 use Rattle.words.specs.Word.{bit_of, word_of}
 use Rattle.records.specs.Layout.{is_bit, stands}
@@ -56,16 +54,6 @@ unfoldable pub read_record : List Field → List ℕ → Outcome Said
 read_record fs s = refused_or (refuse_if (eqb (length s) 0) 4) (read_mapped fs (get_or s 0 0) s)
 
 -- ---- what the program's answer says in these words
--- nothing, and 0, stand in the place of a record that is refused
-abbrev pub said_in : Outcome Said → Said
-said_in o = given_or (record { values = []; used = 0 }) o
-
--- the values of a record that is refused
-abbrev pub no_record : Refusal → Record
-no_record r = record { verdict = Refused r; values = firsts 8 [] 0; used = 0 }
-
--- the answer of a record reader: the ruling, the values in their places and the length used; nothing and 0 where it refused
-pub record Told (o : Outcome Said) (r : Record) : Type 0 where
-  pub verdict : ruling r.verdict ≡ ruling_of o
-  pub values : r.values ≡ firsts 8 (said_in o).values 0
-  pub used : r.used ≡ (said_in o).used
+-- the values of a layout of n fields, and the length used
+abbrev pub said_of : ℕ → Record → Said
+said_of n r = record { values = firsts n r.values 0; used = r.used }

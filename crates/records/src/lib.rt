@@ -7,10 +7,11 @@ ghost use Rattle.places.specs.Places.{firsts};
 ghost use Rattle.places.specs.Put.{put_at};
 ghost use Rattle.words.specs.Word.{with_bit};
 ghost use Rattle.records.specs.Layout.{no_field, Laid, stands};
-ghost use Rattle.records.specs.Reading.{size_in, needed, value_in, values_in, stray_bits, restated, read_record, no_record, Told};
+ghost use Rattle.records.specs.Reading.{size_in, needed, value_in, values_in, stray_bits, restated, read_record, said_of};
+ghost use Rattle.refusals.specs.Refusals.{answered};
 ghost use Rattle.records.specs.Writing.{is_written, map_of, field_of, body_of, record_of};
 
-use refusals::{Refusal, Verdict};
+use refusals::Refusal;
 
 // A field of a record: its bit in the map byte, its bytes, and its value where it is absent.
 #[derive(Clone, Copy)]
@@ -20,10 +21,9 @@ pub struct Field {
     pub absent: u64,
 }
 
-// What a record says: the refusal, or the values of its fields and its length; unused places hold 0.
+// What a record says: the values of its fields and its length.
 #[derive(Clone, Copy)]
 pub struct Record {
-    pub verdict: Verdict,
     pub values: [u64; 8],
     pub used: usize,
 }
@@ -121,43 +121,28 @@ fn restated(map: u64, values: [u64; 8], fields: [Field; 8], n: usize) -> bool
     false
 }
 
-// The answer for a record that is refused.
-fn refused(refusal: Refusal) -> Record
-    ensures { result ≡ no_record refusal }
-{
-    Record {
-        verdict: Verdict::Refused(refusal),
-        values: [0u64; 8],
-        used: 0,
-    }
-}
-
 // The record that starts `rest`. The form asked for: "The record reader is handed the file's remaining part and answers fields and length used".
-pub fn read_record(rest: &[u8], fields: [Field; 8], n: usize) -> Record
+pub fn read_record(rest: &[u8], fields: [Field; 8], n: usize) -> Result<Record, Refusal>
     requires { Laid fields n }
-    ensures { Told (read_record (firsts n fields no_field) rest.now) result }
+    ensures { answered (said_of n) result ≡ read_record (firsts n fields no_field) rest.now }
 {
     if rest.len() == 0 {
-        return refused(Refusal::ShortRecord);
+        return Err(Refusal::ShortRecord);
     }
     let map = rest[0] as u64;
     let used = 1 + needed(map, fields, n);
     let stray = stray_bits(map, fields, n);
     if rest.len() < used {
-        return refused(Refusal::ShortRecord);
+        return Err(Refusal::ShortRecord);
     }
     if stray != 0 {
-        return refused(Refusal::StrayBit);
+        return Err(Refusal::StrayBit);
     }
     let values = values_in(rest, map, fields, n);
     if restated(map, values, fields, n) {
-        return refused(Refusal::AbsentWritten);
+        return Err(Refusal::AbsentWritten);
     }
-    Record {
-        verdict: Verdict::Passed,
-        values,
-        used,
-    }
+    Ok(Record { values, used })
 }
 
 // Whether a field is written: one equal to its absent value never is.

@@ -5,16 +5,16 @@ use Rattle.records.proofs.Cases.{none_left, too_short, stray, again, said}
 use Rattle.records.proofs.read_record.Goals as goal
 
 pub returns-then-rest-eq0 : goal.returns-then-rest-eq0
-returns-then-rest-eq0 c = none_left _ _ _ c.if-rest-eq0.true _ refl _ c.refused.ensures
+returns-then-rest-eq0 c = none_left _ _ _ c.if-rest-eq0.true
 
 pub returns-then-rest-used : goal.returns-then-rest-used
-returns-then-rest-used c = too_short _ _ _ c.if-rest-eq0.false _ _ refl (ap (λ (k : ℕ). 1 + k) c.needed-used.ensures.0) c.if-rest-used.true _ refl _ c.refused-then-rest-used.ensures
+returns-then-rest-used c = too_short _ _ _ c.if-rest-eq0.false _ _ refl (ap (λ (k : ℕ). 1 + k) c.needed-used.ensures.0) c.if-rest-used.true
 
 pub returns-then-stray-ne0 : goal.returns-then-stray-ne0
-returns-then-stray-ne0 c = stray _ _ _ c.if-rest-eq0.false _ _ refl (ap (λ (k : ℕ). 1 + k) c.needed-used.ensures.0) c.if-rest-used.false _ c.stray_bits-stray.ensures c.if-stray-ne0.true _ refl _ c.refused-then-stray-ne0.ensures
+returns-then-stray-ne0 c = stray _ _ _ c.if-rest-eq0.false _ _ refl (ap (λ (k : ℕ). 1 + k) c.needed-used.ensures.0) c.if-rest-used.false _ c.stray_bits-stray.ensures c.if-stray-ne0.true
 
 pub returns-then-restated : goal.returns-then-restated
-returns-then-restated c = again _ _ _ c.if-rest-eq0.false _ _ refl (ap (λ (k : ℕ). 1 + k) c.needed-used.ensures.0) c.if-rest-used.false _ c.stray_bits-stray.ensures c.if-stray-ne0.false c.requires _ c.values_in-values.ensures _ c.restated.ensures c.if-restated.true _ refl _ c.refused-then-restated.ensures
+returns-then-restated c = again _ _ _ c.if-rest-eq0.false _ _ refl (ap (λ (k : ℕ). 1 + k) c.needed-used.ensures.0) c.if-rest-used.false _ c.stray_bits-stray.ensures c.if-stray-ne0.false c.requires _ c.values_in-values.ensures _ c.restated.ensures c.if-restated.true
 
 pub returns : goal.returns
 returns c = said _ _ _ c.if-rest-eq0.false _ _ refl (ap (λ (k : ℕ). 1 + k) c.needed-used.ensures.0) c.if-rest-used.false _ c.stray_bits-stray.ensures c.if-stray-ne0.false c.requires _ c.values_in-values.ensures _ c.restated.ensures c.if-restated.false
