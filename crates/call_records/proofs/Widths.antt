@@ -17,10 +17,9 @@ use Rattle.numbers.proofs.Trip.{number_bytes_lem, bytes_drop}
 use Rattle.ledger.specs.Calls.{Call, SetUp, Quote, Release}
 use Rattle.call_records.specs.Records.{CallSaid, unreadable, with_number, with_route, set_up_said, quote_said, release_said, first_call, calls_in}
 use Rattle.call_records.specs.Widths.{Width, short, long, bytes_for, Fits, RecordsSay, SameCall, NumberFits, NumbersFit}
-use Rattle.call_records.specs.Inner.{read_record}
 use Rattle.call_records.proofs.Cases.{number_fits}
-use Rattle.call_records.proofs.Said.{first_agrees}
-use Rattle.call_records.proofs.Calls.{by_records, no_calls, first_then_rest}
+use Rattle.call_records.proofs.Said.{first_takes}
+use Rattle.call_records.proofs.Records.{by_records, no_calls, first_then_rest}
 
 -- ---- a number that was written is read, and the bytes after it are left
 number_said : (w n : ℕ) (said : ℕ → List ℕ → CallSaid) (s : List ℕ) → n < 2 ^ (8 * w) → with_number w said (bytes_of w n ++ s) ≡ said n s
@@ -119,8 +118,7 @@ first_fits (kind ∷ s) bytes = go (eqb kind 1) (eqb kind 2) (eqb kind 3) (eqb k
 
 -- the bytes after a record are bytes
 rest_bytes : (b : ℕ) (s : List ℕ) → IsBytes (b ∷ s) → IsBytes (first_call (b ∷ s)).rest
-rest_bytes b s bytes =
-    subst IsBytes (ap (λ (x : CallSaid). x.rest) (first_agrees b s).says) (bytes_drop (read_record (b ∷ s)).end (b ∷ s) bytes)
+rest_bytes b s bytes = subst IsBytes (sym (first_takes b s).left) (bytes_drop (first_takes b s).used (b ∷ s) bytes)
 
 calls_fit : (s : List ℕ) → IsBytes s → (o : Outcome Call) → Memᴰ o (calls_in s) → NumberFits long o
 calls_fit =

@@ -1,120 +1,137 @@
-// Call records (document 01, "The program frames", and W-205 of document 02): what the record at the start of some call bytes says, and its route as a part of those bytes.
+// Call records (document 01, "The program frames", and W-205 of document 02): the calls that some call bytes say, one after the other.
 #![tactic(auto)]
 
-ghost use Rattle.std.specs.Prelude.{◌≡◌, ◌+◌, ◌≤◌, ◌<◌, min, length, get_or};
-ghost use Rattle.call_records.specs.Reading.{route_in, no_record, Reads};
-ghost use Rattle.call_records.specs.Inner.{record_within, routed_record, number_bytes, read_record, InBytes};
+ghost use Rattle.std.specs.Prelude.{◌≡◌, ◌≤◌, min};
+ghost use Rattle.std.specs.Iterator.{YieldsFirstBy, item_count};
+ghost use Rattle.call_records.specs.Records.{set_up_said, quote_said, release_said, first_call, calls_in};
+ghost use Rattle.call_records.specs.Reading.{call_said, Reads};
+ghost use Rattle.call_records.specs.Inner.{told, Numbered, Routed};
 
-// Which call a record is for.
+use refusals::Refusal;
+
+// A call, with its session's number and its route.
+// The form asked for: "The call reader returns a part of the caller's slice as the route, without a copy".
 #[derive(Clone, Copy)]
-pub enum Kind {
-    SetUp,
-    Quote,
-    Release,
-    // Refusal 11.
-    Unreadable,
+pub enum Call<'a> {
+    SetUp(u32, &'a [u8]),
+    Quote(&'a [u8]),
+    Release(u32),
 }
 
-// What a record says: its call, the session's number (0 for a quote), the place after the bytes before its route, and the place after the record.
+// What a record says, and the bytes after it.
 #[derive(Clone, Copy)]
-pub struct Record {
-    pub kind: Kind,
-    pub number: u32,
-    pub start: usize,
-    pub end: usize,
+pub struct Record<'a> {
+    pub call: Call<'a>,
+    pub rest: &'a [u8],
+}
+
+// The calls of some bytes, in their order; the last is refusal 11 where a record can't be read.
+#[derive(Drop)]
+pub struct Calls<'a>(pub &'a [u8]);
+
+impl<'a> Iterator for Calls<'a> {
+    type Item = Result<Call<'a>, Refusal>;
+
+    ghost next_gives = { YieldsFirstBy call_said (λ s. calls_in s.0.now) };
+
+    ghost remaining = { item_count (λ s. calls_in s.0.now) };
+
+    fn next(&mut self) -> Option<Result<Call<'a>, Refusal>> {
+        if self.0.is_empty() {
+            return None;
+        }
+        match read_record(self.0) {
+            Ok(Record { call, rest }) => {
+                self.0 = rest;
+                Some(Ok(call))
+            }
+            Err(refusal) => {
+                self.0 = &[];
+                Some(Err(refusal))
+            }
+        }
+    }
 }
 
 // How many of so many call bytes count: the first 65,536.
 pub fn counted(n: usize) -> usize
     ensures { result ≡ min n 65536 }
 {
-    if n < 65536 {
-        return n;
-    }
-    65536
+    n.min(65536)
 }
 
-// The length of a route: the byte at its place. A byte past the end counts as 0: the record then runs past the end as well.
-fn links(rest: &[u8], at: usize) -> usize
-    ensures { (result ≡ get_or rest.now at 0) × (result < 256) }
-{
-    if rest.len() <= at {
-        return 0;
-    }
-    rest[at] as usize
-}
-
-// A record that can't be read, of so many bytes: it takes all of them, and so ends the calls.
-fn unreadable(bytes: usize) -> Record
-    ensures { result ≡ no_record bytes }
-{
-    Record {
-        kind: Kind::Unreadable,
-        number: 0,
-        start: bytes,
-        end: bytes,
-    }
-}
-
-// A record of a kind, its number in `width` bytes after the kind, which is to end within `rest`.
-fn within(rest: &[u8], kind: Kind, width: usize, start: usize, end: usize) -> Record
-    requires { (width ≤ 4) × (1 + width ≤ end) }
-    ensures { result ≡ record_within kind width start end rest.now }
-{
-    if rest.len() < end {
-        return unreadable(rest.len());
-    }
-    Record {
-        kind,
-        number: numbers::read_number(&rest[1..], width) as u32,
-        start,
-        end,
-    }
-}
-
-// A record whose number is followed by a route's length and the route.
-fn with_route(rest: &[u8], kind: Kind, width: usize) -> Record
+// A session's number in so many bytes, and the bytes after it.
+fn split_number(bytes: &[u8], width: usize) -> Option<(u32, &[u8])>
     requires { width ≤ 4 }
-    ensures { result ≡ routed_record kind width rest.now }
+    ensures { Numbered width bytes.now result }
 {
-    let start = 2 + width;
-    let end = start + links(rest, 1 + width);
-    within(rest, kind, width, start, end)
+    let (_, after) = bytes.split_at_checked(width)?;
+    let number = numbers::read_number(bytes, width) as u32;
+    Some((number, after))
 }
 
-// How many bytes the number of a set-up or a release has, by the record's kind: two of 01 and 03, four of 04 and 05. It is asked of no other kind.
-fn number_bytes(kind: u8) -> usize
-    ensures { result ≡ number_bytes kind }
+// A route after its length, and the bytes after it.
+fn split_route(bytes: &[u8]) -> Option<(&[u8], &[u8])>
+    ensures { Routed bytes.now result }
 {
-    if kind < 4 {
-        return 2;
-    }
-    4
+    let (links, after) = bytes.split_first()?;
+    after.split_at_checked(usize::from(*links))
 }
 
-// The record at the start of `rest`.
-pub fn read_record(rest: &[u8]) -> Record
-    ensures { (result ≡ read_record rest.now) × Reads rest.now result }
+// A set-up, from its number on.
+fn read_set_up(bytes: &[u8], width: usize) -> Option<Record<'_>>
+    requires { width ≤ 4 }
+    ensures { told result ≡ set_up_said width bytes.now }
 {
-    if rest.len() == 0 {
-        return unreadable(0);
-    }
-    let kind = rest[0];
-    let width = number_bytes(kind);
-    match kind {
-        1 | 4 => with_route(rest, Kind::SetUp, width),
-        2 => with_route(rest, Kind::Quote, 0),
-        3 | 5 => within(rest, Kind::Release, width, 1 + width, 1 + width),
-        _ => unreadable(rest.len()),
+    let (number, after) = split_number(bytes, width)?;
+    let (route, rest) = split_route(after)?;
+    Some(Record {
+        call: Call::SetUp(number, route),
+        rest,
+    })
+}
+
+// A quote, from its route's length on.
+fn read_quote(bytes: &[u8]) -> Option<Record<'_>>
+    ensures { told result ≡ quote_said bytes.now }
+{
+    let (route, rest) = split_route(bytes)?;
+    Some(Record {
+        call: Call::Quote(route),
+        rest,
+    })
+}
+
+// A release, from its number on.
+fn read_release(bytes: &[u8], width: usize) -> Option<Record<'_>>
+    requires { width ≤ 4 }
+    ensures { told result ≡ release_said width bytes.now }
+{
+    let (number, rest) = split_number(bytes, width)?;
+    Some(Record {
+        call: Call::Release(number),
+        rest,
+    })
+}
+
+// The record at the start of `bytes`, by its kind.
+fn read_call(bytes: &[u8]) -> Option<Record<'_>>
+    ensures { told result ≡ first_call bytes.now }
+{
+    let (kind, rest) = bytes.split_first()?;
+    match *kind {
+        1 => read_set_up(rest, 2),
+        2 => read_quote(rest),
+        3 => read_release(rest, 2),
+        4 => read_set_up(rest, 4),
+        5 => read_release(rest, 4),
+        _ => None,
     }
 }
 
-// The route of a record. The form asked for: "The call reader returns a part of the caller's slice as the route, without a copy".
-pub fn route(rest: &[u8], call: Record) -> &[u8]
-    requires { InBytes call (length rest.now) }
-    ensures { result.now ≡ route_in call rest.now }
+// The record at the start of `bytes`, or refusal 11.
+pub fn read_record(bytes: &[u8]) -> Result<Record<'_>, Refusal>
+    ensures { Reads bytes.now result }
 {
-    let start = call.start;
-    let end = call.end;
-    &rest[start..end]
+    read_call(bytes).ok_or(Refusal::UnreadableCall)
 }

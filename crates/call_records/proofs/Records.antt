@@ -1,32 +1,25 @@
--- What the bytes of a record say, and the calls of some bytes one after the other. Assumes nothing.
+-- The calls of some bytes, one after the other. Assumes nothing.
 use mathlib.Core.Path.{◌≡◌, refl, sym, ap, ◌∙◌}
 use mathlib.Core.Bool.{Bool, true, false}
 use mathlib.Core.List.{List, [], ◌∷◌}
-use Prim.Native.Nat.{ℕ, zero, suc, ◌+◌, ◌-◌, ◌≤◌, ◌<◌, min}
+use Prim.Native.Nat.{ℕ, zero, suc, ◌≤◌, ◌<◌, min}
 use native.Mathlib.Nat.{not-suc-le-zero}
 use native.Mathlib.Omega.{arith}
-use lib.ListN.{length, get_or, take, drop, length-drop, drop_of_length-le}
-use lib.Seq.{drop-cons, drop-drop, take_all, length-take-le}
+use lib.ListN.{length, take}
+use lib.Seq.{take_all, length-take-le}
 use lib.Dec.{ltb}
 use borrow.Author.Tests.{ltb-true, ltb-false}
 use Rattle.refusals.specs.Refusals.{Outcome, given, refused}
-use Rattle.places.proofs.Parts.{part_rest}
 use Rattle.ledger.specs.Calls.{Call}
-use Rattle.call_records.specs.declared.Record.{Record}
 use Rattle.call_records.specs.Records.{CallSaid, first_call, calls_by, calls_in, NoCalls, FirstThenRest, counted, CountedPart}
-use Rattle.call_records.specs.Reading.{call_in, Reads}
-use Rattle.call_records.specs.Inner.{read_record, InBytes}
-use Rattle.call_records.proofs.Said.{TookBy, Took, first_agrees, read_agrees}
+use Rattle.call_records.proofs.Said.{TookBy, first_takes}
 
--- THE READER'S RECORD SAYS WHAT THE BYTES SAY
-pub reads_said : (s : List ℕ) (r : Record) → r ≡ read_record s → (r ≡ read_record s) × Reads s r
-reads_said s r e = (e, rw e record { says = (read_agrees s).says; shape = (read_agrees s).shape })
-
-pub first_took : (b : ℕ) (s : List ℕ) → Took (first_call (b ∷ s)) (suc (length s))
-first_took b s = (first_agrees b s).took
+-- a record has two bytes and its route at least
+pub first_took : (b : ℕ) (s : List ℕ) → TookBy 2 (first_call (b ∷ s)).call (first_call (b ∷ s)).rest (suc (length s))
+first_took b s = (first_takes b s).took
 
 -- the bytes after a record are fewer
-took_less : (o : Outcome Call) (rest : List ℕ) (m : ℕ) → TookBy o rest (suc m) → length rest ≤ m
+took_less : (o : Outcome Call) (rest : List ℕ) (m : ℕ) → TookBy 2 o rest (suc m) → length rest ≤ m
 took_less (given call) rest m h = omega (arith, h)
 took_less (refused k) rest m h = omega (arith, ap length h.1)
 
@@ -68,35 +61,6 @@ first_then_rest b s =
     let rest : List ℕ = (first_call (b ∷ s)).rest in
     ap (λ (os : List (Outcome Call)). (first_call (b ∷ s)).call ∷ os) (calls_any (length s) (length rest) rest (rest_less b s) (omega arith))
 
--- ---- the record that starts at `from`, as the reader finds it
-module _ (bytes : List ℕ) (from : ℕ) where
-  pub none_from : length bytes ≤ from → calls_in (drop from bytes) ≡ []
-  none_from h = ap calls_in (drop_of_length-le bytes {i = from} h) ∙ no_calls
-
-  module _ (h : from < length bytes) (r : Record) (is : r ≡ read_record (take (length bytes - from) (drop from bytes))) where
-    reads : r ≡ read_record (drop from bytes)
-    reads = is ∙ ap read_record (part_rest from bytes)
-
-    pub record_within_lem : InBytes r (length (take (length bytes - from) (drop from bytes)))
-    record_within_lem = rw (part_rest from bytes, reads) (read_agrees (drop from bytes)).within
-
-    -- the record after it starts where it ends
-    pub next_within : (from < from + r.end) × (from + r.end ≤ length bytes)
-    next_within =
-        let n : length (drop from bytes) ≡ length bytes - from = length-drop from bytes in
-        let some : 1 ≤ r.end = rw reads ((read_agrees (drop from bytes)).some (omega arith)) in
-        let within : r.end ≤ length (drop from bytes) = rw reads (read_agrees (drop from bytes)).within.within in
-        (omega arith, omega arith)
-
-    pub call_from : calls_in (drop from bytes) ≡ call_in r (drop from bytes) ∷ calls_in (drop (from + r.end) bytes)
-    call_from =
-        let s : List ℕ = drop from bytes in
-        let c : s ≡ get_or bytes from 0 ∷ drop (suc from) bytes = drop-cons bytes from 0 h in
-        let said : CallSaid = first_call s in
-        let says : record { call = call_in r s; rest = drop r.end s } ≡ said = rw reads (read_agrees s).says in
-        let first : calls_in s ≡ said.call ∷ calls_in said.rest = rw c (first_then_rest (get_or bytes from 0) (drop (suc from) bytes)) in
-        first ∙ ap (λ (x : CallSaid). x.call ∷ calls_in x.rest) (sym says) ∙ ap (λ (x : List ℕ). call_in r s ∷ calls_in x) (drop-drop r.end from bytes)
-
 -- ---- the bytes that count
 take_least : (s : List ℕ) (m : ℕ) → take (min (length s) m) s ≡ take m s
 take_least s m = go (ltb (length s) m) refl
@@ -117,3 +81,15 @@ counted_long s n e = sym (length-take-le n s (omega (arith, e)))
 pub counted_part : CountedPart
 unfolding counted
 counted_part s n e = (ap (λ (k : ℕ). take k s) e ∙ take_least s 65536, omega (arith, e, length-take-le n s (omega (arith, e))))
+
+-- ---- the calls, one a turn
+pub calls_none : (s : List ℕ) → length s ≡ 0 → calls_in s ≡ []
+calls_none [] h = no_calls
+calls_none (b ∷ s) h = let z : ◌≡◌ {A = ℕ} 0 1 = omega arith in absurd (omega arith)
+
+pub calls_more : (s : List ℕ) → (length s ≡ 0 → ⊥) → (x : CallSaid) → x ≡ first_call s → calls_in s ≡ x.call ∷ calls_in x.rest
+calls_more [] h x e = absurd (h refl)
+calls_more (b ∷ s) h x e = first_then_rest b s ∙ ap (λ (y : CallSaid). y.call ∷ calls_in y.rest) (sym e)
+
+pub calls_fewer : (s : List ℕ) → (length s ≡ 0 → ⊥) → (x : CallSaid) → x ≡ first_call s → length (calls_in x.rest) < length (calls_in s)
+calls_fewer s h x e = omega (arith, ap length (calls_more s h x e))
