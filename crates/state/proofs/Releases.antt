@@ -5,9 +5,9 @@ use Prim.Native.Nat.{ℕ}
 use native.Mathlib.Omega.{arith}
 use lib.Dec.{ltb}
 use borrow.Author.Tests.{ltb-true, ltb-false}
+use Rattle.std.specs.Prelude.{Ok, Err}
 use Rattle.refusals.specs.Refusals.{refusal_number, refusal_count}
 use Rattle.refusals.specs.declared.Refusal.{Refusal}
-use Rattle.refusals.specs.declared.Verdict.TheVariants as verdict
 use Rattle.network.specs.Network.{topology_of}
 use Rattle.ledger.specs.Lists.{keep}
 use Rattle.ledger.specs.Sessions.{is_live}
@@ -30,14 +30,14 @@ live_told n place table e false q =
 
 module _ (st : State) (ok : intact (view_of st) ≡ true) (n : ℕ) where
   pub release_refused : is_live n (live_of st.table) ≡ false → (r : Refusal) → refusal_number r ≡ 19 → refusal_count r ≡ 0
-      → Releases st n (record { verdict = verdict.Refused r; state = st })
+      → Releases st n (record { answer = Err r; state = st })
   release_refused h r p q =
       let a : reply (view_of st) (Release n) ≡ refusal 19 0 =
       refused_reply (view_of st) ok (Release n) 19 (release_refuses (topology_of st.network) (live_of st.table) n h) in
       record { answer = ap₂ refusal p q ∙ sym a; after = stays st (Release n) (refusal_leaves (Release n) _ 19 0 a) }
 
   pub release_passed : is_live n (live_of st.table) ≡ true → (t : Table) → live_of t ≡ keep (other_than n) (live_of st.table)
-      → Releases st n (record { verdict = verdict.Passed; state = record { network = st.network; table = t } })
+      → Releases st n (record { answer = Ok tt; state = record { network = st.network; table = t } })
   unfolding granted
   release_passed h t l =
       let a : reply (view_of st) (Release n) ≡ freed =

@@ -1,10 +1,12 @@
 -- What a call answers and leaves on a state that isn't broken, check by check. Assumes nothing.
 use mathlib.Core.Path.{◌≡◌, refl, sym, ap, ap₂, subst, ◌∙◌}
-use mathlib.Core.Bool.{true, false}
+use mathlib.Core.Bool.{Bool, true, false}
 use mathlib.Core.List.{List}
 use Prim.Native.Nat.{ℕ, ◌≤◌}
 use lib.ListN.{length}
-use Rattle.refusals.specs.Refusals.{given, pass}
+use Rattle.std.specs.Prelude.{Result, Ok, Err, IsErr, IsErrAnd, ⊤}
+use Rattle.refusals.specs.Refusals.{given, pass, ruling}
+use Rattle.refusals.specs.declared.Refusal.{Refusal}
 use Rattle.refusals.specs.Refusals as outcome
 use Rattle.network.specs.Network.{Topology, topology_of}
 use Rattle.network.specs.declared.Network.{Network}
@@ -26,6 +28,15 @@ use Rattle.table.proofs.Live.{in_none}
 use Rattle.state.specs.declared.State.{State}
 use Rattle.state.specs.declared.Quoted.{Quoted}
 use Rattle.state.specs.State.{view_of, fresh_state, FreshShown, Quotes, quoted_in, Leaves, LeftIntact}
+
+-- ---- a check that passed, and one that didn't
+pub check_passed : (v : Result ⊤ Refusal) (o : outcome.Ruling) → ruling v ≡ o → (x : ⊤) → v ≡ Ok x → o ≡ given pass
+check_passed v o e x q = sym e ∙ ap ruling q
+
+-- what `?` passes on is the same refusal
+pub same_err : {A : Type 0} (q : Result A Refusal) (r : Refusal) → IsErr q × IsErrAnd q (λ e. e ≡ r) → q ≡ Err r
+same_err (Ok x) r h = let e : ◌≡◌ {A = Bool} false true = h.0 in cc
+same_err (Err e) r h = ap Err h.1
 
 -- ---- the checks of a call after 0, one after the other
 module _ (net : Topology) (ss : List Session) (n : ℕ) (route : List ℕ) where
@@ -108,7 +119,7 @@ pub left_intact : LeftIntact
 left_intact st call after l e = subst (λ (v : View). intact v ≡ true) (sym l.view) (next_intact (view_of st) call e)
 
 -- ---- the program's answer, read over the links of its call, is the rule's
-pub quotes_back : (v : View) (call : Call) (q : Quoted) → Quotes (reply v call) q → quoted_in (length (links_of call)) q ≡ reply v call
+pub quotes_back : (v : View) (call : Call) (q : Result Quoted Refusal) → Quotes (reply v call) q → quoted_in (length (links_of call)) q ≡ reply v call
 quotes_back v call q w = go (reply v call) refl w
   where
     few : (held : Holding) → Scheduled v (links_of call) held → length (links_of call) ≤ 8

@@ -5,6 +5,7 @@ use mathlib.Core.List.{List}
 use Prim.Native.Nat.{ℕ, ◌≤◌}
 use native.Mathlib.Omega.{arith}
 use lib.ListN.{length, take, length-map}
+use Rattle.std.specs.Prelude.{Some}
 use Rattle.trellis.specs.Answer.{nodes_of}
 use Rattle.places.specs.Places.{firsts}
 use Rattle.places.proofs.Firsts.{length_firsts, firsts_take, blanks_back}
@@ -17,6 +18,7 @@ use Rattle.forwarding.specs.Hops.{no_hop, blank_hop, Ready}
 use Rattle.forwarding.specs.Schedule.{frames_of, colours_of}
 use Rattle.forwarding.specs.Route.{route_answer}
 use Rattle.search.specs.Reading.{reading, Finds}
+use Rattle.search.specs.declared.Schedule.{Schedule}
 use Rattle.search.specs.declared.Finding.{Finding}
 use Rattle.ledger.specs.Sessions.{Session, hop_of, hops_of}
 use Rattle.ledger.specs.Inner.{HeldWords}
@@ -36,9 +38,9 @@ ticks_told network = refl
 
 -- a search's result is the answer of "Least-delay schedule" over n hops
 pub record Searched (T n : ℕ) (hops : List Hop) (r : Finding) : Type 0 where
-  pub answer : reading n r.found r.count r.frames r.colours ≡ route_answer T hops
-  pub places : r.frames ≡ firsts 8 (frames_of (nodes_of (route_answer T hops))) 0
-  pub colour_places : r.colours ≡ firsts 8 (colours_of (nodes_of (route_answer T hops))) 0
+  pub answer : reading n r.schedule r.count ≡ route_answer T hops
+  pub places : (s : Schedule) → r.schedule ≡ Some s → s.frames ≡ firsts 8 (frames_of (nodes_of (route_answer T hops))) 0
+  pub colour_places : (s : Schedule) → r.schedule ≡ Some s → s.colours ≡ firsts 8 (colours_of (nodes_of (route_answer T hops))) 0
 
 -- the search of the first n of eight hops
 pub searched : (T n : ℕ) (eight : List Hop) (r : Finding) → n ≤ length eight → Finds T eight n r → Searched T n (firsts n eight no_hop) r
@@ -46,8 +48,8 @@ searched T n eight r h a =
     let same : take n eight ≡ firsts n eight no_hop = sym (firsts_take n eight no_hop h) in
     record {
       answer = a.answer ∙ ap (route_answer T) same;
-      places = a.places ∙ ap (λ (l : List Hop). firsts 8 (frames_of (nodes_of (route_answer T l))) 0) same;
-      colour_places = a.colour_places ∙ ap (λ (l : List Hop). firsts 8 (colours_of (nodes_of (route_answer T l))) 0) same;
+      places = λ s e. a.places s e ∙ ap (λ (l : List Hop). firsts 8 (frames_of (nodes_of (route_answer T l))) 0) same;
+      colour_places = λ s e. a.colour_places s e ∙ ap (λ (l : List Hop). firsts 8 (colours_of (nodes_of (route_answer T l))) 0) same;
     }
 
 -- ---- the hops of a route that passed, over the frames that sessions leave free

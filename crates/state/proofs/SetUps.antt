@@ -7,6 +7,7 @@ use native.Mathlib.Omega.{arith}
 use lib.ListN.{length}
 use lib.Dec.{leb}
 use borrow.Author.Tests.{leb-false}
+use Rattle.std.specs.Prelude.{Option, Some, None, Result, Ok, Err, ⊤}
 use Rattle.places.specs.Places.{firsts}
 use Rattle.places.proofs.Firsts.{length_firsts, firsts_back}
 use Rattle.trellis.specs.Answer.{found, nodes_of}
@@ -16,12 +17,9 @@ use Rattle.refusals.specs.Refusals as outcome
 use Rattle.refusals.specs.declared.Refusal.{Refusal}
 use Rattle.refusals.specs.declared.Refusal.TheVariants.{NoSchedule}
 use Rattle.refusals.proofs.Refusals.{uncounted}
-use Rattle.refusals.specs.declared.Verdict.{Verdict}
-use Rattle.refusals.specs.declared.Verdict.TheVariants as verdict
 use Rattle.network.specs.Network.{Topology, topology_of}
 use Rattle.network.specs.Checks.{network_check}
 use Rattle.network.specs.declared.Network.{Network}
-use Rattle.forwarding.specs.declared.Delay.{Delay}
 use Rattle.forwarding.specs.declared.Held.{Held}
 use Rattle.forwarding.specs.declared.Hop.{Hop}
 use Rattle.forwarding.specs.Forwarding.{Spot}
@@ -31,11 +29,11 @@ use Rattle.forwarding.specs.Cycles.{schedule_cycles}
 use Rattle.forwarding.specs.Route.{route_answer}
 use Rattle.forwarding.proofs.Answers.{found_given}
 use Rattle.search.specs.Reading.{reading, Finds}
+use Rattle.search.specs.declared.Schedule.{Schedule}
 use Rattle.search.specs.declared.Finding.{Finding}
-use Rattle.search.specs.declared.Found.{Found}
-use Rattle.search.specs.declared.Found.TheVariants as result
 use Rattle.ledger.specs.Held.{Holding, held_over, holding_of, held_places}
 use Rattle.ledger.specs.Sessions.{Session, is_live, hops_of}
+use Rattle.ledger.specs.Inner.{HeldWords}
 use Rattle.ledger.specs.Routes.{route_check}
 use Rattle.ledger.specs.Sound.{intact}
 use Rattle.ledger.specs.Calls.{Call, SetUp, Quote, Reply, schedule, refusal, reply_of, answer_over, full, call_check, granted, reply, enters, leaves, effect}
@@ -44,6 +42,7 @@ use Rattle.ledger.proofs.Held.{frames_joined, places_over}
 use Rattle.ledger.proofs.Answered.{admitted}
 use Rattle.ledger.proofs.Refused.{not_eighteen}
 use Rattle.ledger.proofs.Scheduled.{scheduled, scheduled_back}
+use Rattle.routes.specs.Hops.{hops_from}
 use Rattle.routes.specs.Inner.{FramesLaid}
 use Rattle.routes.proofs.Routes.{route_long}
 use Rattle.routes.proofs.HopCycles.{schedule_laid}
@@ -53,17 +52,17 @@ use Rattle.table.specs.Table.{session_of, live_of}
 use Rattle.table.proofs.Live.{in_length}
 use Rattle.state.specs.declared.State.{State}
 use Rattle.state.specs.declared.Quoted.{Quoted}
-use Rattle.state.specs.State.{view_of, not_quoted, Quotes, Serves}
+use Rattle.state.specs.State.{view_of, Quotes, Serves}
 use Rattle.state.specs.Inner.{found_places, found_quoted}
-use Rattle.state.proofs.Searches.{ticks_told, Searched, hops_ready, hops_back, hops_searched}
-use Rattle.state.proofs.Replies.{route_refuses, number_refuses, places_refuse, none_refuses, quote_check, refused_reply, granted_reply, refusal_leaves, stays, moves}
+use Rattle.state.proofs.Searches.{ticks_told, Searched, hops_ready, hops_back, hops_searched, free_hops}
+use Rattle.state.proofs.Replies.{check_passed, route_refuses, number_refuses, places_refuse, none_refuses, quote_check, refused_reply, granted_reply, refusal_leaves, stays, moves}
 
 -- ---- the checks of a set-up after 0, in turn
-module _ (network : Network) (ss : List Session) (n : ℕ) (route : List ℕ) (v : Verdict) (ev : ruling v ≡ route_check (topology_of network) route) where
-  pub checked_route : (r : Refusal) → v ≡ verdict.Refused r → outcome.refused (refusal_number r) ≡ call_check (topology_of network) ss (SetUp n route)
+module _ (network : Network) (ss : List Session) (n : ℕ) (route : List ℕ) (v : Result ⊤ Refusal) (ev : ruling v ≡ route_check (topology_of network) route) where
+  pub checked_route : (r : Refusal) → v ≡ Err r → outcome.refused (refusal_number r) ≡ call_check (topology_of network) ss (SetUp n route)
   checked_route r e = sym (route_refuses (topology_of network) ss n route (refusal_number r) (sym ev ∙ ap ruling e))
 
-  module _ (e : v ≡ verdict.Passed) (b : Bool) (eb : b ≡ is_live n ss) where
+  module _ (x : ⊤) (e : v ≡ Ok x) (b : Bool) (eb : b ≡ is_live n ss) where
     pub checked_number : b ≡ true → (k : ℕ) → k ≡ 16 → outcome.refused k ≡ call_check (topology_of network) ss (SetUp n route)
     checked_number q k p = ap outcome.refused p ∙ sym (number_refuses (topology_of network) ss n route (sym ev ∙ ap ruling e) (sym eb ∙ q))
 
@@ -78,10 +77,6 @@ pub full_told : (table : Table) (b : Bool) → b ≡ leb 96 table.live → b ≡
 unfolding full
 full_told table b e = e ∙ ap (leb 96) (sym (in_length table.live table.places))
 
--- 17 passed: a place is left
-pub room_left : (table : Table) → full (live_of table) ≡ false → table.live < 96
-room_left table e = leb-false 96 table.live (full_told table (leb 96 table.live) refl ∙ e)
-
 -- a place reads as the session that was stored in it
 pub stored_route : (number : ℕ) (route eight : List ℕ) (held : Held) → eight ≡ firsts 8 route 0 → length route ≤ 8
     → session_of (record { number = number; hops = length route; route = eight; held = held })
@@ -92,50 +87,50 @@ stored_route number route eight held e few =
 
 -- ---- what a search found over n hops, as an answer
 module _ (T n : ℕ) (hops : List Hop) (f : Finding) (s : Searched T n hops f) where
-  told : (x : Found) → f.found ≡ x → route_answer T hops ≡ reading n x f.count f.frames f.colours
-  told x e = sym s.answer ∙ ap (λ (y : Found). reading n y f.count f.frames f.colours) e
-
-  -- the frames found, in their colours
-  abbrev pub found_spots : List Spot
-  found_spots = in_colours (firsts n f.frames 0) (firsts n f.colours 0)
-
-  pub found_frames : frames_of found_spots ≡ firsts n f.frames 0
-  found_frames = frames_joined (firsts n f.frames 0) (firsts n f.colours 0) (length_firsts n f.frames 0 ∙ sym (length_firsts n f.colours 0))
+  told : (x : Option Schedule) → f.schedule ≡ x → route_answer T hops ≡ reading n x f.count
+  told x e = sym s.answer ∙ ap (λ (y : Option Schedule). reading n y f.count) e
 
   -- 18, with the count
-  module _ (e : f.found ≡ result.Blocked) where
+  module _ (e : f.schedule ≡ None) where
     pub none_found : answer_over T hops ≡ refusal 18 f.count
-    none_found = ap (reply_of hops) (told result.Blocked e)
+    none_found = ap (reply_of hops) (told None e)
 
-    pub quotes_blocked : (q : Quoted) → q ≡ not_quoted (NoSchedule f.count) → Quotes (answer_over T hops) q
+    pub quotes_blocked : (q : Result Quoted Refusal) → q ≡ Err (NoSchedule f.count) → Quotes (answer_over T hops) q
     quotes_blocked q w = subst (λ (x : Reply). Quotes x q) (sym none_found) (NoSchedule f.count, refl, refl, w)
 
   -- a schedule: what it holds, and that in eight places
-  module _ (d : Delay) (e : f.found ≡ result.Schedule d) where
+  module _ (x : Schedule) (e : f.schedule ≡ Some x) where
+    -- its frames, in their colours
+    abbrev pub found_spots : List Spot
+    found_spots = in_colours (firsts n x.frames 0) (firsts n x.colours 0)
+
+    pub found_frames : frames_of found_spots ≡ firsts n x.frames 0
+    found_frames = frames_joined (firsts n x.frames 0) (firsts n x.colours 0) (length_firsts n x.frames 0 ∙ sym (length_firsts n x.colours 0))
+
     pub schedule_found : IsSchedule hops found_spots
-    schedule_found = (found_given T hops d.0 f.count found_spots (told (result.Schedule d) e)).schedule
+    schedule_found = (found_given T hops x.delay.0 f.count found_spots (told (Some x) e)).schedule
 
     abbrev pub found_held : Holding
-    found_held = held_over hops d.0 found_spots
+    found_held = held_over hops x.delay.0 found_spots
 
     pub held_found : answer_over T hops ≡ schedule found_held f.count
-    held_found = ap (reply_of hops) (told (result.Schedule d) e)
+    held_found = ap (reply_of hops) (told (Some x) e)
 
-    pub found_places_lem : found_places hops n f d ≡ held_places found_held
+    pub found_places_lem : found_places hops n x ≡ held_places found_held
     found_places_lem =
-        places_over hops d found_spots f.frames (firsts 8 (schedule_cycles hops (firsts n f.frames 0)) 0) f.colours
-        (s.places ∙ ap (λ (a : trellis.Answer Spot). firsts 8 (frames_of (nodes_of a)) 0) (told (result.Schedule d) e))
+        places_over hops x.delay found_spots x.frames (firsts 8 (schedule_cycles hops (firsts n x.frames 0)) 0) x.colours
+        (s.places x e ∙ ap (λ (a : trellis.Answer Spot). firsts 8 (frames_of (nodes_of a)) 0) (told (Some x) e))
         (ap (λ (fs : List ℕ). firsts 8 (schedule_cycles hops fs) 0) (sym found_frames))
-        (s.colour_places ∙ ap (λ (a : trellis.Answer Spot). firsts 8 (colours_of (nodes_of a)) 0) (told (result.Schedule d) e))
+        (s.colour_places x e ∙ ap (λ (a : trellis.Answer Spot). firsts 8 (colours_of (nodes_of a)) 0) (told (Some x) e))
 
-    pub quotes_found : (q : Quoted) → q ≡ found_quoted hops n f d → Quotes (answer_over T hops) q
+    pub quotes_found : (q : Quoted) → q ≡ found_quoted hops n x f.count → Quotes (answer_over T hops) (Ok q)
     quotes_found q e =
-        subst (λ (x : Reply). Quotes x q) (sym held_found)
-        (e ∙ ap (λ (h : Held). record { verdict = verdict.Passed; count = f.count; held = h }) found_places_lem)
+        subst (λ (y : Reply). Quotes y (Ok q)) (sym held_found)
+        (ap Ok (e ∙ ap (λ (h : Held). record { count = f.count; held = h }) found_places_lem))
 
 module _ (st : State) (ok : intact (view_of st) ≡ true) where
   -- ---- a refusal by a check: it has no count, and leaves the very same state
-  module _ (call : Call) (v : Verdict) (ev : ruling v ≡ call_check (topology_of st.network) (live_of st.table) call) (r : Refusal) (e : v ≡ verdict.Refused r) where
+  module _ (call : Call) (v : Result ⊤ Refusal) (ev : ruling v ≡ call_check (topology_of st.network) (live_of st.table) call) (r : Refusal) (e : v ≡ Err r) where
     call_refused : call_check (topology_of st.network) (live_of st.table) call ≡ outcome.refused (refusal_number r)
     call_refused = sym ev ∙ ap ruling e
 
@@ -144,11 +139,11 @@ module _ (st : State) (ok : intact (view_of st) ≡ true) where
         refused_reply (view_of st) ok call (refusal_number r) call_refused
         ∙ ap (refusal (refusal_number r)) (sym (uncounted r (not_eighteen (topology_of st.network) (live_of st.table) call (refusal_number r) call_refused)))
 
-    pub quotes_refused : (q : Quoted) → q ≡ not_quoted r → Quotes (reply (view_of st) call) q
+    pub quotes_refused : (q : Result Quoted Refusal) → q ≡ Err r → Quotes (reply (view_of st) call) q
     quotes_refused q w = subst (λ (x : Reply). Quotes x q) (sym refused_told) (r, refl, refl, w)
 
-    pub serves_refused : (q : Quoted) → q ≡ not_quoted r → Serves st call (record { answer = q; state = st })
-    serves_refused q w = record { answer = quotes_refused q w; after = stays st call (refusal_leaves call _ _ _ refused_told) }
+    pub serves_refused : Serves st call (record { answer = Err r; state = st })
+    serves_refused = record { answer = quotes_refused (Err r) refl; after = stays st call (refusal_leaves call _ _ _ refused_told) }
 
   -- ---- a quote, and a set-up that no check refused
   quote_granted : (route : List ℕ) → route_check (topology_of st.network) route ≡ given pass
@@ -158,7 +153,7 @@ module _ (st : State) (ok : intact (view_of st) ≡ true) where
 
   -- answered over the route's hops in eight places
   pub quote_quotes : (route : List ℕ) (checked : route_check (topology_of st.network) route ≡ given pass) (eight : List Hop)
-      → eight ≡ firsts 8 (hops_of (topology_of st.network) (live_of st.table) route) blank_hop → (q : Quoted)
+      → eight ≡ firsts 8 (hops_of (topology_of st.network) (live_of st.table) route) blank_hop → (q : Result Quoted Refusal)
       → Quotes (answer_over st.network.ticks (firsts (length route) eight no_hop)) q → Quotes (reply (view_of st) (Quote route)) q
   quote_quotes route checked eight e q w =
       subst (λ (x : Reply). Quotes x q) (sym (quote_granted route checked))
@@ -166,25 +161,38 @@ module _ (st : State) (ok : intact (view_of st) ≡ true) where
       (subst (λ (hops : List Hop). Quotes (answer_over st.network.ticks hops) q)
       (hops_back st.network (live_of st.table) route (intact_is (view_of st) ok).network checked eight e) w))
 
-  module _ (n : ℕ) (route : List ℕ) (passed : call_check (topology_of st.network) (live_of st.table) (SetUp n route) ≡ given pass) where
+  module _ (n : ℕ) (route : List ℕ) (v : Result ⊤ Refusal) (ev : ruling v ≡ call_check (topology_of st.network) (live_of st.table) (SetUp n route)) (u : ⊤) (eu : v ≡ Ok u) where
     abbrev net : Topology
     net = topology_of st.network
 
     abbrev ss : List Session
     ss = live_of st.table
 
+    passed : call_check net ss (SetUp n route) ≡ given pass
+    passed = check_passed v (call_check net ss (SetUp n route)) ev u eu
+
     set_up_granted : reply (view_of st) (SetUp n route) ≡ answer_over net.ticks (hops_of net ss route)
     unfolding granted
     set_up_granted = granted_reply (view_of st) ok (SetUp n route) passed
 
-    -- the route passed
+    -- the route passed, it has 1 to 8 links, and a place is left
     pub route_passed : route_check net route ≡ given pass
     route_passed = (admitted net ss n route passed).passed
 
+    pub few_links : length route ≤ 8
+    few_links = (route_long net route route_passed).1
+
+    pub room_left : st.table.live < 96
+    room_left = leb-false 96 st.table.live (full_told st.table (leb 96 st.table.live) refl ∙ (admitted net ss n route passed).room)
+
     -- what the search of its hops in eight places found
-    module _ (eight : List Hop) (e8 : eight ≡ firsts 8 (hops_of net ss route) blank_hop) (f : Finding) (finds : Finds st.network.ticks eight (length route) f) where
+    module _ (held : List ℕ) (w : HeldWords held ss) (eight : List Hop) (eh : eight ≡ firsts 8 (hops_from st.network.links held route) blank_hop) (f : Finding)
+        (finds : Finds st.network.ticks eight (length route) f) where
       checked : network_check net ≡ given pass
       checked = (intact_is (view_of st) ok).network
+
+      e8 : eight ≡ firsts 8 (hops_of net ss route) blank_hop
+      e8 = free_hops st ok route route_passed held w eight eh
 
       s : Searched net.ticks (length route) (hops_of net ss route) f
       s = hops_searched st.network ss route checked route_passed eight e8 f finds
@@ -192,45 +200,49 @@ module _ (st : State) (ok : intact (view_of st) ≡ true) where
       back : firsts (length route) eight no_hop ≡ hops_of net ss route
       back = hops_back st.network ss route checked route_passed eight e8
 
-      pub set_up_laid : (d : Delay) → f.found ≡ result.Schedule d → FramesLaid eight f.frames (length route)
-      set_up_laid d e =
-          schedule_laid st.network.ticks (length route) eight f.frames (found_spots net.ticks (length route) (hops_of net ss route) f s) (hops_ready st.network ss route checked route_passed eight e8)
-          (found_frames net.ticks (length route) (hops_of net ss route) f s)
-          (subst (λ (hops : List Hop). IsSchedule hops (found_spots net.ticks (length route) (hops_of net ss route) f s)) (sym back) (schedule_found net.ticks (length route) (hops_of net ss route) f s d e))
-
       -- 18 leaves the very same state
-      pub set_up_blocked : f.found ≡ result.Blocked → (q : Quoted) → q ≡ not_quoted (NoSchedule f.count) → Serves st (SetUp n route) (record { answer = q; state = st })
-      set_up_blocked e q w =
+      pub set_up_blocked : f.schedule ≡ None → Serves st (SetUp n route) (record { answer = Err (NoSchedule f.count); state = st })
+      set_up_blocked e =
           record {
-            answer = subst (λ (x : Reply). Quotes x q) (sym set_up_granted) (quotes_blocked net.ticks (length route) (hops_of net ss route) f s e q w);
+            answer = subst (λ (x : Reply). Quotes x (Err (NoSchedule f.count))) (sym set_up_granted) (quotes_blocked net.ticks (length route) (hops_of net ss route) f s e (Err (NoSchedule f.count)) refl);
             after = stays st (SetUp n route) (refusal_leaves (SetUp n route) _ 18 f.count (set_up_granted ∙ none_found net.ticks (length route) (hops_of net ss route) f s e));
           }
 
-      -- the frames are held
-      module _ (d : Delay) (e : f.found ≡ result.Schedule d) (q : Quoted) (eq : q ≡ found_quoted (firsts (length route) eight no_hop) (length route) f d) (place : Place)
-          (ep : session_of place ≡ record { number = n; route = route; held = holding_of (length route) q.held }) (table : Table)
-          (et : live_of table ≡ ss ++ (session_of place ∷ [])) where
-        over_hops : q ≡ found_quoted (hops_of net ss route) (length route) f d
-        over_hops = eq ∙ ap (λ (hops : List Hop). found_quoted hops (length route) f d) back
+      module _ (x : Schedule) (e : f.schedule ≡ Some x) where
+        pub set_up_laid : FramesLaid eight x.frames (length route)
+        set_up_laid =
+            schedule_laid st.network.ticks (length route) eight x.frames (found_spots net.ticks (length route) (hops_of net ss route) f s x e) (hops_ready st.network ss route checked route_passed eight e8)
+            (found_frames net.ticks (length route) (hops_of net ss route) f s x e)
+            (subst (λ (hops : List Hop). IsSchedule hops (found_spots net.ticks (length route) (hops_of net ss route) f s x e)) (sym back) (schedule_found net.ticks (length route) (hops_of net ss route) f s x e))
 
-        accepted : reply (view_of st) (SetUp n route) ≡ schedule (found_held net.ticks (length route) (hops_of net ss route) f s d e) f.count
-        accepted = set_up_granted ∙ held_found net.ticks (length route) (hops_of net ss route) f s d e
+        -- the frames are held
+        module _ (q : Quoted) (eq : q ≡ found_quoted (firsts (length route) eight no_hop) (length route) x f.count) (place : Place)
+            (ep : session_of place ≡ record { number = n; route = route; held = holding_of (length route) q.held }) (table : Table)
+            (et : live_of table ≡ ss ++ (session_of place ∷ [])) where
+          over_hops : q ≡ found_quoted (hops_of net ss route) (length route) x f.count
+          over_hops = eq ∙ ap (λ (hops : List Hop). found_quoted hops (length route) x f.count) back
 
-        -- what is stored reads as what is held
-        stored : holding_of (length route) q.held ≡ found_held net.ticks (length route) (hops_of net ss route) f s d e
-        stored =
-            ap (λ (x : Quoted). holding_of (length route) x.held) over_hops
-            ∙ ap (holding_of (length route)) (found_places_lem net.ticks (length route) (hops_of net ss route) f s d e)
-            ∙ scheduled_back (view_of st) route (found_held net.ticks (length route) (hops_of net ss route) f s d e) (scheduled (view_of st) (SetUp n route) (found_held net.ticks (length route) (hops_of net ss route) f s d e) f.count accepted)
-            (route_long net route route_passed).1
+          abbrev holds : Holding
+          holds = found_held net.ticks (length route) (hops_of net ss route) f s x e
 
-        enters_moves : (u : Session) (X : Type 0) → enters u ≡ leaves → X
-        enters_moves u X q = let z : ◌≡◌ {A = ℕ} 0 1 = cc in absurd (omega arith)
+          accepted : reply (view_of st) (SetUp n route) ≡ schedule holds f.count
+          accepted = set_up_granted ∙ held_found net.ticks (length route) (hops_of net ss route) f s x e
 
-        pub set_up_held : Serves st (SetUp n route) (record { answer = q; state = record { network = st.network; table = table } })
-        set_up_held =
-            record {
-              answer = subst (λ (x : Reply). Quotes x q) (sym set_up_granted) (quotes_found net.ticks (length route) (hops_of net ss route) f s d e q over_hops);
-              after = moves st (SetUp n route) (enters record { number = n; route = route; held = found_held net.ticks (length route) (hops_of net ss route) f s d e }) (ap (effect (SetUp n route)) accepted) (enters_moves _) table
-                  (et ∙ ap (λ (u : Session). ss ++ (u ∷ [])) (ep ∙ ap (λ (h : Holding). record { number = n; route = route; held = h }) stored));
-            }
+          -- what is stored reads as what is held
+          stored : holding_of (length route) q.held ≡ holds
+          stored =
+              ap (λ (y : Quoted). holding_of (length route) y.held) over_hops
+              ∙ ap (holding_of (length route)) (found_places_lem net.ticks (length route) (hops_of net ss route) f s x e)
+              ∙ scheduled_back (view_of st) route holds (scheduled (view_of st) (SetUp n route) holds f.count accepted)
+              few_links
+
+          enters_moves : (u : Session) (X : Type 0) → enters u ≡ leaves → X
+          enters_moves u X q = let z : ◌≡◌ {A = ℕ} 0 1 = cc in absurd (omega arith)
+
+          pub set_up_held : Serves st (SetUp n route) (record { answer = Ok q; state = record { network = st.network; table = table } })
+          set_up_held =
+              record {
+                answer = subst (λ (y : Reply). Quotes y (Ok q)) (sym set_up_granted) (quotes_found net.ticks (length route) (hops_of net ss route) f s x e q over_hops);
+                after = moves st (SetUp n route) (enters record { number = n; route = route; held = holds }) (ap (effect (SetUp n route)) accepted) (enters_moves _) table
+                    (et ∙ ap (λ (u : Session). ss ++ (u ∷ [])) (ep ∙ ap (λ (h : Holding). record { number = n; route = route; held = h }) stored));
+              }

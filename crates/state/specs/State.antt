@@ -1,10 +1,8 @@
 -- The stored state, what it shows, and what the program's answers say in the words of the rules. Assumes nothing.
-use Rattle.std.specs.Prelude.{◌≡◌, true, [], ℕ, replicate}
+use Rattle.std.specs.Prelude.{◌≡◌, true, [], ℕ, ⊤, Result, Ok, Err, replicate}
 use Rattle.places.specs.Places.{firsts}
 use Rattle.refusals.specs.Refusals.{refusal_number, refusal_count}
 use Rattle.refusals.specs.declared.Refusal.{Refusal}
-use Rattle.refusals.specs.declared.Verdict.{Verdict}
-use Rattle.refusals.specs.declared.Verdict.TheVariants.{Passed, Refused}
 use Rattle.network.specs.Network.{topology_of}
 use Rattle.network.specs.declared.Network.{Network}
 use Rattle.ledger.specs.Held.{Holding, no_holding, holding_of, held_places}
@@ -17,7 +15,6 @@ use Rattle.table.specs.Table.{live_of}
 use Rattle.state.specs.declared.State.{State}
 use Rattle.state.specs.declared.Quoted.{Quoted}
 use Rattle.state.specs.declared.Served.{Served}
-use Rattle.state.specs.declared.Released.{Released}
 
 -- what a stored state shows: unused places are no part of it, and a number above its places shows in it
 abbrev pub view_of : State → View
@@ -36,30 +33,27 @@ abbrev pub FreshShown : Type 0
 FreshShown = (net : Network) → view_of (fresh_state net) ≡ fresh (topology_of net)
 
 -- ---- the answers
--- the answer that gives a schedule, and a refused one: "In an answer, unused hop and link places hold 0"
+-- the answer that gives a schedule: "In an answer, unused hop and link places hold 0"
 abbrev pub quoted_of : Holding → ℕ → Quoted
-quoted_of held count = record { verdict = Passed; count = count; held = held_places held }
-
-abbrev pub not_quoted : Refusal → Quoted
-not_quoted r = record { verdict = Refused r; count = 0; held = held_places no_holding }
+quoted_of held count = record { count = count; held = held_places held }
 
 -- the program's answer to a set-up or a quote is the rule's; no such call answers that frames are freed
-abbrev pub Quotes : Reply → Quoted → Type 0
-Quotes (schedule held count) q = q ≡ quoted_of held count
+abbrev pub Quotes : Reply → Result Quoted Refusal → Type 0
+Quotes (schedule held count) q = q ≡ Ok (quoted_of held count)
 Quotes freed q = ⊥
-Quotes (refusal number count) q = (r : Refusal) × (refusal_number r ≡ number) × (refusal_count r ≡ count) × (q ≡ not_quoted r)
+Quotes (refusal number count) q = (r : Refusal) × (refusal_number r ≡ number) × (refusal_count r ≡ count) × (q ≡ Err r)
 
--- document 01's number and values for each case: a refusal's, or what is answered where there is none
-abbrev pub reply_as : Verdict → Reply → Reply
-reply_as Passed answer = answer
-reply_as (Refused r) answer = refusal (refusal_number r) (refusal_count r)
+-- document 01's number and values for each case: a refusal's, or what the value that is answered says
+abbrev pub reply_as : {A : Type 0} → (A → Reply) → Result A Refusal → Reply
+reply_as of (Ok a) = of a
+reply_as of (Err r) = refusal (refusal_number r) (refusal_count r)
 
 -- of a set-up or a quote over n links, and of a release
-abbrev pub quoted_in : ℕ → Quoted → Reply
-quoted_in n q = reply_as q.verdict (schedule (holding_of n q.held) q.count)
+abbrev pub quoted_in : ℕ → Result Quoted Refusal → Reply
+quoted_in n q = reply_as (λ (a : Quoted). schedule (holding_of n a.held) a.count) q
 
-abbrev pub released_in : Verdict → Reply
-released_in v = reply_as v freed
+abbrev pub released_in : Result ⊤ Refusal → Reply
+released_in q = reply_as (λ _. freed) q
 
 -- ---- the state after a call
 -- what a call leaves: the view of the rules on the very same stored network, and the very same state where the call changes no session (a refusal or a
@@ -75,11 +69,11 @@ abbrev pub LeftIntact : Type 0
 LeftIntact = (st : State) (call : Call) (after : State) → Leaves st call after → intact (view_of st) ≡ true → intact (view_of after) ≡ true
 
 -- a set-up or a quote
-pub record Serves (st : State) (call : Call) (r : Served) : Type 0 where
+pub record Serves (st : State) (call : Call) (r : Served Quoted) : Type 0 where
   pub answer : Quotes (reply (view_of st) call) r.answer
   pub after : Leaves st call r.state
 
 -- a release
-pub record Releases (st : State) (n : ℕ) (r : Released) : Type 0 where
-  pub answer : released_in r.verdict ≡ reply (view_of st) (Release n)
+pub record Releases (st : State) (n : ℕ) (r : Served ⊤) : Type 0 where
+  pub answer : released_in r.answer ≡ reply (view_of st) (Release n)
   pub after : Leaves st (Release n) r.state

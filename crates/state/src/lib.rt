@@ -14,13 +14,13 @@ ghost use Rattle.ledger.specs.Sound.{intact};
 ghost use Rattle.ledger.specs.Calls.{SetUp, Quote, answer_over, call_check, reply};
 ghost use Rattle.routes.specs.Inner.{FramesLaid};
 ghost use Rattle.table.specs.Table.{session_of, live_of};
-ghost use Rattle.state.specs.State.{view_of, empty_table, fresh_state, not_quoted, Quotes, Serves, Releases};
+ghost use Rattle.state.specs.State.{view_of, empty_table, fresh_state, Quotes, Serves, Releases};
 ghost use Rattle.state.specs.Inner.{found_quoted};
 
-use forwarding::{Delay, Held, Hop};
+use forwarding::{Held, Hop};
 use network::Network;
-use refusals::{Refusal, Verdict};
-use search::{Finding, Found};
+use refusals::Refusal;
+use search::Schedule;
 use table::{Place, Table};
 
 // The stored state: a network and its live sessions.
@@ -30,26 +30,17 @@ pub struct State {
     pub table: Table,
 }
 
-// What a quote answers, and a set-up: the count of transitions considered, and what the schedule holds. A refused one has count 0 and holds nothing; the
-// count of 18 stands in the refusal.
+// What a quote gives, and a set-up: the count of transitions considered, and what the schedule holds.
 #[derive(Clone, Copy)]
 pub struct Quoted {
-    pub verdict: Verdict,
     pub count: u32,
     pub held: Held,
 }
 
-// An answer and the state after the call.
+// A call's answer, or its refusal, and the state after the call.
 #[derive(Clone, Copy)]
-pub struct Served {
-    pub answer: Quoted,
-    pub state: State,
-}
-
-// What a release answers, and the state after it.
-#[derive(Clone, Copy)]
-pub struct Released {
-    pub verdict: Verdict,
+pub struct Served<T> {
+    pub answer: Result<T, Refusal>,
     pub state: State,
 }
 
@@ -81,61 +72,42 @@ pub fn fresh_state(network: Network) -> State
     }
 }
 
-// A refused answer.
-pub fn refused(refusal: Refusal) -> Quoted
-    ensures { result ≡ not_quoted refusal }
+// What a set-up or a quote gives of a schedule that a search found over the first n hops: the one place where what is held is made.
+fn scheduled(hops: [Hop; 8], n: usize, schedule: Schedule, count: u32) -> Quoted
+    requires { FramesLaid hops schedule.frames n }
+    ensures { result ≡ found_quoted (firsts n hops no_hop) n schedule count }
 {
-    let held = table::nothing_held();
-    Quoted {
-        verdict: Verdict::Refused(refusal),
-        count: 0,
-        held,
-    }
-}
-
-// The answer that gives the schedule that a search found over the first n hops, with this delay: the one place where what is held is made.
-fn scheduled(hops: [Hop; 8], n: usize, finding: Finding, delay: Delay) -> Quoted
-    requires { FramesLaid hops finding.frames n }
-    ensures { result ≡ found_quoted (firsts n hops no_hop) n finding delay }
-{
-    let frames = finding.frames;
+    let frames = schedule.frames;
     let cycles = routes::cycles(hops, frames, n);
-    let colours = finding.colours;
+    let delay = schedule.delay;
+    let colours = schedule.colours;
     let held = Held {
         frames,
         cycles,
         delay,
         colours,
     };
-    Quoted {
-        verdict: Verdict::Passed,
-        count: finding.count,
-        held,
-    }
+    Quoted { count, held }
 }
 
 // The answer over the first n hops: the least-delay schedule, or 18 where none exists. Checks 3, 7, 8, 21 and 12 guarantee what is required.
-fn answer_over(t: u16, hops: [Hop; 8], n: usize) -> Quoted
+fn answer_over(t: u16, hops: [Hop; 8], n: usize) -> Result<Quoted, Refusal>
     requires { Ready t hops n }
     ensures { Quotes (answer_over t (firsts n hops no_hop)) result }
 {
     let finding = search::search(t, hops, n);
-    let found = finding.found;
-    let Found::Schedule(delay) = found else {
-        return refused(Refusal::NoSchedule(finding.count));
+    let Some(schedule) = finding.schedule else {
+        return Err(Refusal::NoSchedule(finding.count));
     };
-    scheduled(hops, n, finding, delay)
+    Ok(scheduled(hops, n, schedule, finding.count))
 }
 
 // Quote: the least-delay schedule over the route in the frames now free.
-pub fn quote(st: State, route: &[u8]) -> Quoted
+pub fn quote(st: State, route: &[u8]) -> Result<Quoted, Refusal>
     requires { intact (view_of st) ≡ true }
     ensures { Quotes (reply (view_of st) (Quote route.now)) result }
 {
-    match routes::check_route(st.network, route) {
-        Verdict::Refused(refusal) => return refused(refusal),
-        Verdict::Passed => {}
-    }
+    routes::check_route(st.network, route)?;
     let network = st.network;
     let held = table::held_words(st.table);
     let hops = routes::route_hops(network, &held, route);
@@ -158,23 +130,20 @@ fn is_full(live: usize) -> bool
 }
 
 // The checks of a set-up after 0: 12 to 17.
-fn check_set_up(network: Network, table: Table, number: u32, route: &[u8]) -> Verdict
+fn check_set_up(network: Network, table: Table, number: u32, route: &[u8]) -> Result<(), Refusal>
     requires { (network_check (topology_of network) ≡ given pass) × (table.live ≤ 96) }
     ensures { ruling result ≡ call_check (topology_of network) (live_of table) (SetUp number route.now) }
 {
-    match routes::check_route(network, route) {
-        Verdict::Refused(refusal) => return Verdict::Refused(refusal),
-        Verdict::Passed => {}
-    }
+    routes::check_route(network, route)?;
     let live = is_live(table, number);
     let full = is_full(table.live);
     if live {
-        return Verdict::Refused(Refusal::NumberLive);
+        return Err(Refusal::NumberLive);
     }
     if full {
-        return Verdict::Refused(Refusal::PlacesFull);
+        return Err(Refusal::PlacesFull);
     }
-    Verdict::Passed
+    Ok(())
 }
 
 // A session of this number over the route, as it is stored. Check 12: the route has at most 8 links.
@@ -193,50 +162,48 @@ fn new_place(number: u32, route: &[u8], held: Held) -> Place
 
 // Set-up: holds the frames of the least-delay schedule over the route, or refuses and leaves all as it was.
 // Form: the search's enum is taken apart by `let .. else`, and its refusal passed on before anything is held.
-pub fn set_up(st: State, number: u32, route: &[u8]) -> Served
+pub fn set_up(st: State, number: u32, route: &[u8]) -> Served<Quoted>
     requires { intact (view_of st) ≡ true }
     ensures { Serves st (SetUp number route.now) result }
 {
     let network = st.network;
     let table = st.table;
-    match check_set_up(network, table, number, route) {
-        Verdict::Refused(refusal) => return Served {
-            answer: refused(refusal),
+    if let Err(refusal) = check_set_up(network, table, number, route) {
+        return Served {
+            answer: Err(refusal),
             state: st,
-        },
-        Verdict::Passed => {}
+        };
     }
     let held = table::held_words(table);
     let hops = routes::route_hops(network, &held, route);
     let finding = search::search(network.ticks, hops, route.len());
-    let found = finding.found;
-    let Found::Schedule(delay) = found else {
+    let Some(schedule) = finding.schedule else {
         return Served {
-            answer: refused(Refusal::NoSchedule(finding.count)),
+            answer: Err(Refusal::NoSchedule(finding.count)),
             state: st,
         };
     };
-    let answer = scheduled(hops, route.len(), finding, delay);
-    let place = new_place(number, route, answer.held);
+    let quoted = scheduled(hops, route.len(), schedule, finding.count);
+    let place = new_place(number, route, quoted.held);
     let after = State {
         network,
         table: table::with_place(table, place),
     };
     Served {
-        answer,
+        answer: Ok(quoted),
         state: after,
     }
 }
 
 // Release: frees exactly the frames of the session with the number.
-pub fn release(st: State, number: u32) -> Released
+pub fn release(st: State, number: u32) -> Served<()>
     requires { intact (view_of st) ≡ true }
     ensures { Releases st number result }
 {
     let table = st.table;
     if !is_live(table, number) {
-        return Released {
-            verdict: Verdict::Refused(Refusal::NumberNotLive),
+        return Served {
+            answer: Err(Refusal::NumberNotLive),
             state: st,
         };
     }
@@ -245,8 +212,8 @@ pub fn release(st: State, number: u32) -> Released
         network,
         table: table::without(table, number),
     };
-    Released {
-        verdict: Verdict::Passed,
+    Served {
+        answer: Ok(()),
         state: after,
     }
 }
