@@ -5,6 +5,8 @@ ghost use Rattle.std.specs.Prelude.{◌≡◌, ◌≢◌, ℕ, ◌<◌, ◌≤�
 ghost use Rattle.streams.specs.Counts.{IsPrefixLen};
 ghost use Rattle.std.specs.Io.KnownBytes.{Consumes};
 
+pub mod show;
+
 use std::io::Read;
 
 // 65,536 zeros: the call bytes that count, and room for the cases of a test program.
@@ -43,4 +45,23 @@ pub fn find(text: &[u8], from: usize, to: usize, byte: u8) -> usize
         }
     }
     to
+}
+
+// A line of a test program's cases: its name up to the colon, and what stands from there to the
+// comment. Where no colon is before the comment, the line is no case.
+pub fn case(line: &[u8]) -> Option<(&[u8], &[u8])> {
+    let end = find(line, 0, line.len(), b';');
+    let at = find(line, 0, end, b':');
+    if at == end {
+        return None;
+    }
+    Some((&line[..at + 1], &line[at + 1..end]))
+}
+
+// The number that a word says in a base.
+pub fn number(word: &[u8], base: u32) -> Option<u64>
+    requires { (2 ≤ base) × (base ≤ 36) }
+{
+    let text = str::from_utf8(word).ok()?;
+    u64::from_str_radix(text, base).ok()
 }

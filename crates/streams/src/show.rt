@@ -1,0 +1,16 @@
+// What the test programs share of showing answers.
+use std::io;
+use std::io::Write;
+
+// Bytes as they are.
+pub fn text(rt: &HostRuntime, s: &[u8]) -> io::Result<()> {
+    io::writer(rt).write_all(s)
+}
+
+// Numbers, a space before each.
+pub fn numbers(rt: &HostRuntime, xs: &[u8]) -> io::Result<()> {
+    for x in xs {
+        print!(rt; " {x}")?;
+    }
+    Ok(())
+}
