@@ -2,45 +2,17 @@
 use mathlib.Core.Path.{◌≡◌, refl, sym, ap, ap₂, ◌∙◌}
 use mathlib.Core.Bool.{Bool, true, false, not, cond}
 use mathlib.Core.List.{List, [], ◌∷◌, ◌++◌, append-nil}
-use Prim.Native.Nat.{ℕ, suc, ◌+◌, ◌<◌, ◌≤◌}
+use Prim.Native.Nat.{ℕ, ◌+◌, ◌<◌, ◌≤◌}
 use native.Mathlib.Omega.{arith}
-use lib.ListN.{length, get_or, drop, set, length-set}
-use lib.Dec.{eqb}
+use lib.ListN.{length, get_or, set, length-set}
 use borrow.Author.Tests.{eq-eqb, ne_eqb}
 use Rattle.places.specs.Places.{firsts}
 use Rattle.ledger.specs.Lists.{keep}
 use Rattle.ledger.specs.Sessions.{Session}
 use Rattle.ledger.specs.Calls.{other_than}
 use Rattle.table.specs.declared.Place.{Place}
-use Rattle.table.specs.Table.{session_of, no_place, in_places, place_of}
-use Rattle.table.proofs.Live.{in_next, in_end, in_snoc, in_set}
-
--- ---- the place of a number: none of the first i sessions has it
-module _ (number n : ℕ) (places : List Place) where
-  pub record Past (i : ℕ) : Type 0 where
-    pub within : i ≤ n
-    pub same : place_of number (in_places n places) ≡ i + place_of number (drop i (in_places n places))
-
-  pub none_past : Past 0
-  none_past = record { within = omega arith; same = omega arith }
-
-  module _ (i : ℕ) (p : Past i) where
-    module _ (h : i < n) where
-      split : place_of number (in_places n places) ≡ i + cond (eqb (get_or places i no_place).number number) 0 (suc (place_of number (drop (i + 1) (in_places n places))))
-      split = p.same ∙ ap (λ (l : List Session). i + place_of number l) (in_next n places i h)
-
-      pub here : (get_or places i no_place).number ≡ number → i ≡ place_of number (in_places n places)
-      here e = sym (split ∙ ap (λ (b : Bool). i + cond b 0 (suc (place_of number (drop (i + 1) (in_places n places))))) (eq-eqb _ _ e) ∙ omega arith)
-
-      pub not_here : ((get_or places i no_place).number ≡ number → ⊥) → Past (i + 1)
-      not_here e =
-          record {
-            within = omega arith;
-            same = split ∙ ap (λ (b : Bool). i + cond b 0 (suc (place_of number (drop (i + 1) (in_places n places))))) (ne_eqb _ _ e) ∙ omega arith;
-          }
-
-    pub nowhere : n ≤ i → i ≡ place_of number (in_places n places)
-    nowhere h = sym (p.same ∙ ap (λ (l : List Session). i + place_of number l) (in_end n places i h) ∙ omega arith)
+use Rattle.table.specs.Table.{session_of, no_place, in_places}
+use Rattle.table.proofs.Live.{in_snoc, in_set}
 
 -- ---- the table without a number: the first places have what is left of the first i sessions
 keep_snoc : {A : Type 0} (p : A → Bool) (xs : List A) (x : A) → keep p (xs ++ (x ∷ [])) ≡ keep p xs ++ cond (p x) (x ∷ []) []

@@ -1,5 +1,5 @@
 -- The sessions that a table of places stands for. Assumes nothing.
-use Rattle.std.specs.Prelude.{cond, List, [], ◌∷◌, map, ℕ, suc, eqb}
+use Rattle.std.specs.Prelude.{List, [], map, ℕ, Option, eqb, position}
 use Rattle.places.specs.Places.{firsts}
 use Rattle.ledger.specs.Held.{holding_of}
 use Rattle.ledger.specs.Sessions.{Session}
@@ -22,7 +22,6 @@ in_places n places = map session_of (firsts n places no_place)
 abbrev pub live_of : Table → List Session
 live_of t = in_places t.live t.places
 
--- the place of the session with a number, or how many sessions there are where none has it
-abbrev pub place_of : ℕ → List Session → ℕ
-place_of n [] = 0
-place_of n (s ∷ ss) = cond (eqb s.number n) 0 (suc (place_of n ss))
+-- the place of the session with a number, if some session has it
+abbrev pub place_of : ℕ → List Session → Option ℕ
+place_of n ss = position (λ s. eqb s.number n) ss

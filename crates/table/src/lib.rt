@@ -37,21 +37,13 @@ pub struct Table {
     pub places: [Place; 96],
 }
 
-// The place of the session with the number; where none has it, how many there are.
-pub fn place_of(table: Table, number: u32) -> usize
+// The place of the session with the number, if some session has it.
+pub fn place_of(table: Table, number: u32) -> Option<usize>
     requires { table.live ≤ 96 }
     ensures { result ≡ place_of number (live_of table) }
 {
-    let live = table.live;
-    let mut i: usize = 0;
-    while i < live {
-        let place = table.places[i];
-        if place.number == number {
-            return i;
-        }
-        i += 1;
-    }
-    i
+    let live = &table.places[..table.live];
+    live.iter().position(|place| place.number == number)
 }
 
 // The table with one session more, after the others.

@@ -1,11 +1,12 @@
-use Rattle.table.proofs.Tables.{here, not_here, nowhere}
+use Rattle.std.proofs.Common.{◌≤◌, length, take, eqb, ◌∙◌, rules, tests, arith}
+use Rattle.std.proofs.lemmas.Iterator.{YieldsList-from_slice}
+use Rattle.std.proofs.lemmas.Iterator.Search.{position_from_yields_List}
+use Rattle.table.specs.declared.Place.{Place}
+use Rattle.table.proofs.Looking.{stored_place}
 use Rattle.table.proofs.place_of.Goals as goal
 
-pub returns-then-place-number : goal.returns-then-place-number
-returns-then-place-number c = here _ _ _ _ c.loop-i.invariant.1 c.loop-i-test.true c.if-place-number.true
-
-pub loop-i-preserved : goal.loop-i-preserved
-loop-i-preserved c = (c.loop-i.invariant.0, not_here _ _ _ _ c.loop-i.invariant.1 c.loop-i-test.true c.if-place-number.false)
-
 pub returns : goal.returns
-returns c = nowhere _ _ _ _ c.loop-i.invariant.1 c.loop-i-test.false
+returns c =
+    let t = c.args.table in
+    let few : t.live ≤ length t.places = omega (arith, c.well_formed.0.1.1.1.0.1.0.1, c.requires) in
+    position_from_yields_List (λ (p : Place). eqb p.number c.args.number) _ _ _ c.position.ensures.ran (YieldsList-from_slice (take t.live t.places) cc) (λ x b q k. search (rules, tests)) ∙ stored_place _ _ _ few
