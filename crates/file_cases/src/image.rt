@@ -1,5 +1,4 @@
 // The buffer that images are written to. It is filled with one byte first, so that a changed byte shows.
-use super::show;
 use std::io;
 
 // More than the 387 bytes of the longest image.
@@ -14,14 +13,10 @@ pub(super) fn compare(
     from: usize,
     file: &[u8],
 ) -> io::Result<()> {
-    let mut i = from;
-    while i < ROOM {
-        let byte = if i < file.len() { file[i] } else { FILL };
-        if buffer[i] != byte {
-            show::text(rt, b"changed")?;
-            return Ok(());
-        }
-        i += 1;
+    let mut places = buffer.iter().enumerate().skip(from);
+    if places.all(|(i, byte)| byte == file.get(i).unwrap_or(&FILL)) {
+        print!(rt; "same")
+    } else {
+        print!(rt; "changed")
     }
-    show::text(rt, b"same")
 }

@@ -8,40 +8,30 @@
 mod image;
 mod lines;
 mod reading;
-mod show;
 mod values;
 
-ghost use Rattle.std.specs.Prelude.{◌<◌, length};
-
 use std::io;
+use streams::show;
 
 // A case: its name, and what becomes of its numbers.
-fn case(rt: &HostRuntime, name: &[u8], numbers: &[u8]) -> io::Result<()>
-    requires { 0 < length name.now }
-{
+fn case(rt: &HostRuntime, name: &[u8], numbers: &[u8]) -> io::Result<()> {
     show::text(rt, name)?;
-    match name[0] {
-        b'r' => reading::read(rt, numbers)?,
-        b'v' => values::value(rt, numbers)?,
+    match name.first() {
+        Some(b'r') => reading::read(rt, numbers)?,
+        Some(b'v') => values::value(rt, numbers)?,
         _ => values::least(rt, numbers)?,
     }
-    show::text(rt, b"\n")
+    println!(rt)
 }
 
 // Every line of standard input: a case has its name up to the colon, and its numbers from there to the comment.
 fn main(rt: HostRuntime) -> io::Result<()> {
     let mut buffer = streams::large_buffer();
     let n = streams::read_full(&mut rt.stdin(), &mut buffer);
-    let text = &buffer[..n];
-    let mut from = 0;
-    while from < text.len() {
-        let stop = streams::find(text, from, text.len(), b'\n');
-        let end = streams::find(text, from, stop, b';');
-        let at = streams::find(text, from, end, b':');
-        if at < end {
-            case(&rt, &text[from..at + 1], &text[at + 1..end])?;
+    for line in buffer[..n].split(|b| *b == b'\n') {
+        if let Some((name, numbers)) = streams::case(line) {
+            case(&rt, name, numbers)?;
         }
-        from = stop + 1;
     }
     Ok(())
 }

@@ -1,10 +1,9 @@
 // Networks given as values: what the checks say, and what the writer says and does.
 ghost use Rattle.std.specs.Prelude.{◌≤◌};
 
-use super::{image, lines, show};
+use super::{image, lines};
 use network::{Link, Network};
-use network_file::Written;
-use refusals::Verdict;
+use refusals::Refusal;
 use std::io;
 
 // The first bytes of an image that are shown.
@@ -12,7 +11,7 @@ const SHOWN: usize = 16;
 
 // A number of 16 bits at a place.
 fn short(text: &[u8], place: usize) -> u16 {
-    (lines::number(text, place, lines::DECIMAL) % 65536) as u16
+    (lines::number(text, place) % 65536) as u16
 }
 
 // The link whose K, Z and closed frames are the numbers from a place on.
@@ -23,38 +22,37 @@ fn link(text: &[u8], place: usize, least: u16) -> Link
         frames: short(text, place),
         range: short(text, place + 1),
         least,
-        closed: lines::number(text, place + 2, lines::DECIMAL),
+        closed: lines::number(text, place + 2),
     }
 }
 
 // The image's length, and its bytes up to the first ones.
 fn show_bytes(rt: &HostRuntime, buffer: &[u8; image::ROOM], length: usize) -> io::Result<()> {
-    show::text(rt, b" ok")?;
-    show::next(rt, length as u64)?;
-    show::text(rt, b":")?;
-    let mut i = 0;
-    while i < SHOWN {
-        if length <= i {
-            return Ok(());
-        }
-        show::byte(rt, buffer[i])?;
-        i += 1;
+    print!(rt; " ok {length}:")?;
+    for byte in buffer.iter().take(length).take(SHOWN) {
+        print!(rt; " {byte:02x}")?;
     }
-    show::text(rt, b" ..")
+    if SHOWN <= length {
+        print!(rt; " ..")?;
+    }
+    Ok(())
 }
 
 // What the writer says, and whether it left the rest of the buffer, or after a refusal all of it, as it was.
-fn show_written(rt: &HostRuntime, buffer: &[u8; image::ROOM], written: Written) -> io::Result<()> {
+fn show_written(
+    rt: &HostRuntime,
+    buffer: &[u8; image::ROOM],
+    written: Result<usize, Refusal>,
+) -> io::Result<()> {
     let from = match written {
-        Written::Refused(refusal) => {
-            show::no(rt, refusal)?;
-            show::text(rt, b", buffer ")?;
-            0
-        }
-        Written::Length(length) => {
+        Ok(length) => {
             show_bytes(rt, buffer, length)?;
-            show::text(rt, b", rest ")?;
+            print!(rt; ", rest ")?;
             length
+        }
+        Err(refusal) => {
+            print!(rt; " no {}, buffer ", u8::from(refusal))?;
+            0
         }
     };
     image::compare(rt, buffer, from, b"")
@@ -64,14 +62,12 @@ fn show_written(rt: &HostRuntime, buffer: &[u8; image::ROOM], written: Written) 
 fn check_and_write(rt: &HostRuntime, network: Network, room: usize) -> io::Result<()>
     requires { room ≤ 400 }
 {
-    show::text(rt, b" check")?;
     match network::check_network(network) {
-        Verdict::Refused(refusal) => show::no(rt, refusal)?,
-        Verdict::Passed => show::text(rt, b" passed")?,
+        Ok(()) => print!(rt; " check passed, write")?,
+        Err(refusal) => print!(rt; " check no {}, write", u8::from(refusal))?,
     }
-    show::text(rt, b", write")?;
     let mut buffer = [image::FILL; image::ROOM];
-    let written = network_file::write_network(network, &mut buffer[0..room]);
+    let written = network_file::write_network(network, &mut buffer[..room]);
     show_written(rt, &buffer, written)
 }
 
@@ -81,14 +77,10 @@ fn given(rt: &HostRuntime, text: &[u8], first: u16, others: u16) -> io::Result<(
     links[0] = link(text, 4, first);
     let network = Network {
         ticks: short(text, 1),
-        count: lines::number(text, 2, lines::DECIMAL) as usize,
+        count: lines::number(text, 2) as usize,
         links,
     };
-    check_and_write(
-        rt,
-        network,
-        (lines::number(text, 3, lines::DECIMAL) % 401) as usize,
-    )
+    check_and_write(rt, network, (lines::number(text, 3) % 401) as usize)
 }
 
 // One whose every Y is 1.
