@@ -1,10 +1,8 @@
 -- Each return of a release on a state that isn't broken. Assumes nothing.
 use mathlib.Core.Path.{◌≡◌, sym, ap, ap₂, ◌∙◌}
-use mathlib.Core.Bool.{Bool, true, false}
+use mathlib.Core.Bool.{true, false}
 use Prim.Native.Nat.{ℕ}
 use native.Mathlib.Omega.{arith}
-use lib.Dec.{ltb}
-use borrow.Author.Tests.{ltb-true, ltb-false}
 use Rattle.std.specs.Prelude.{Ok, Err}
 use Rattle.refusals.specs.Refusals.{refusal_number, refusal_count}
 use Rattle.refusals.specs.declared.Refusal.{Refusal}
@@ -14,19 +12,10 @@ use Rattle.ledger.specs.Sessions.{is_live}
 use Rattle.ledger.specs.Sound.{intact}
 use Rattle.ledger.specs.Calls.{Release, freed, refusal, granted, reply, strikes, leaves, effect, other_than}
 use Rattle.table.specs.declared.Table.{Table}
-use Rattle.table.specs.Table.{live_of, place_of}
-use Rattle.table.proofs.Live.{in_length}
-use Rattle.table.proofs.Looking.{stands_live, gone_live}
+use Rattle.table.specs.Table.{live_of}
 use Rattle.state.specs.declared.State.{State}
 use Rattle.state.specs.State.{view_of, Releases}
 use Rattle.state.proofs.Replies.{release_refuses, release_passes, refused_reply, granted_reply, refusal_leaves, stays, moves}
-
--- a number is live where its place is one of the live ones
-pub live_told : (n place : ℕ) (table : Table) → place ≡ place_of n (live_of table) → (b : Bool) → ltb place table.live ≡ b → b ≡ is_live n (live_of table)
-live_told n place table e true q =
-    sym (stands_live n (live_of table) (omega (arith, ltb-true place table.live q, e, in_length table.live table.places)))
-live_told n place table e false q =
-    sym (gone_live n (live_of table) (omega (arith, ltb-false place table.live q, e, in_length table.live table.places)))
 
 module _ (st : State) (ok : intact (view_of st) ≡ true) (n : ℕ) where
   pub release_refused : is_live n (live_of st.table) ≡ false → (r : Refusal) → refusal_number r ≡ 19 → refusal_count r ≡ 0

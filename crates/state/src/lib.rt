@@ -119,7 +119,7 @@ fn is_live(table: Table, number: u32) -> bool
     requires { table.live ≤ 96 }
     ensures { result ≡ is_live number (live_of table) }
 {
-    table::place_of(table, number) < table.live
+    table::place_of(table, number).is_some()
 }
 
 // Whether check 17 refuses so many live sessions.

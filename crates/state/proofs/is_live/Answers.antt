@@ -1,7 +1,9 @@
 -- `state::is_live` meets its contract. Assumes nothing.
-use mathlib.Core.Path.{refl}
-use Rattle.state.proofs.Releases.{live_told}
+use mathlib.Core.Path.{ap, ◌∙◌}
+use Rattle.std.specs.Option.{is_some}
+use Rattle.table.specs.Table.{live_of}
+use Rattle.table.proofs.Looking.{placed_live}
 use Rattle.state.proofs.is_live.Goals as goal
 
 pub returns : goal.returns
-returns c = live_told _ _ c.args.table c.place_of.ensures _ refl
+returns c = c.is_some.ensures ∙ ap is_some c.place_of.ensures ∙ placed_live c.args.number (live_of c.args.table)
