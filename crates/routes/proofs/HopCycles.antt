@@ -1,13 +1,14 @@
 -- The cycles of a schedule, one hop after the other. Assumes nothing.
-use mathlib.Core.Path.{◌≡◌, refl, sym, ap, ◌∙◌}
+use mathlib.Core.Path.{◌≡◌, refl, sym, ap, subst, ◌∙◌}
 use mathlib.Core.List.{List, [], ◌∷◌, ◌++◌, append-nil, append_assoc}
-use Prim.Native.Nat.{ℕ, ◌+◌, ◌<◌, ◌≤◌}
+use Prim.Native.Nat.{ℕ, ◌+◌, ◌-◌, ◌<◌, ◌≤◌}
 use native.Mathlib.Omega.{arith}
 use lib.ListN.{length, get_or, drop, set, replicate, length-append}
+use lib.Seq.{get_or-set_same}
 use Rattle.places.specs.Places.{firsts}
 use Rattle.places.proofs.Firsts.{length_firsts, get_d_firsts, next_first, no_first, firsts_more}
 use Rattle.forwarding.specs.declared.Hop.{Hop}
-use Rattle.forwarding.specs.Forwarding.{Spot, least_hold}
+use Rattle.forwarding.specs.Forwarding.{Spot}
 use Rattle.forwarding.specs.Hops.{no_hop, Ready}
 use Rattle.forwarding.specs.Schedule.{frames_of, IsSchedule}
 use Rattle.forwarding.specs.Cycles.{next_cycle, onward_cycles, schedule_cycles}
@@ -16,44 +17,42 @@ use Rattle.forwarding.proofs.Schedules.{schedule_frame}
 use Rattle.forwarding.proofs.Cycles.{next_or_same}
 use Rattle.routes.specs.Inner.{FramesLaid}
 
--- the cycles of the hops before j are stored; hop j - 1 is g, with frame k in cycle c
-pub record CyclesSoFar (n : ℕ) (hops : List Hop) (frames : List ℕ) (k : ℕ) (g : Hop) (cycles : List ℕ) (c j : ℕ) : Type 0 where
-  pub inside : k < g.frames
-  pub few : g.frames ≤ 64
-  pub small : c < j
+-- the cycles of the hops before j are stored, the last of them that of hop i
+pub record CyclesSoFar (n : ℕ) (hops : List Hop) (frames cycles : List ℕ) (i j : ℕ) : Type 0 where
+  pub next : i + 1 ≡ j
+  pub small : get_or cycles i 0 < j
   pub done : List ℕ
   pub many : length done ≡ j
   pub stored : cycles ≡ firsts 8 done 0
-  pub same : schedule_cycles (firsts n hops no_hop) (firsts n frames 0) ≡ done ++ onward_cycles g k c (drop j (firsts n hops no_hop)) (drop j (firsts n frames 0))
+  pub same : schedule_cycles (firsts n hops no_hop) (firsts n frames 0)
+      ≡ done ++ onward_cycles (get_or hops i no_hop) (get_or frames i 0) (get_or cycles i 0) (drop j (firsts n hops no_hop)) (drop j (firsts n frames 0))
 
 module _ (n : ℕ) (hops : List Hop) (frames : List ℕ) (r : FramesLaid hops frames n) where
-  pub first_cycle : (k : ℕ) → k ≡ get_or frames 0 0 → CyclesSoFar n hops frames k (get_or hops 0 no_hop) (replicate 8 0) 0 1
+  pub first_cycle : CyclesSoFar n hops frames (replicate 8 0) 0 1
   unfolding firsts
-  first_cycle k ek = record {
-    inside = rw ek (r.inside 0 r.some_hop);
-    few = r.few_frames 0 r.some_hop;
+  first_cycle = record {
+    next = refl;
     small = omega arith;
     done = 0 ∷ [];
     many = refl;
     stored = refl;
-    same = rw (next_first n 0 hops no_hop r.some_hop, next_first n 0 frames 0 r.some_hop, ← ek);
+    same = rw (next_first n 0 hops no_hop r.some_hop, next_first n 0 frames 0 r.some_hop);
   }
 
-  module _ (k : ℕ) (g : Hop) (cycles : List ℕ) (c j : ℕ) (p : CyclesSoFar n hops frames k g cycles c j) where
-    module _ (h : j < n) (i : ℕ) (ei : i ≡ get_or frames j 0) where
-      pub frame_in_hop : (i < (get_or hops j no_hop).frames) × ((get_or hops j no_hop).frames ≤ 64) × (least_hold (get_or hops j no_hop) ≤ (get_or hops j no_hop).frames) × (c < 8)
-      frame_in_hop = (rw ei (r.inside j h), r.few_frames j h, r.led j h, omega (arith, p.small, r.few_hops))
+  module _ (cycles : List ℕ) (i j : ℕ) (p : CyclesSoFar n hops frames cycles i j) where
+    module _ (h : j < n) (k : ℕ) (ek : k ≡ get_or frames i 0) (m : ℕ) (em : m ≡ get_or frames j 0) (d : ℕ) (ed : d ≡ next_cycle (get_or hops i no_hop) (get_or hops j no_hop) k m (get_or cycles i 0)) where
+      last : get_or (set cycles j d) j 0 ≡ d
+      last = get_or-set_same cycles j d 0 (omega (arith, ap length p.stored, length_firsts 8 p.done 0, r.few_hops))
 
-      pub one_cycle : (d : ℕ) → d ≡ next_cycle g (get_or hops j no_hop) k i c → CyclesSoFar n hops frames i (get_or hops j no_hop) (set cycles j d) d (j + 1)
-      one_cycle d ed = record {
-        inside = frame_in_hop.0;
-        few = r.few_frames j h;
-        small = omega (arith, ed, p.small, (next_or_same g (get_or hops j no_hop) k i c).1);
+      pub one_cycle : CyclesSoFar n hops frames (set cycles j d) (j + 1 - 1) (j + 1)
+      one_cycle = subst (λ (x : ℕ). CyclesSoFar n hops frames (set cycles j d) x (j + 1)) {x = j} {y = j + 1 - 1} (omega arith) (record {
+        next = refl;
+        small = rw last (omega (arith, ed, p.small, (next_or_same (get_or hops i no_hop) (get_or hops j no_hop) k m (get_or cycles i 0)).1));
         done = p.done ++ (d ∷ []);
         many = omega (arith, length-append p.done (d ∷ []), p.many);
         stored = ap (λ (l : List ℕ). set l j d) p.stored ∙ firsts_more 8 j p.done d 0 p.many (omega (arith, r.few_hops));
-        same = p.same ∙ rw (next_first n j hops no_hop h, next_first n j frames 0 h, ← ei, ← ed) (sym (append_assoc p.done (d ∷ []) _));
-      }
+        same = p.same ∙ rw (next_first n j hops no_hop h, next_first n j frames 0 h, ← ek, ← em, ← ed, last) (sym (append_assoc p.done (d ∷ []) _));
+      })
 
     pub all_cycles : n ≤ j → cycles ≡ firsts 8 (schedule_cycles (firsts n hops no_hop) (firsts n frames 0)) 0
     all_cycles h = p.stored ∙ ap (λ (l : List ℕ). firsts 8 l 0) (sym (p.same ∙ rw (no_first n j hops no_hop h, append-nil p.done)))

@@ -40,58 +40,40 @@ use Rattle.routes.proofs.Links.{link_passed, many_links, stored_link, in_places_
 use Rattle.routes.proofs.Routes.{route_long, route_known}
 
 -- ---- the words of the colours before c are stored
-pub record Filled (k : Link) (l : ℕ) (held : List ℕ) (colours : ℕ) (free : List ℕ) (c : ℕ) : Type 0 where
-  pub many : colours ≡ link_colours k
-  pub within : c ≤ colours
-  pub stored : free ≡ by_colour c (free_in k l held)
+pub colour_in : (k : Link) (c n : ℕ) → n ≡ link_colours k → c < n → c < most_colours
+colour_in k c n e h = omega (arith, few_colours k)
 
-module _ (k : Link) (l : ℕ) (held : List ℕ) (colours : ℕ) where
-  pub none_filled : colours ≡ link_colours k → Filled k l held colours (replicate most_colours 0) 0
+module _ (k : Link) (l : ℕ) (held : List ℕ) where
+  pub none_filled : replicate most_colours 0 ≡ by_colour 0 (free_in k l held)
   unfolding by_colour
-  none_filled e = record { many = e; within = omega arith; stored = refl }
+  none_filled = refl
 
-  module _ (free : List ℕ) (c : ℕ) (p : Filled k l held colours free c) where
-    pub colour_in : c < colours → c < most_colours
-    colour_in h = omega (arith, h, p.many, few_colours k)
+  pub one_filled : (free : List ℕ) (c : ℕ) → free ≡ by_colour c (free_in k l held) → c < most_colours → (at w : ℕ) → at ≡ bank_at l c → w ≡ free_word k.frames k.closed (get_or held at 0) → set free c w ≡ by_colour (c + 1) (free_in k l held)
+  one_filled free c p h at w ea e = rw p (colour_more (free_in k l held) c w h (e ∙ rw ea))
 
-    pub one_filled : c < colours → (at w : ℕ) → at ≡ bank_at l c → w ≡ free_word k.frames k.closed (get_or held at 0) → Filled k l held colours (set free c w) (c + 1)
-    one_filled h at w ea e =
-        record {
-          many = p.many;
-          within = omega arith;
-          stored = rw p.stored (colour_more (free_in k l held) c w (colour_in h) (e ∙ rw ea));
-        }
-
-    pub all_filled : colours ≤ c → free ≡ free_from k l held
-    all_filled h = p.stored ∙ ap (λ (n : ℕ). by_colour n (free_in k l held)) {x = c} {y = link_colours k} (omega (arith, h, p.within, p.many))
+  pub all_filled : (free : List ℕ) (c n : ℕ) → free ≡ by_colour c (free_in k l held) → n ≡ link_colours k → c ≤ n → n ≤ c → free ≡ free_from k l held
+  all_filled free c n p e h g = p ∙ ap (λ (m : ℕ). by_colour m (free_in k l held)) {x = c} {y = link_colours k} (omega arith)
 
 pub hop_told : (k : Link) (l : ℕ) (held free : List ℕ) (C R : ℕ) → free ≡ free_from k l held → C ≡ link_colours k → R ≡ link_turn k
     → ◌≡◌ {A = Hop} (record { frames = k.frames; range = k.range; least = k.least; colours = C; turn = R; free = free }) (hop_from k l held)
 hop_told k l held free C R e eC eR = rw (e, eC, eR)
 
 -- ---- the hops before place j are laid
-pub record Laid (links : List Link) (held route : List ℕ) (hops : List Hop) (j : ℕ) : Type 0 where
-  pub within : j ≤ length route
-  pub laid : hops ≡ firsts 8 (hops_from links held (take j route)) blank_hop
-
 module _ (links : List Link) (held route : List ℕ) where
-  pub none_laid : (none : Hop) → none ≡ blank_hop → Laid links held route (replicate 8 none) 0
-  none_laid none e = record { within = omega arith; laid = rw e (firsts_filled 8 [] blank_hop (omega arith)) }
+  pub none_laid : (none : Hop) → none ≡ blank_hop → replicate 8 none ≡ firsts 8 (hops_from links held (take 0 route)) blank_hop
+  none_laid none e = rw e (firsts_filled 8 [] blank_hop (omega arith))
 
-  module _ (hops : List Hop) (j : ℕ) (p : Laid links held route hops j) where
-    pub one_laid : j < length route → length route ≤ 8 → (k : Link) (hop : Hop) → k ≡ get_or links (get_or route j 0) no_link → hop ≡ hop_from k (get_or route j 0) held → Laid links held route (set hops j hop) (j + 1)
-    one_laid h few k hop ek e =
-        let f : ℕ → Hop = λ l. hop_from (get_or links l no_link) l held in
-        let n : length (map f (take j route)) ≡ j = length-map (take j route) f ∙ length-take-le j route p.within in
-        let t : take (j + 1) route ≡ take j route ++ (get_or route j 0 ∷ []) = rw add-one (take-suc route j 0 h) in
-        let o : hop ≡ f (get_or route j 0) = rw (e, ek) in
-        record {
-          within = omega arith;
-          laid = rw (p.laid, t, map-append, o) (firsts_more 8 j (map f (take j route)) (f (get_or route j 0)) blank_hop n (omega arith));
-        }
+  pub one_laid : (hops : List Hop) (j : ℕ) → hops ≡ firsts 8 (hops_from links held (take j route)) blank_hop → j < length route → length route ≤ 8 → (k : Link) (hop : Hop) → k ≡ get_or links (get_or route j 0) no_link
+      → hop ≡ hop_from k (get_or route j 0) held → set hops j hop ≡ firsts 8 (hops_from links held (take (j + 1) route)) blank_hop
+  one_laid hops j p h few k hop ek e =
+      let f : ℕ → Hop = λ l. hop_from (get_or links l no_link) l held in
+      let n : length (map f (take j route)) ≡ j = length-map (take j route) f ∙ length-take-le j route (omega arith) in
+      let t : take (j + 1) route ≡ take j route ++ (get_or route j 0 ∷ []) = rw add-one (take-suc route j 0 h) in
+      let o : hop ≡ f (get_or route j 0) = rw (e, ek) in
+      rw (p, t, map-append, o) (firsts_more 8 j (map f (take j route)) (f (get_or route j 0)) blank_hop n (omega arith))
 
-    pub all_laid : length route ≤ j → hops ≡ firsts 8 (hops_from links held route) blank_hop
-    all_laid h = p.laid ∙ rw (take_all j route h)
+  pub all_laid : (hops : List Hop) (j : ℕ) → hops ≡ firsts 8 (hops_from links held (take j route)) blank_hop → length route ≤ j → hops ≡ firsts 8 (hops_from links held route) blank_hop
+  all_laid hops j p h = p ∙ rw (take_all j route h)
 
 -- ---- the words of held frames say the same as the sessions
 -- of the word of held frames only the bits below K count

@@ -5,17 +5,18 @@ use mathlib.Core.List.{List, ◌∷◌}
 use Prim.Native.Nat.{ℕ, ◌+◌, ◌-◌, ◌<◌, ◌≤◌}
 use native.Mathlib.Decide.{dec_lt}
 use native.Mathlib.Omega.{arith}
+use lib.Dec.{leb}
 use lib.ListN.{length, get_or, drop, drop_of_length-le}
+use Rattle.std.specs.List.{list_any}
 use Rattle.refusals.specs.Refusals.{Ruling, given, refused, pass, refuse_if, refused_or}
 use Rattle.refusals.proofs.Refusals.{past}
 use Rattle.network.specs.declared.Link.{Link}
 use Rattle.network.specs.declared.Network.{Network}
 use Rattle.network.specs.Network.{Topology, no_link, topology_of}
-use Rattle.ledger.specs.Lists.{any_of}
 use Rattle.ledger.specs.Sessions.{link_at}
 use Rattle.ledger.specs.Routes.{bad_length, unknown, unknown_link, link_twice, apart, rates_apart, rates_of, route_check}
-use Rattle.routes.proofs.Tests.{length_passed}
-use Rattle.routes.proofs.Sought.{next_place}
+use Rattle.routes.proofs.Tests.{unknown_told, length_passed}
+use Rattle.routes.proofs.Sought.{any_same, next_place}
 use Rattle.routes.proofs.Links.{route_link, many_links, known_place, stored_frames}
 
 -- ---- check 15: of the links before place j, none is apart from the next
@@ -64,18 +65,18 @@ module _ (network : Network) (route : List ℕ) (b : Bool) (eb : b ≡ bad_lengt
   unfolding route_check
   length_refused h = rw (← eb, h)
 
-  module _ (h : b ≡ false) (d : Bool) (ed : d ≡ any_of (unknown network.count) route) where
-    unknown_told : d ≡ unknown_link (topology_of network) route
+  module _ (h : b ≡ false) (d : Bool) (ed : d ≡ list_any (λ l. leb network.count l) route) where
+    link_told : d ≡ unknown_link (topology_of network) route
     unfolding unknown_link
-    unknown_told = rw (many_links network) ed
+    link_told = rw (many_links network) (ed ∙ any_same (λ l. leb network.count l) (unknown network.count) (unknown_told network.count) route)
 
     pub unknown_refused : d ≡ true → ◌≡◌ {A = Ruling} (refused 13) (route_check (topology_of network) route)
     unfolding route_check
-    unknown_refused g = rw (← eb, h, ← unknown_told, g)
+    unknown_refused g = rw (← eb, h, ← link_told, g)
 
     module _ (g : d ≡ false) (f : Bool) (ef : f ≡ link_twice route) where
       pub all_known : unknown_link (topology_of network) route ≡ false
-      all_known = sym unknown_told ∙ g
+      all_known = sym link_told ∙ g
 
       pub twice_refused : f ≡ true → ◌≡◌ {A = Ruling} (refused 14) (route_check (topology_of network) route)
       unfolding route_check

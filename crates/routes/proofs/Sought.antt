@@ -1,14 +1,18 @@
--- A test of a list place by place: a loop has passed the places before j, and those from j on are left. Assumes nothing.
-use mathlib.Core.Path.{◌≡◌, sym, ◌∙◌}
+-- A test of a list: in the words of the checks, and place by place where a loop has passed the places before j. Assumes nothing.
+use mathlib.Core.Path.{◌≡◌, refl, sym, ◌∙◌}
 use mathlib.Core.Bool.{Bool, true, false}
 use mathlib.Core.List.{List, [], ◌∷◌}
-use Prim.Native.Nat.{ℕ, zero, suc, ◌+◌, ◌<◌, ◌≤◌}
+use Prim.Native.Nat.{ℕ, zero, suc, ◌+◌, ◌-◌, ◌<◌, ◌≤◌}
 use native.Mathlib.Nat.{not-suc-le-zero, le_of_suc-le-suc}
 use native.Mathlib.Numerals.{add-one}
-use lib.ListN.{length, get_or, drop, drop_of_length-le}
+use lib.Dec.{eqb}
+use lib.ListN.{length, get_or, take, drop, drop_of_length-le}
 use lib.Seq.{drop-cons}
+use Rattle.std.specs.List.{list_any}
+use Rattle.places.proofs.Parts.{part_rest}
 use Rattle.lists.proofs.Count.{or_neither}
 use Rattle.ledger.specs.Lists.{any_of, any_two}
+use Rattle.ledger.proofs.Lists.{eqb_flip}
 
 module _ {A : Type 0} where
   -- place j and the rest
@@ -21,19 +25,16 @@ module _ {A : Type 0} where
   no_place_lem p (x ∷ l) zero d e h = (or_neither (p x) (any_of p l) e).0
   no_place_lem p (x ∷ l) (suc j) d e h = no_place_lem p l j d (or_neither (p x) (any_of p l) e).1 (le_of_suc-le-suc h)
 
+-- a test by the code is one of the checks'
+pub any_same : {A : Type 0} (p q : A → Bool) → ((x : A) → p x ≡ q x) → (l : List A) → list_any p l ≡ any_of q l
+any_same p q e [] = refl
+any_same p q e (x ∷ l) = rw (e x, any_same p q e l)
+
+-- whether a link stands from a place on
+pub stands_from : (l : List ℕ) (a x : ℕ) → list_any (λ y. eqb y x) (take (length l - a) (drop a l)) ≡ any_of (eqb x) (drop a l)
+stands_from l a x = rw part_rest (any_same (λ y. eqb y x) (eqb x) (λ y. eqb_flip y x) (drop a l))
+
 module _ {A : Type 0} (d : A) (l : List A) where
-  -- some place passes
-  module _ (p : A → Bool) (from j : ℕ) (same : any_of p (drop from l) ≡ any_of p (drop j l)) where
-    module _ (h : j < length l) where
-      pub here : p (get_or l j d) ≡ true → true ≡ any_of p (drop from l)
-      here e = sym (same ∙ rw (next_place l j d h, e))
-
-      pub not_here : p (get_or l j d) ≡ false → any_of p (drop from l) ≡ any_of p (drop (j + 1) l)
-      not_here e = same ∙ rw (next_place l j d h, e)
-
-    pub nowhere : length l ≤ j → false ≡ any_of p (drop from l)
-    nowhere h = sym (same ∙ rw (drop_of_length-le l h))
-
   -- some place and a later one pass together
   module _ (r : A → A → Bool) (j : ℕ) (same : any_two r l ≡ any_two r (drop j l)) where
     module _ (h : j < length l) (b : Bool) (eb : b ≡ any_of (r (get_or l j d)) (drop (j + 1) l)) where

@@ -3,36 +3,38 @@ use mathlib.Core.Path.{◌≡◌, refl, sym, ◌∙◌}
 use mathlib.Core.Bool.{Bool, true, false, cond, ◌&&◌}
 use mathlib.Core.Option.{some, none}
 use Prim.Native.Nat.{ℕ, ◌+◌, ◌*◌, ◌<◌, ◌≤◌}
+use native.Mathlib.Decide.{dec_lt}
 use native.Mathlib.Omega.{arith}
 use lib.Dec.{leb, ltb}
 use lib.ListN.{get_or}
 use borrow.Author.Tests.{lt-ltb, le-ltb, ltb-true, le-leb, lt-leb}
+use Rattle.std.specs.Int.{abs_diff}
 use Rattle.lists.proofs.Count.{and_both}
 use Rattle.words.specs.Word.{bit_of}
 use Rattle.forwarding.specs.declared.Hop.{Hop}
-use Rattle.forwarding.specs.Forwarding.{is_free, may_turn, may_hold, hold_into, frame_time, delay, IsDelay}
+use Rattle.forwarding.specs.Forwarding.{Spot, is_free, may_turn, may_hold, hold_into, frame_time, delay, IsDelay}
 use Rattle.forwarding.specs.Hops.{HopReady}
 use Rattle.forwarding.specs.Schedule.{is_on}
 use Rattle.forwarding.proofs.Transitions.{delay_frames, delay_le, hold_may}
-use Rattle.routes.specs.Inner.{spot, step_if}
+use Rattle.routes.specs.Inner.{step_if}
 
--- ---- a frame of a hop that is free in a colour of it
-module _ (h : Hop) (i c : ℕ) where
-  pub no_frame : h.frames ≤ i → false ≡ (is_on h (spot i c) && is_free h (spot i c))
-  no_frame l = rw (le-ltb i h.frames l)
+-- ---- a spot that is on a hop and free
+module _ (h : Hop) (x : Spot) where
+  pub no_frame : h.frames ≤ x.frame → false ≡ (is_on h x && is_free h x)
+  no_frame l = rw (le-ltb x.frame h.frames l)
 
-  pub no_colour : i < h.frames → h.colours ≤ c → false ≡ (is_on h (spot i c) && is_free h (spot i c))
-  no_colour m l = rw (lt-ltb i h.frames m, le-ltb c h.colours l)
+  pub no_colour : x.frame < h.frames → h.colours ≤ x.colour → false ≡ (is_on h x && is_free h x)
+  no_colour m l = rw (lt-ltb x.frame h.frames m, le-ltb x.colour h.colours l)
 
-  pub a_frame : i < h.frames → c < h.colours → (b : Bool) → b ≡ bit_of (get_or h.free c 0) i → b ≡ (is_on h (spot i c) && is_free h (spot i c))
+  pub a_frame : x.frame < h.frames → x.colour < h.colours → (b : Bool) → b ≡ bit_of (get_or h.free x.colour 0) x.frame → b ≡ (is_on h x && is_free h x)
   unfolding is_free
-  a_frame l m b e = rw (lt-ltb i h.frames l, lt-ltb c h.colours m) e
+  a_frame l m b e = rw (lt-ltb x.frame h.frames l, lt-ltb x.colour h.colours m) e
 
-  pub frame_in : (b : Bool) → b ≡ (is_on h (spot i c) && is_free h (spot i c)) → b ≡ true → (i < h.frames) × (c < h.colours)
-  frame_in b e g =
-      let a = and_both (is_on h (spot i c)) (is_free h (spot i c)) (sym e ∙ g) in
-      let o = and_both (ltb i h.frames) (ltb c h.colours) a.0 in
-      (ltb-true i h.frames o.0, ltb-true c h.colours o.1)
+  pub spot_in : (b : Bool) → b ≡ (is_on h x && is_free h x) → b ≡ true → (x.frame < h.frames) × (x.colour < h.colours)
+  spot_in b e g =
+      let a = and_both (is_on h x) (is_free h x) (sym e ∙ g) in
+      let o = and_both (ltb x.frame h.frames) (ltb x.colour h.colours) a.0 in
+      (ltb-true x.frame h.frames o.0, ltb-true x.colour h.colours o.1)
 
 -- ---- one transition
 -- no hold within the range lasts longer than a cycle
@@ -51,32 +53,36 @@ later_test true false false true = refl
 later_test true false false false = refl
 later_test false m t f = refl
 
-module _ (T : ℕ) (g h : Hop) (k c i d : ℕ) (b : Bool) (eb : b ≡ (is_on h (spot i d) && is_free h (spot i d))) where
-  by_hold : step_if T g h (spot k c) (spot i d) ≡ cond ((b && may_turn h c d) && may_hold h (hold_into g h k i)) (some (delay T h.frames (hold_into g h k i))) none
+module _ (T : ℕ) (g h : Hop) (x y : Spot) (b : Bool) (eb : b ≡ (is_on h y && is_free h y)) where
+  by_hold : step_if T g h x y ≡ cond ((b && may_turn h x.colour y.colour) && may_hold h (hold_into g h x.frame y.frame)) (some (delay T h.frames (hold_into g h x.frame y.frame))) none
   unfolding step_if
-  by_hold = rw (later_test (is_on h (spot i d)) (may_hold h (hold_into g h k i)) (may_turn h c d) (is_free h (spot i d)), ← eb)
+  by_hold = rw (later_test (is_on h y) (may_hold h (hold_into g h x.frame y.frame)) (may_turn h x.colour y.colour) (is_free h y), ← eb)
 
-  pub not_free : b ≡ false → none ≡ step_if T g h (spot k c) (spot i d)
+  pub not_free : b ≡ false → none ≡ step_if T g h x y
   not_free f = sym (by_hold ∙ rw f)
 
-  module _ (f : b ≡ true) (u : Bool) (eu : u ≡ may_turn h c d) where
-    pub not_near : u ≡ false → none ≡ step_if T g h (spot k c) (spot i d)
+  module _ (f : b ≡ true) (u : Bool) (eu : u ≡ may_turn h x.colour y.colour) where
+    pub not_near : u ≡ false → none ≡ step_if T g h x y
     not_near n = sym (by_hold ∙ rw (f, ← eu, n))
 
-    module _ (near : u ≡ true) (D : ℕ) (eD : D ≡ hold_into g h k i) where
-      pub over_range : h.range < D → none ≡ step_if T g h (spot k c) (spot i d)
+    module _ (near : u ≡ true) (D : ℕ) (eD : D ≡ hold_into g h x.frame y.frame) where
+      pub over_range : h.range < D → none ≡ step_if T g h x y
       unfolding may_hold
       over_range l = sym (by_hold ∙ rw (f, ← eu, near, ← eD, lt-leb D h.range l))
 
-      pub step_delay : HopReady T h → D ≤ h.range → (time : ℕ) → time ≡ frame_time T h.frames → (w : ℕ) → IsDelay D time w → some w ≡ step_if T g h (spot k c) (spot i d)
+      pub step_delay : HopReady T h → D ≤ h.range → (time : ℕ) → time ≡ frame_time T h.frames → (w : ℕ) → IsDelay D time w → some w ≡ step_if T g h x y
       step_delay p l time et w q =
           sym (by_hold ∙ rw (f, ← eu, near, ← eD, hold_may h D l, q.ruled T h.frames p.some_frame p.divides et))
 
 -- ---- colours that may follow each other
-pub near_above : (h : Hop) (c d : ℕ) → c ≤ d + h.turn → leb d (c + h.turn) ≡ may_turn h c d
+pub turn_told : (h : Hop) (c d : ℕ) → leb (abs_diff c d) h.turn ≡ may_turn h c d
 unfolding may_turn
-near_above h c d l = rw (le-leb c (d + h.turn) l) refl
-
-pub not_above : (h : Hop) (c d : ℕ) → d + h.turn < c → leb c (d + h.turn) ≡ may_turn h c d
-unfolding may_turn
-not_above h c d l = rw (lt-leb c (d + h.turn) l) refl
+turn_told h c d = elim (dec_lt (d + h.turn) c) [
+  | yes l ↦ let m : h.turn < abs_diff c d = omega arith in rw (lt-leb c (d + h.turn) l, lt-leb (abs_diff c d) h.turn m)
+  | no m ↦ let below : c ≤ d + h.turn = omega arith in elim (dec_lt (c + h.turn) d) [
+    | yes l ↦ let n : h.turn < abs_diff c d = omega arith in rw (le-leb c (d + h.turn) below, lt-leb d (c + h.turn) l, lt-leb (abs_diff c d) h.turn n)
+    | no n ↦ let near : d ≤ c + h.turn = omega arith in
+        let o : abs_diff c d ≤ h.turn = omega arith in
+        rw (le-leb c (d + h.turn) below, le-leb d (c + h.turn) near, le-leb (abs_diff c d) h.turn o)
+  ]
+]

@@ -2,9 +2,10 @@
 use mathlib.Core.Path.{◌≡◌}
 use mathlib.Core.Bool.{true, false, not}
 use Prim.Native.Nat.{ℕ, ◌%◌, ◌<◌, ◌≤◌}
+use native.Mathlib.Decide.{dec_lt}
 use native.Mathlib.Omega.{arith}
-use lib.Dec.{eqb, ltb}
-use borrow.Author.Tests.{lt-ltb, le-ltb, eq-eqb, ne_eqb, ltb-true, ltb-false, eqb-false, not-false}
+use lib.Dec.{eqb, ltb, leb}
+use borrow.Author.Tests.{lt-leb, le-leb, lt-ltb, le-ltb, eq-eqb, ne_eqb, ltb-true, ltb-false, eqb-false, not-false}
 use Rattle.lists.proofs.Count.{or_neither}
 use Rattle.ledger.specs.Routes.{bad_length, unknown, apart}
 
@@ -24,6 +25,14 @@ module _ (count l w : ℕ) (e : w ≡ l) where
   pub known : w < count → unknown count l ≡ false
   unfolding unknown
   known h = rw (← e, lt-ltb w count h)
+
+-- the code's test
+pub unknown_told : (count l : ℕ) → leb count l ≡ unknown count l
+unfolding unknown
+unknown_told count l = elim (dec_lt l count) [
+  | yes h ↦ rw (lt-leb count l h, lt-ltb l count h)
+  | no h ↦ let g : count ≤ l = omega arith in rw (le-leb count l g, le-ltb l count g)
+]
 
 module _ (K K' : ℕ) where
   pub no_multiple : (K % K' ≡ 0 → ⊥) → not (eqb (K' % K) 0) ≡ apart K K'

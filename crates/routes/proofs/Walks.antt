@@ -1,9 +1,9 @@
 -- Frames over the hops of a route, one transition after the other. Assumes nothing.
-use mathlib.Core.Path.{◌≡◌, refl, sym, ap, ap₂, ◌∙◌}
+use mathlib.Core.Path.{◌≡◌, refl, sym, ap, ap₂, subst, ◌∙◌}
 use mathlib.Core.Bool.{Bool, true, false, cond, ◌&&◌, and_assoc}
 use mathlib.Core.List.{List, ◌∷◌}
 use mathlib.Core.Option.{Option, some, none}
-use Prim.Native.Nat.{ℕ, ◌+◌, ◌*◌, ◌<◌, ◌≤◌}
+use Prim.Native.Nat.{ℕ, ◌+◌, ◌-◌, ◌*◌, ◌<◌, ◌≤◌}
 use native.Mathlib.Nat.{zero-add, add-zero, add_assoc}
 use native.Mathlib.Omega.{arith}
 use lib.Dec.{ltb}
@@ -20,8 +20,9 @@ use Rattle.forwarding.specs.Hops.{no_hop, Ready}
 use Rattle.forwarding.specs.Schedule.{in_colours, is_on, goes_on, onward_delay}
 use Rattle.forwarding.proofs.Transitions.{allowed_cap}
 use Rattle.routes.specs.Hops.{delay_if, walked_delay}
-use Rattle.routes.specs.Inner.{spot, step_if}
-use Rattle.routes.proofs.Steps.{frame_in}
+use Rattle.routes.specs.declared.Spot as declared
+use Rattle.routes.specs.Inner.{spot_of, IsAt, step_if}
+use Rattle.routes.proofs.Steps.{spot_in}
 
 -- ---- transitions one after the other: from x on the hop g on, after a delay of c
 pub delay_on : ℕ → Hop → Spot → ℕ → List Hop → List Spot → Option ℕ
@@ -69,80 +70,84 @@ module _ (T : ℕ) (g h : Hop) (x y : Spot) where
     unfolding delay_on
     go_on d e = let t = step_told d e in next_frame ∙ rw (t.0, ← t.1, add_assoc c d)
 
--- ---- the frames before hop j are a schedule so far, the last of them frame k of the hop g in colour s
-pub record Along (T n : ℕ) (hops : List Hop) (frames colours : List ℕ) (k s : ℕ) (g : Hop) (c j : ℕ) : Type 0 where
-  pub inside : k < g.frames
-  pub few : g.frames ≤ 64
-  pub tinted : s ≤ 4
+-- ---- the frames before hop j are a schedule so far, the last of them on hop i
+pub record Along (T n : ℕ) (hops : List Hop) (frames colours : List ℕ) (c i j : ℕ) : Type 0 where
+  pub next : i + 1 ≡ j
+  pub inside : get_or frames i 0 < (get_or hops i no_hop).frames
   pub small : c + 960 ≤ 960 * j
   pub same : delay_if T (firsts n hops no_hop) (in_colours (firsts n frames 0) (firsts n colours 0))
-      ≡ delay_on T g (spot k s) c (drop j (firsts n hops no_hop)) (in_colours (drop j (firsts n frames 0)) (drop j (firsts n colours 0)))
+      ≡ delay_on T (get_or hops i no_hop) (record { frame = get_or frames i 0; colour = get_or colours i 0 }) c (drop j (firsts n hops no_hop)) (in_colours (drop j (firsts n frames 0)) (drop j (firsts n colours 0)))
 
 module _ (T n : ℕ) (hops : List Hop) (frames colours : List ℕ) (r : Ready T hops n) where
   abbrev whole : Option ℕ
   whole = delay_if T (firsts n hops no_hop) (in_colours (firsts n frames 0) (firsts n colours 0))
 
-  module _ (k : ℕ) (ek : k ≡ get_or frames 0 0) (s : ℕ) (es : s ≡ get_or colours 0 0) (b : Bool)
-      (eb : b ≡ (is_on (get_or hops 0 no_hop) (spot k s) && is_free (get_or hops 0 no_hop) (spot k s))) where
-    begins : whole ≡ cond b (delay_on T (get_or hops 0 no_hop) (spot k s) 0 (drop 1 (firsts n hops no_hop)) (in_colours (drop 1 (firsts n frames 0)) (drop 1 (firsts n colours 0)))) none
+  -- the spot at a place
+  abbrev at : ℕ → Spot
+  at j = record { frame = get_or frames j 0; colour = get_or colours j 0 }
+
+  is_at : (j : ℕ) (x : declared.Spot) → IsAt frames colours j x → spot_of x ≡ at j
+  is_at j x e = rw (e.frame, e.colour)
+
+  module _ (x : declared.Spot) (ex : IsAt frames colours 0 x) (b : Bool) (eb : b ≡ (is_on (get_or hops 0 no_hop) (spot_of x) && is_free (get_or hops 0 no_hop) (spot_of x))) where
+    free : b ≡ (is_on (get_or hops 0 no_hop) (at 0) && is_free (get_or hops 0 no_hop) (at 0))
+    free = eb ∙ ap (λ (y : Spot). is_on (get_or hops 0 no_hop) y && is_free (get_or hops 0 no_hop) y) (is_at 0 x ex)
+
+    begins : whole ≡ cond b (delay_on T (get_or hops 0 no_hop) (at 0) 0 (drop 1 (firsts n hops no_hop)) (in_colours (drop 1 (firsts n frames 0)) (drop 1 (firsts n colours 0)))) none
     begins =
-        let f : firsts n frames 0 ≡ k ∷ drop 1 (firsts n frames 0) = next_first n 0 frames 0 r.some_hop ∙ rw ek in
-        let d : firsts n colours 0 ≡ s ∷ drop 1 (firsts n colours 0) = next_first n 0 colours 0 r.some_hop ∙ rw es in
-        ap₂ (delay_if T) (next_first n 0 hops no_hop r.some_hop) (ap₂ in_colours f d)
-        ∙ first_frame_lem T (get_or hops 0 no_hop) (drop 1 (firsts n hops no_hop)) (spot k s) (in_colours (drop 1 (firsts n frames 0)) (drop 1 (firsts n colours 0))) b eb
+        ap₂ (delay_if T) (next_first n 0 hops no_hop r.some_hop) (ap₂ in_colours (next_first n 0 frames 0 r.some_hop) (next_first n 0 colours 0 r.some_hop))
+        ∙ first_frame_lem T (get_or hops 0 no_hop) (drop 1 (firsts n hops no_hop)) (at 0) (in_colours (drop 1 (firsts n frames 0)) (drop 1 (firsts n colours 0))) b free
 
     pub first_unfit : b ≡ false → none ≡ whole
     first_unfit g = sym (begins ∙ rw g)
 
-    pub first_along : b ≡ true → Along T n hops frames colours k s (get_or hops 0 no_hop) 0 1
-    first_along g =
-        let o = frame_in (get_or hops 0 no_hop) k s b eb g in
-        let p = r.each 0 r.some_hop in
-        record {
-          inside = o.0;
-          few = p.few_frames;
-          tinted = omega (arith, o.1, p.few_colours);
-          small = omega arith;
-          same = begins ∙ rw g;
-        }
+    pub first_along : b ≡ true → Along T n hops frames colours 0 0 1
+    first_along g = record {
+      next = refl;
+      inside = (spot_in (get_or hops 0 no_hop) (at 0) b free g).0;
+      small = omega arith;
+      same = begins ∙ rw g;
+    }
 
-  module _ (k s : ℕ) (g : Hop) (c j : ℕ) (p : Along T n hops frames colours k s g c j) where
-    module _ (h : j < n) (i : ℕ) (ei : i ≡ get_or frames j 0) (t : ℕ) (et : t ≡ get_or colours j 0) (v : std.Option Delay) (ev : walked_delay v ≡ step_if T g (get_or hops j no_hop) (spot k s) (spot i t)) where
+  module _ (c i j : ℕ) (p : Along T n hops frames colours c i j) where
+    module _ (h : j < n) (x : declared.Spot) (ex : IsAt frames colours i x) (y : declared.Spot) (ey : IsAt frames colours j y) (v : std.Option Delay)
+        (ev : walked_delay v ≡ step_if T (get_or hops i no_hop) (get_or hops j no_hop) (spot_of x) (spot_of y)) where
       abbrev later : List Spot
       later = in_colours (drop (j + 1) (firsts n frames 0)) (drop (j + 1) (firsts n colours 0))
 
-      here : whole ≡ delay_on T g (spot k s) c (get_or hops j no_hop ∷ drop (j + 1) (firsts n hops no_hop)) (spot i t ∷ later)
-      here = p.same ∙ rw (next_first n j hops no_hop h, next_first n j frames 0 h, next_first n j colours 0 h, ← ei, ← et)
+      stepped : walked_delay v ≡ step_if T (get_or hops i no_hop) (get_or hops j no_hop) (at i) (at j)
+      stepped = ev ∙ ap₂ (step_if T (get_or hops i no_hop) (get_or hops j no_hop)) (is_at i x ex) (is_at j y ey)
+
+      here : whole ≡ delay_on T (get_or hops i no_hop) (at i) c (get_or hops j no_hop ∷ drop (j + 1) (firsts n hops no_hop)) (at j ∷ later)
+      here = p.same ∙ rw (next_first n j hops no_hop h, next_first n j frames 0 h, next_first n j colours 0 h)
 
       pub no_step : v ≡ std.None → none ≡ whole
-      no_step e = sym (here ∙ stop T g (get_or hops j no_hop) (spot k s) (spot i t) c (drop (j + 1) (firsts n hops no_hop)) later (sym (ap walked_delay e) ∙ ev))
+      no_step e = sym (here ∙ stop T (get_or hops i no_hop) (get_or hops j no_hop) (at i) (at j) c (drop (j + 1) (firsts n hops no_hop)) later (sym (ap walked_delay e) ∙ stepped))
 
       module _ (d : Delay) (e : v ≡ std.Some d) where
-        step_is : some d.0 ≡ step_if T g (get_or hops j no_hop) (spot k s) (spot i t)
-        step_is = sym (ap walked_delay e) ∙ ev
+        step_is : some d.0 ≡ step_if T (get_or hops i no_hop) (get_or hops j no_hop) (at i) (at j)
+        step_is = sym (ap walked_delay e) ∙ stepped
 
-        lasts : (i < (get_or hops j no_hop).frames) × (t < (get_or hops j no_hop).colours) × (d.0 ≤ 960)
+        lasts : (get_or frames j 0 < (get_or hops j no_hop).frames) × (d.0 ≤ 960)
         unfolding fits takes
         lasts =
-            let u = step_told T g (get_or hops j no_hop) (spot k s) (spot i t) d.0 step_is in
-            let a = and_both (is_on (get_or hops j no_hop) (spot i t)) (is_allowed g (get_or hops j no_hop) (spot k s) (spot i t)) u.0 in
-            let o = and_both (ltb i (get_or hops j no_hop).frames) (ltb t (get_or hops j no_hop).colours) a.0 in (
-              ltb-true i (get_or hops j no_hop).frames o.0,
-              ltb-true t (get_or hops j no_hop).colours o.1,
-              omega (arith, u.1, allowed_cap T g (get_or hops j no_hop) (spot k s) (spot i t) (r.each j h) a.1, r.cycle),
+            let u = step_told T (get_or hops i no_hop) (get_or hops j no_hop) (at i) (at j) d.0 step_is in
+            let a = and_both (is_on (get_or hops j no_hop) (at j)) (is_allowed (get_or hops i no_hop) (get_or hops j no_hop) (at i) (at j)) u.0 in
+            let o = and_both (ltb (at j).frame (get_or hops j no_hop).frames) (ltb (at j).colour (get_or hops j no_hop).colours) a.0 in (
+              ltb-true (at j).frame (get_or hops j no_hop).frames o.0,
+              omega (arith, u.1, allowed_cap T (get_or hops i no_hop) (get_or hops j no_hop) (at i) (at j) (r.each j h) a.1, r.cycle),
             )
 
         pub step_small : c + d.0 ≤ 6720
-        step_small = omega (arith, lasts.2, p.small, r.few_hops)
+        step_small = omega (arith, lasts.1, p.small, r.few_hops)
 
-        pub one_step : (w : ℕ) → w ≡ c + d.0 → Along T n hops frames colours i t (get_or hops j no_hop) w (j + 1)
-        one_step w ew = record {
+        pub one_step : (w : ℕ) → w ≡ c + d.0 → Along T n hops frames colours w (j + 1 - 1) (j + 1)
+        one_step w ew = subst (λ (m : ℕ). Along T n hops frames colours w m (j + 1)) {x = j} {y = j + 1 - 1} (omega arith) (record {
+          next = refl;
           inside = lasts.0;
-          few = (r.each j h).few_frames;
-          tinted = omega (arith, lasts.1, (r.each j h).few_colours);
-          small = omega (arith, lasts.2, p.small);
-          same = rw ew (here ∙ go_on T g (get_or hops j no_hop) (spot k s) (spot i t) c (drop (j + 1) (firsts n hops no_hop)) later d.0 step_is);
-        }
+          small = omega (arith, lasts.1, p.small);
+          same = rw ew (here ∙ go_on T (get_or hops i no_hop) (get_or hops j no_hop) (at i) (at j) c (drop (j + 1) (firsts n hops no_hop)) later d.0 step_is);
+        })
 
     pub all_steps : n ≤ j → some c ≡ whole
     unfolding delay_on

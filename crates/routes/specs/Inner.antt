@@ -1,14 +1,20 @@
 -- Words of the contracts of inner functions, and of what callers show before a call. They are no part of what is promised: `walk` promises in the words of `specs/Hops`. Assumes nothing.
-use Rattle.std.specs.Prelude.{cond, ◌&&◌, List, ℕ, ◌<◌, ◌≤◌, get_or}
+use Rattle.std.specs.Prelude.{◌≡◌, cond, ◌&&◌, List, ℕ, ◌<◌, ◌≤◌, get_or}
 use Rattle.std.proofs.Math.Option.{Option, some, none}
 use Rattle.forwarding.specs.declared.Hop.{Hop}
 use Rattle.forwarding.specs.Forwarding.{Spot, least_hold, hold_into, is_allowed, delay}
 use Rattle.forwarding.specs.Hops.{no_hop}
 use Rattle.forwarding.specs.Schedule.{is_on}
+use Rattle.routes.specs.declared.Spot as declared
 
--- a frame in a colour
-abbrev pub spot : ℕ → ℕ → Spot
-spot i c = record { frame = i; colour = c }
+-- a spot of the code, a frame in a colour, in the words of the rules
+abbrev pub spot_of : declared.Spot → Spot
+spot_of x = record { frame = x.frame; colour = x.colour }
+
+-- the spot at place j of frames and their colours
+pub record IsAt (frames colours : List ℕ) (j : ℕ) (x : declared.Spot) : Type 0 where
+  pub frame : x.frame ≡ get_or frames j 0
+  pub colour : x.colour ≡ get_or colours j 0
 
 -- the delay of the transition from x on the hop g to y on the hop h after it, if it is one of its frames in one of its colours and allowed
 unfoldable pub step_if : ℕ → Hop → Hop → Spot → Spot → Option ℕ

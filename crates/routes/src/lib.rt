@@ -1,7 +1,8 @@
 // The checks of a route, 12 to 15; what a route's links are to the search, its hops; and what frames over them are: a schedule with its delay and its cycles, or none.
 #![tactic(auto)]
 
-ghost use Rattle.std.specs.Prelude.{◌≡◌, false, ◌&&◌, ◌<◌, ◌≤◌, eqb, drop};
+ghost use Rattle.std.specs.Prelude.{◌≡◌, false, ◌&&◌, ◌<◌, ◌≤◌, nat_le};
+ghost use Rattle.std.specs.List.{list_any};
 ghost use Rattle.places.specs.Places.{firsts};
 ghost use Rattle.refusals.specs.Refusals.{given, pass, ruling};
 ghost use Rattle.network.specs.Network.{topology_of};
@@ -10,11 +11,10 @@ ghost use Rattle.forwarding.specs.Forwarding.{is_free, may_turn};
 ghost use Rattle.forwarding.specs.Hops.{no_hop, blank_hop, HopReady, Ready};
 ghost use Rattle.forwarding.specs.Schedule.{in_colours, is_on};
 ghost use Rattle.forwarding.specs.Cycles.{schedule_cycles};
-ghost use Rattle.ledger.specs.Lists.{any_of};
 ghost use Rattle.ledger.specs.Sessions.{link_colours, link_turn};
-ghost use Rattle.ledger.specs.Routes.{bad_length, unknown, unknown_link, link_twice, apart, rates_apart, rates_of, route_check};
+ghost use Rattle.ledger.specs.Routes.{bad_length, unknown_link, link_twice, apart, rates_apart, rates_of, route_check};
 ghost use Rattle.routes.specs.Hops.{free_from, hop_from, hops_from, delay_if, walked_delay};
-ghost use Rattle.routes.specs.Inner.{spot, step_if, FramesLaid};
+ghost use Rattle.routes.specs.Inner.{spot_of, IsAt, step_if, FramesLaid};
 
 use forwarding::{Delay, Hop};
 use network::{Link, Network};
@@ -30,42 +30,19 @@ fn bad_length(n: usize) -> bool
 
 // Whether check 13 refuses a link of the route.
 fn unknown_link(count: usize, route: &[u8]) -> bool
-    ensures { result ≡ any_of (unknown count) route.now }
+    ensures { result ≡ list_any (λ l. nat_le count l) route.now }
 {
-    let mut j = 0;
-    while j < route.len() {
-        if count <= places::index(route[j]) {
-            return true;
-        }
-        j += 1;
-    }
-    false
-}
-
-// Whether a link stands in the route from place `from` on.
-fn stands_from(route: &[u8], from: usize, link: u8) -> bool
-    ensures { result ≡ any_of (eqb link) (drop from route.now) }
-{
-    let mut j = from;
-    while j < route.len() {
-        if link == route[j] {
-            return true;
-        }
-        j += 1;
-    }
-    false
+    route.iter().any(|link| count <= usize::from(*link))
 }
 
 // Whether check 14 refuses the route: a link stands again after its place.
 fn link_twice(route: &[u8]) -> bool
     ensures { result ≡ link_twice route.now }
 {
-    let mut j = 0;
-    while j < route.len() {
-        if stands_from(route, j + 1, route[j]) {
+    for (j, link) in route.iter().enumerate() {
+        if route[j + 1..].contains(link) {
             return true;
         }
-        j += 1;
     }
     false
 }
@@ -83,16 +60,12 @@ fn rates_apart(network: Network, route: &[u8]) -> bool
     requires { (network_check (topology_of network) ≡ given pass) × (unknown_link (topology_of network) route.now ≡ false) }
     ensures { result ≡ rates_apart (rates_of (topology_of network) route.now) }
 {
-    let mut j = 1;
-    while j < route.len() {
-        let before = places::index(route[j - 1]);
-        let at = places::index(route[j]);
-        let one = network.links[before];
-        let other = network.links[at];
+    for j in 1..route.len() {
+        let one = network.links[usize::from(route[j - 1])];
+        let other = network.links[usize::from(route[j])];
         if frames_apart(one.frames, other.frames) {
             return true;
         }
-        j += 1;
     }
     false
 }
@@ -139,13 +112,10 @@ fn free_words(link: Link, l: u8, held: &[u64; BANK]) -> [u64; COLOURS]
     requires { (0 < link.frames) × (link.frames ≤ 64) × (l < 32) }
     ensures { result ≡ free_from link l held.now }
 {
-    let colours = colours_of(link);
     let mut free = [0u64; COLOURS];
-    let mut c: u16 = 0;
-    while c < colours {
+    for c in 0..colours_of(link) {
         let at = words::bank(l, c as u8);
-        free[c as usize] = words::free_word(link.frames, link.closed, held[at]);
-        c += 1;
+        free[usize::from(c)] = words::free_word(link.frames, link.closed, held[at]);
     }
     free
 }
@@ -173,52 +143,65 @@ pub fn route_hops(network: Network, held: &[u64; BANK], route: &[u8]) -> [Hop; 8
     ensures { result ≡ firsts 8 (hops_from network.links held.now route.now) blank_hop }
 {
     let mut hops = [forwarding::no_hop(); 8];
-    let mut j = 0;
-    while j < route.len() {
-        let l = route[j];
-        let at = places::index(l);
-        let link = network.links[at];
-        hops[j] = hop_of(link, l, held);
-        j += 1;
+    for (j, l) in route.iter().enumerate() {
+        let link = network.links[usize::from(*l)];
+        hops[j] = hop_of(link, *l, held);
     }
     hops
 }
 
-// Whether i is a frame of the hop, c a colour of it, and the frame free in the colour. Check 7: a hop has at most 64 frames; check 23: at most 4 colours.
-fn frame_free(hop: Hop, i: u16, c: u16) -> bool
-    requires { (hop.frames ≤ 64) × (hop.colours ≤ 4) }
-    ensures { result ≡ (is_on hop (spot i c) && is_free hop (spot i c)) }
-{
-    if hop.frames <= i {
-        return false;
-    }
-    if hop.colours <= c {
-        return false;
-    }
-    words::has_bit(hop.free[c as usize], i)
+// A frame in a colour.
+#[derive(Clone, Copy)]
+struct Spot {
+    frame: u16,
+    colour: u16,
 }
 
-// Whether colour c of the hop before may become colour d of the hop. Checks 23 and 24 bound them.
+// The spot at place j of frames and their colours.
+fn spot_at(frames: [u8; 8], colours: [u8; 8], j: usize) -> Spot
+    requires { j < 8 }
+    ensures { IsAt frames colours j result }
+{
+    Spot {
+        frame: u16::from(frames[j]),
+        colour: u16::from(colours[j]),
+    }
+}
+
+// Whether the spot is on the hop, and free. Check 7: a hop has at most 64 frames; check 23: at most 4 colours.
+fn spot_free(hop: Hop, at: Spot) -> bool
+    requires { (hop.frames ≤ 64) × (hop.colours ≤ 4) }
+    ensures { result ≡ (is_on hop (spot_of at) && is_free hop (spot_of at)) }
+{
+    if hop.frames <= at.frame {
+        return false;
+    }
+    if hop.colours <= at.colour {
+        return false;
+    }
+    words::has_bit(hop.free[usize::from(at.colour)], at.frame)
+}
+
+// Whether colour c of the hop before may become colour d of the hop.
 fn may_turn(hop: Hop, c: u16, d: u16) -> bool
-    requires { (hop.turn ≤ 4) × (c ≤ 4) × (d ≤ 4) }
     ensures { result ≡ may_turn hop c d }
 {
-    c <= d + hop.turn && d <= c + hop.turn
+    c.abs_diff(d) <= hop.turn
 }
 
-// The transition from frame k of the hop before, in colour c, to frame i of a hop in colour d: its delay, if it is allowed.
-// Checks 3, 7, 8, 21, 23 and 24 guarantee what is required; the walk has found frame k free.
-fn step(t: u16, before: Hop, k: u16, c: u16, hop: Hop, i: u16, d: u16) -> Option<Delay>
-    requires { (t ≤ 960) × (k < before.frames) × (before.frames ≤ 64) × (c ≤ 4) × HopReady t hop }
-    ensures { walked_delay result ≡ step_if t before hop (spot k c) (spot i d) }
+// The transition from a spot of the hop before to a spot of a hop: its delay, if it is allowed.
+// Checks 3, 7, 8, 21, 23 and 24 guarantee what is required; the walk has found the first spot free.
+fn step(t: u16, before: Hop, from: Spot, hop: Hop, to: Spot) -> Option<Delay>
+    requires { (t ≤ 960) × (from.frame < before.frames) × (before.frames ≤ 64) × HopReady t hop }
+    ensures { walked_delay result ≡ step_if t before hop (spot_of from) (spot_of to) }
 {
-    if !frame_free(hop, i, d) {
+    if !spot_free(hop, to) {
         return None;
     }
-    if !may_turn(hop, c, d) {
+    if !may_turn(hop, from.colour, to.colour) {
         return None;
     }
-    let hold = forwarding::hold_into(k, before, hop, i);
+    let hold = forwarding::hold_into(from.frame, before, hop, to.frame);
     if hop.range < hold.0 {
         return None;
     }
@@ -231,25 +214,15 @@ pub fn walk(t: u16, hops: [Hop; 8], frames: [u8; 8], colours: [u8; 8], n: usize)
     requires { Ready t hops n }
     ensures { walked_delay result ≡ delay_if t (firsts n hops no_hop) (in_colours (firsts n frames 0) (firsts n colours 0)) }
 {
-    let first = hops[0];
-    let mut k = places::short(frames[0]);
-    let mut colour = places::short(colours[0]);
-    if !frame_free(first, k, colour) {
+    if !spot_free(hops[0], spot_at(frames, colours, 0)) {
         return None;
     }
-    let mut before = first;
     let mut total = Delay(0);
-    let mut j: usize = 1;
-    while j < n {
-        let hop = hops[j];
-        let i = places::short(frames[j]);
-        let d = places::short(colours[j]);
-        let delay = step(t, before, k, colour, hop, i, d)?;
+    for j in 1..n {
+        let from = spot_at(frames, colours, j - 1);
+        let to = spot_at(frames, colours, j);
+        let delay = step(t, hops[j - 1], from, hops[j], to)?;
         total = forwarding::sum(total, delay);
-        before = hop;
-        k = i;
-        colour = d;
-        j += 1;
     }
     Some(total)
 }
@@ -259,20 +232,11 @@ pub fn cycles(hops: [Hop; 8], frames: [u8; 8], n: usize) -> [u8; 8]
     requires { FramesLaid hops frames n }
     ensures { result ≡ firsts 8 (schedule_cycles (firsts n hops no_hop) (firsts n frames 0)) 0 }
 {
-    let first = hops[0];
-    let mut before = first;
-    let mut k = places::short(frames[0]);
     let mut cycles = [0u8; 8];
-    let mut cycle: u8 = 0;
-    let mut at: usize = 1;
-    while at < n {
-        let hop = hops[at];
-        let i = places::short(frames[at]);
-        cycle = forwarding::next_cycle(k, before, hop, i, cycle);
-        cycles[at] = cycle;
-        before = hop;
-        k = i;
-        at += 1;
+    for at in 1..n {
+        let k = u16::from(frames[at - 1]);
+        let i = u16::from(frames[at]);
+        cycles[at] = forwarding::next_cycle(k, hops[at - 1], hops[at], i, cycles[at - 1]);
     }
     cycles
 }

@@ -5,18 +5,18 @@ use lib.ListN.{get_or}
 use Rattle.network.specs.Network.{no_link}
 use Rattle.routes.proofs.Links.{in_places_lem, at_place, at_frames}
 use Rattle.routes.proofs.Routes.{route_long, passed_place}
-use Rattle.routes.proofs.Hops.{none_laid, one_laid}
+use Rattle.routes.proofs.Hops.{none_laid, one_laid, all_laid}
 use Rattle.routes.proofs.route_hops.Goals as goal
 
 pub loop-j-init : goal.loop-j-init
-loop-j-init c = none_laid _ _ _ _ c.no_hop-hops.ensures
+loop-j-init c = none_laid c.args.network.links c.args.held.now c.args.route.now _ c.no_hop-hops.ensures
 
-pub bounds-network-at : goal.bounds-network-at
-bounds-network-at c = at_place c.args.network _ (passed_place c.args.network _ c.requires.1 c.loop-j.j c.loop-j-test.true) c.requires.0 _ c.index-at.ensures
+pub bounds-network-from : goal.bounds-network-from
+bounds-network-from c = at_place c.args.network _ (passed_place c.args.network _ c.requires.1 c.loop-j.j c.loop-j-test.true) c.requires.0 _ c.from.ensures
 
 pub hop_of-requires : goal.hop_of-requires
 hop_of-requires c = let known = passed_place c.args.network _ c.requires.1 c.loop-j.j c.loop-j-test.true in
-    let frames = at_frames c.args.network _ known c.requires.0 _ c.index-at.ensures in
+    let frames = at_frames c.args.network _ known c.requires.0 _ c.from.ensures in
     (frames.0, frames.1, in_places_lem c.args.network _ known c.requires.0)
 
 pub offset_bounds-hops-j : goal.offset_bounds-hops-j
@@ -26,5 +26,8 @@ pub bounds-hops-j : goal.bounds-hops-j
 bounds-hops-j c = omega (arith, route_long _ _ c.requires.1)
 
 pub loop-j-preserved : goal.loop-j-preserved
-loop-j-preserved c = one_laid _ _ _ _ _ c.loop-j.invariant c.loop-j-test.true (route_long _ _ c.requires.1).1 _ _
-    (ap (λ (i : ℕ). get_or c.args.network.links i no_link) c.index-at.ensures) c.hop_of.ensures
+loop-j-preserved c = one_laid c.args.network.links _ c.args.route.now _ _ c.loop-j.invariant c.loop-j-test.true (route_long _ _ c.requires.1).1 _ _
+    (ap (λ (i : ℕ). get_or c.args.network.links i no_link) c.from.ensures) c.hop_of.ensures
+
+pub returns : goal.returns
+returns c = all_laid c.args.network.links _ c.args.route.now _ _ c.loop-j.invariant c.loop-j-test.false
