@@ -1,59 +1,75 @@
 -- Pieces put one after the other: the room of each, and the whole that they make. Assumes nothing.
 use mathlib.Core.Path.{◌≡◌, refl, sym, ap, ◌∙◌}
-use mathlib.Core.List.{List, [], ◌∷◌, ◌++◌}
-use Prim.Native.Nat.{ℕ, ◌+◌, ◌≤◌}
+use mathlib.Core.List.{List, [], ◌∷◌, ◌++◌, append_assoc}
+use Prim.Native.Nat.{ℕ, ◌+◌, ◌-◌, ◌≤◌}
 use native.Mathlib.Nat.{add-zero}
 use native.Mathlib.Omega.{arith}
-use lib.ListN.{length, length-append, set}
-use Rattle.places.proofs.Puts.{put_length, put_nil, put_put, put_set}
-use Rattle.text.specs.Inner.{Puts}
+use lib.ListN.{length, length-append}
+use lib.Seq.{drop-drop}
+use borrow.Rule.Slice.PartMut.{put_mid}
+use Rattle.places.specs.Put.{put_at}
+use Rattle.places.proofs.Puts.{put_length, put_nil, put_put}
+use Rattle.text.specs.declared.Page.{Page}
+use Rattle.text.specs.Inner.{HasRoom, Adds}
 
-pub puts_none : (at : ℕ) (o : List ℕ) → Puts at [] o o at
-puts_none at o = (sym (add-zero at), sym (put_nil at o))
-
-pub puts_one : (at byte : ℕ) (o : List ℕ) → at + 1 ≤ length o → Puts at (byte ∷ []) o (set o at byte) (at + 1)
-puts_one at byte o h = (refl, put_set at byte o (omega arith))
-
-pub puts_length : (at : ℕ) (x o p : List ℕ) (r : ℕ) → at + length x ≤ length o → Puts at x o p r → length p ≡ length o
-puts_length at x o p r h e = ap length e.1 ∙ put_length at x o h
+pub adds_none : (p : Page) → Adds [] p p
+adds_none p = record { next = sym (add-zero p.at); holds = sym (put_nil p.at p.out.now); same = refl }
 
 -- ---- x, and then y
-pub room_first : (at : ℕ) (x y o : List ℕ) → at + length (x ++ y) ≤ length o → at + length x ≤ length o
-room_first at x y o h = omega (arith, length-append x y)
+module _ (x y : List ℕ) (p : Page) (h : HasRoom (x ++ y) p) where
+  pub room_first : HasRoom x p
+  room_first = omega (arith, h, length-append x y)
 
-pub room_after : (at : ℕ) (x y o p : List ℕ) (r : ℕ) → at + length (x ++ y) ≤ length o → Puts at x o p r → r + length y ≤ length p
-room_after at x y o p r h e = omega (arith, length-append x y, e.0, puts_length at x o p r (room_first at x y o h) e)
+  module _ (q : Page) (e : Adds x p q) where
+    pub room_after : HasRoom y q
+    room_after = omega (arith, h, length-append x y, e.next, ap length e.holds, put_length p.at x p.out.now room_first)
 
-pub puts_then : (at : ℕ) (x y o p q : List ℕ) (r s : ℕ) → at + length (x ++ y) ≤ length o → Puts at x o p r → Puts r y p q s → Puts at (x ++ y) o q s
-puts_then at x y o p q r s h e f =
-    let l : at + length x + length y ≤ length o = omega (arith, length-append x y) in
-    (omega (arith, e.0, f.0, length-append x y), f.1 ∙ rw (e.0, e.1) (put_put at x y o l))
+    pub adds_then : (r : Page) → Adds y q r → Adds (x ++ y) p r
+    adds_then r f =
+        let l : p.at + length x + length y ≤ length p.out.now = omega (arith, h, length-append x y) in
+        record {
+          next = omega (arith, e.next, f.next, length-append x y);
+          holds = f.holds ∙ rw (e.next, e.holds) (put_put p.at x y p.out.now l);
+          same = f.same ∙ e.same;
+        }
 
 -- ---- any number of pieces
 unfoldable pub joined : List (List ℕ) → List ℕ
 joined [] = []
 joined (x ∷ xs) = x ++ joined xs
 
--- a whole text is to be put into o from `at` on: the pieces before `rest` were put, which gave p; the next place is r
-pub record Upto (at : ℕ) (o whole : List ℕ) (rest : List (List ℕ)) (p : List ℕ) (r : ℕ) : Type 0 where
-  pub fits : r + length (joined rest) ≤ length p
-  pub ends : (q : List ℕ) (s : ℕ) → Puts r (joined rest) p q s → Puts at whole o q s
+-- a whole text is to be put on page o: the pieces before `rest` were put, which gave page p
+pub record Upto (whole : List ℕ) (o : Page) (rest : List (List ℕ)) (p : Page) : Type 0 where
+  pub fits : HasRoom (joined rest) p
+  pub ends : (q : Page) → Adds (joined rest) p q → Adds whole o q
 
-pub none_yet : {at : ℕ} (o : List ℕ) {whole : List ℕ} {pieces : List (List ℕ)} → whole ≡ joined pieces → at + length whole ≤ length o → Upto at o whole pieces o at
-none_yet {at} o {whole} {pieces} e h = record { fits = rw e at h; ends = λ (q : List ℕ) (s : ℕ) (f : Puts at (joined pieces) o q s). rw e f }
+pub none_yet : (o : Page) {whole : List ℕ} {pieces : List (List ℕ)} → whole ≡ joined pieces → HasRoom whole o → Upto whole o pieces o
+none_yet o {whole} {pieces} e h = record { fits = rw e at h; ends = λ (q : Page) (f : Adds (joined pieces) o q). rw e f }
 
-module _ {at : ℕ} {o whole : List ℕ} where
-  pub piece_fits : {x p : List ℕ} {rest : List (List ℕ)} {r : ℕ} → Upto at o whole (x ∷ rest) p r → r + length x ≤ length p
+module _ {whole : List ℕ} {o : Page} where
+  pub piece_fits : {x : List ℕ} {p : Page} {rest : List (List ℕ)} → Upto whole o (x ∷ rest) p → HasRoom x p
   unfolding joined
-  piece_fits {x} {p} {rest} {r} u = room_first r x (joined rest) p u.fits
+  piece_fits {x} {p} {rest} u = room_first x (joined rest) p u.fits
 
-  pub piece_put : {x p q : List ℕ} {rest : List (List ℕ)} {r s : ℕ} → Upto at o whole (x ∷ rest) p r → Puts r x p q s → Upto at o whole rest q s
+  pub piece_put : {x : List ℕ} {p q : Page} {rest : List (List ℕ)} → Upto whole o (x ∷ rest) p → Adds x p q → Upto whole o rest q
   unfolding joined
-  piece_put {x} {p} {q} {rest} {r} {s} u e = record {
-    fits = room_after r x (joined rest) p q s u.fits e;
-    ends = λ (t : List ℕ) (n : ℕ) (f : Puts s (joined rest) q t n). u.ends t n (puts_then r x (joined rest) p q t s n u.fits e f);
+  piece_put {x} {p} {q} {rest} u e = record {
+    fits = room_after x (joined rest) p u.fits q e;
+    ends = λ (r : Page) (f : Adds (joined rest) q r). u.ends r (adds_then x (joined rest) p u.fits q e r f);
   }
 
-  pub all_put : {p : List ℕ} {r : ℕ} → Upto at o whole [] p r → Puts at whole o p r
+  -- a piece in two parts
+  pub two_parts : {x y : List ℕ} {p : Page} {rest : List (List ℕ)} → Upto whole o ((x ++ y) ∷ rest) p → Upto whole o (x ∷ y ∷ rest) p
   unfolding joined
-  all_put {p} {r} u = u.ends p r (puts_none r p)
+  two_parts {x} {y} {p} {rest} u =
+      let e : (x ++ y) ++ joined rest ≡ x ++ (y ++ joined rest) = append_assoc x y (joined rest) in
+      record { fits = rw e at u.fits; ends = λ (q : Page) (f : Adds (x ++ (y ++ joined rest)) p q). u.ends q (rw e f) }
+
+  pub all_put : {p : Page} → Upto whole o [] p → Adds whole o p
+  unfolding joined
+  all_put {p} u = u.ends p (adds_none p)
+
+-- bytes that were copied to a part of a buffer
+pub put_slice : (at : ℕ) (x o p : List ℕ) → p ≡ x → put_mid at (at + length x - at) o p ≡ put_at at x o
+unfolding put_at
+put_slice at x o p e = let n : at + length x - at ≡ length x = omega arith in rw (n, e, drop-drop (length x) at o)

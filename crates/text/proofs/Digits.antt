@@ -1,14 +1,16 @@
 -- Laws of `dec`, and the digits put from the first on. Assumes nothing.
-use mathlib.Core.Path.{◌≡◌, refl, sym, ap, ◌∙◌}
-use mathlib.Core.List.{List, [], ◌∷◌, ◌++◌}
+use mathlib.Core.Path.{◌≡◌, refl, ap, ◌∙◌}
+use mathlib.Core.Logic.{◌⊎◌, inl, inr}
+use mathlib.Core.List.{[], ◌∷◌, ◌++◌}
 use Prim.Native.Nat.{ℕ, zero, suc, ◌+◌, ◌/◌, ◌%◌, ◌≤◌, ◌<◌}
 use native.Mathlib.Omega.{arith}
 use borrow.Author.Tests.{lt-ltb, le-ltb}
-use lib.ListN.{length, length-append, set, length-set}
-use Rattle.places.proofs.Puts.{put_set, put_put, put_length}
+use lib.ListN.{length, length-append}
 use Rattle.text.specs.Characters.{digit0}
 use Rattle.text.specs.Digits.{digits_by, dec}
-use Rattle.text.specs.Inner.{Puts}
+use Rattle.text.specs.Inner.{HasRoom, Adds}
+use Rattle.text.specs.declared.Page.{Page}
+use Rattle.text.proofs.Chains.{room_after, adds_then}
 
 -- any bound from n on gives the same digits
 digits_any : (f g n : ℕ) → n ≤ f → n ≤ g → digits_by f n ≡ digits_by g n
@@ -32,35 +34,20 @@ dec_more (suc m) h = rw (le-ltb (suc m) 10, digits_any m (suc m / 10) (suc m / 1
 pub long_more : (n : ℕ) → 10 ≤ n → length (dec n) ≡ length (dec (n / 10)) + 1
 long_more n h = ap length (dec_more n h) ∙ length-append (dec (n / 10)) ((digit0 + n % 10) ∷ [])
 
--- ---- a single digit
-module _ (o : List ℕ) (at n : ℕ) (h : n < 10) (room : at + length (dec n) ≤ length o) where
-  pub room_small : at < length o
-  room_small = omega (arith, ap length (dec_small n h))
+-- ---- the last digit after the others, of which a number below 10 has none
+abbrev pub Tens : ℕ → Page → Page → Type 0
+Tens n p q = ((10 ≤ n) × Adds (dec (n / 10)) p q) ⊎ ((n < 10) × (q ≡ p))
 
-  pub put_small : Puts at (dec n) o (set o at (digit0 + n % 10)) (at + 1)
-  put_small =
-      let e : dec n ≡ (digit0 + n) ∷ [] = dec_small n h in
-      let q : n % 10 ≡ n = omega arith in
-      (ap (λ (x : List ℕ). at + length x) (sym e), rw (q, e) (put_set at (digit0 + n) o room_small))
+module _ (n : ℕ) (p : Page) (room : HasRoom (dec n) p) where
+  pub room_tens : 10 ≤ n → HasRoom (dec (n / 10)) p
+  room_tens h = omega (arith, room, long_more n h)
 
--- ---- the last digit after the others
-module _ (o : List ℕ) (at n : ℕ) (h : 10 ≤ n) (room : at + length (dec n) ≤ length o) where
-  pub room_less : at + length (dec (n / 10)) ≤ length o
-  room_less = omega (arith, long_more n h)
+  pub room_last : (q : Page) → Tens n p q → HasRoom ((digit0 + n % 10) ∷ []) q
+  room_last q (inl (h, e)) = room_after (dec (n / 10)) ((digit0 + n % 10) ∷ []) p (rw (dec_more n h) at room) q e
+  room_last q (inr (h, e)) = rw e (omega (arith, room, ap length (dec_small n h)))
 
-  module _ (p : ℕ) (q : List ℕ) (e : Puts at (dec (n / 10)) o q p) where
-    same_less : length q ≡ length o
-    same_less = ap length e.1 ∙ put_length at (dec (n / 10)) o room_less
-
-    pub room_last : p < length q
-    room_last = omega (arith, same_less, e.0, long_more n h)
-
-    pub put_more : Puts at (dec n) o (set q p (digit0 + n % 10)) (p + 1)
-    put_more =
-        let l : at + length (dec (n / 10)) + 1 ≤ length o = omega (arith, long_more n h) in (
-          omega (arith, e.0, long_more n h),
-          put_set p (digit0 + n % 10) q room_last ∙ rw (e.0, e.1, dec_more n h) (put_put at (dec (n / 10)) ((digit0 + n % 10) ∷ []) o l),
-        )
-
-    pub same_more : (v : ℕ) → length (set q p v) ≡ length o
-    same_more v = length-set q p v ∙ same_less
+  pub put_last : (q : Page) → Tens n p q → (r : Page) → Adds ((digit0 + n % 10) ∷ []) q r → Adds (dec n) p r
+  put_last q (inl (h, e)) r f = rw (dec_more n h) (adds_then (dec (n / 10)) ((digit0 + n % 10) ∷ []) p (rw (dec_more n h) at room) q e r f)
+  put_last q (inr (h, e)) r f =
+      let d : n % 10 ≡ n = omega arith in
+      rw (dec_small n h) (rw (e, d) at f)

@@ -1,9 +1,14 @@
 -- Each text as the pieces that are put for it. Assumes nothing.
 use mathlib.Core.Path.{◌≡◌, refl}
 use mathlib.Core.List.{List, [], ◌∷◌, ◌++◌, append-nil}
-use Prim.Native.Nat.{ℕ}
+use Prim.Native.Nat.{ℕ, ◌≤◌}
+use native.Mathlib.Omega.{arith}
+use lib.ListN.{length, take}
 use borrow.Author.Tests.{eq-eqb, ne_eqb}
-use Rattle.ledger.specs.Held.{Holding}
+use Rattle.places.specs.Places.{firsts}
+use Rattle.places.proofs.Firsts.{firsts_take}
+use Rattle.forwarding.specs.declared.Held.{Held}
+use Rattle.ledger.specs.Held.{Holding, holding_of}
 use Rattle.ledger.specs.Calls.{schedule, freed, refusal}
 use Rattle.text.specs.Characters.{space, newline, slash, ok_word, no_word}
 use Rattle.text.specs.Digits.{dec, spaced, spaced_all}
@@ -36,6 +41,14 @@ pub groups_is : (gs : List (List ℕ)) → groups_text gs ≡ joined (group_piec
 unfolding groups_text joined
 groups_is [] = refl
 groups_is (g ∷ gs) = rw (more_is gs)
+
+-- those of a stored schedule, as parts of its places
+pub held_is : (hops : ℕ) (held : Held) → hops ≤ 8 → length held.frames ≡ 8 → length held.cycles ≡ 8
+    → groups_text (groups_of (holding_of hops held)) ≡ joined (spaced_all (take hops held.frames) ∷ (space ∷ slash ∷ []) ∷ spaced_all (take hops held.cycles) ∷ [])
+held_is hops held h f c =
+    let q : firsts hops held.frames 0 ≡ take hops held.frames = firsts_take hops held.frames 0 (omega arith) in
+    let r : firsts hops held.cycles 0 ≡ take hops held.cycles = firsts_take hops held.cycles 0 (omega arith) in
+    rw (← q, ← r) (groups_is (groups_of (holding_of hops held)))
 
 pub schedule_is : (held : Holding) (count : ℕ) → schedule_text held count ≡ joined (spaced held.delay ∷ spaced count ∷ groups_text (groups_of held) ∷ [])
 unfolding schedule_text joined

@@ -1,207 +1,193 @@
-// The text of the program frames, put into a buffer that the caller lends: its callers know the room. Each function answers the place after what
-// it put, and leaves every other byte.
+// The text of the program frames, put into a buffer that the caller lends: its callers know the room. Each function puts its text after what was put before,
+// and leaves every other byte.
 #![tactic(auto)]
 
-ghost use Rattle.std.specs.Prelude.{[], ◌∷◌, ◌++◌, ◌+◌, ◌≤◌, length};
-ghost use Rattle.places.specs.Places.{firsts};
+ghost use Rattle.std.specs.Prelude.{◌≡◌, [], ◌∷◌, ◌++◌, ◌≤◌};
 ghost use Rattle.ledger.specs.Held.{holding_of};
 ghost use Rattle.ledger.specs.Calls.{schedule, freed, refusal};
 ghost use Rattle.text.specs.Characters.{newline};
 ghost use Rattle.text.specs.Digits.{dec, spaced, spaced_all};
 ghost use Rattle.text.specs.Lines.{count_text, groups_of, groups_text, schedule_text, line_head, line, live_line, network_line};
-ghost use Rattle.text.specs.Inner.{Puts};
+ghost use Rattle.text.specs.Inner.{HasRoom, Adds};
 
 use forwarding::Held;
 
-// One byte.
-fn put_byte(out: &mut [u8], at: usize, byte: u8) -> usize
-    requires { at + 1 ≤ length out.old }
-    ensures { Puts at (byte ∷ []) out.old out.new result }
-{
-    out[at] = byte;
-    at + 1
-}
-
-// Some bytes.
-fn put_bytes(out: &mut [u8], at: usize, bytes: &[u8]) -> usize
-    requires { at + length bytes.now ≤ length out.old }
-    ensures { Puts at bytes.now out.old out.new result }
-{
-    let mut p = at;
-    let mut i = 0;
-    while i < bytes.len() {
-        p = put_byte(out, p, bytes[i]);
-        i += 1;
-    }
-    p
-}
-
-// The decimal digits of n.
-fn put_decimal(out: &mut [u8], at: usize, n: u32) -> usize
-    requires { at + length (dec n) ≤ length out.old }
-    ensures { Puts at (dec n) out.old out.new result }
-{
-    if n < 10 {
-        out[at] = b'0' + (n % 10) as u8;
-        return at + 1;
-    }
-    let p = put_decimal(out, at, n / 10);
-    out[p] = b'0' + (n % 10) as u8;
-    p + 1
-}
-
-// A space and the digits of n.
-fn put_spaced(out: &mut [u8], at: usize, n: u32) -> usize
-    requires { at + length (spaced n) ≤ length out.old }
-    ensures { Puts at (spaced n) out.old out.new result }
-{
-    let p = put_byte(out, at, b' ');
-    put_decimal(out, p, n)
-}
-
-// Each number after a space.
-fn put_all(out: &mut [u8], at: usize, ns: &[u8]) -> usize
-    requires { at + length (spaced_all ns.now) ≤ length out.old }
-    ensures { Puts at (spaced_all ns.now) out.old out.new result }
-{
-    let mut p = at;
-    let mut i = 0;
-    while i < ns.len() {
-        p = put_spaced(out, p, ns[i] as u32);
-        i += 1;
-    }
-    p
-}
-
-// A call's place and its letter.
-fn put_head(out: &mut [u8], at: usize, place: u32, letter: u8) -> usize
-    requires { at + length (line_head place letter) ≤ length out.old }
-    ensures { Puts at (line_head place letter) out.old out.new result }
-{
-    let p = put_decimal(out, at, place);
-    let q = put_byte(out, p, b' ');
-    put_byte(out, q, letter)
-}
-
-// The first numbers of eight places, each after a space. Check 12: a route has at most 8 hops.
-fn put_group(out: &mut [u8], at: usize, group: [u8; 8], hops: usize) -> usize
-    requires { (hops ≤ 8) × (at + length (spaced_all (firsts hops group 0)) ≤ length out.old) }
-    ensures { Puts at (spaced_all (firsts hops group 0)) out.old out.new result }
-{
-    put_all(out, at, &group[..hops])
-}
-
-// The groups of a schedule, its frames and its cycles, parted by a slash. Check 12: a route has at most 8 hops.
-fn put_groups(out: &mut [u8], at: usize, held: Held, hops: usize) -> usize
-    requires { (hops ≤ 8) × (at + length (groups_text (groups_of (holding_of hops held))) ≤ length out.old) }
-    ensures { Puts at (groups_text (groups_of (holding_of hops held))) out.old out.new result }
-{
-    let frames = held.frames;
-    let cycles = held.cycles;
-    let p = put_group(out, at, frames, hops);
-    let q = put_bytes(out, p, b" /");
-    put_group(out, q, cycles, hops)
-}
-
-// Delay, count and groups of a schedule. Check 12: a route has at most 8 hops.
-fn put_schedule(out: &mut [u8], at: usize, count: u32, held: Held, hops: usize) -> usize
-    requires { (hops ≤ 8) × (at + length (schedule_text (holding_of hops held) count) ≤ length out.old) }
-    ensures { Puts at (schedule_text (holding_of hops held) count) out.old out.new result }
-{
-    let delay = held.delay.0 as u32;
-    let p = put_spaced(out, at, delay);
-    let q = put_spaced(out, p, count);
-    put_groups(out, q, held, hops)
-}
-
-// The count of a refusal, which only 18 has.
-fn put_count(out: &mut [u8], at: usize, number: u8, count: u32) -> usize
-    requires { at + length (count_text number count) ≤ length out.old }
-    ensures { Puts at (count_text number count) out.old out.new result }
-{
-    if number != 18 {
-        return at;
-    }
-    put_spaced(out, at, count)
-}
-
-// The line of a call that was answered by a schedule. Check 12: a route has at most 8 hops.
-pub fn put_scheduled(
-    out: &mut [u8],
+// A text at the start of a lent buffer, and the place after it.
+#[derive(Drop)]
+pub struct Page<'a> {
+    out: &'a mut [u8],
     at: usize,
-    place: u32,
-    letter: u8,
-    count: u32,
-    held: Held,
-    hops: usize,
-) -> usize
-    requires { (hops ≤ 8) × (at + length (line place letter (schedule (holding_of hops held) count)) ≤ length out.old) }
-    ensures { Puts at (line place letter (schedule (holding_of hops held) count)) out.old out.new result }
-{
-    let p = put_head(out, at, place, letter);
-    let q = put_bytes(out, p, b" ok");
-    let r = put_schedule(out, q, count, held, hops);
-    put_byte(out, r, b'\n')
 }
 
-// The line of a release that wasn't refused.
-pub fn put_freed(out: &mut [u8], at: usize, place: u32, letter: u8) -> usize
-    requires { at + length (line place letter freed) ≤ length out.old }
-    ensures { Puts at (line place letter freed) out.old out.new result }
-{
-    let p = put_head(out, at, place, letter);
-    put_bytes(out, p, b" ok\n")
-}
+impl<'a> Page<'a> {
+    // A page without text.
+    pub fn new(out: &'a mut [u8]) -> Page<'a>
+        ensures same_reference { result.out.ghost_name ≡ out.entry.ghost_name }
+        ensures empty { (result.at ≡ 0) × (result.out.now ≡ out.old) }
+    {
+        Page { out, at: 0 }
+    }
 
-// The number of a refusal, and the count of 18.
-fn put_refusal(out: &mut [u8], at: usize, number: u8, count: u32) -> usize
-    requires { at + length (spaced number ++ count_text number count) ≤ length out.old }
-    ensures { Puts at (spaced number ++ count_text number count) out.old out.new result }
-{
-    let p = put_spaced(out, at, number as u32);
-    put_count(out, p, number, count)
-}
+    // The length of the text.
+    pub fn len(&self) -> usize
+        ensures { result ≡ self.now.at }
+    {
+        self.at
+    }
 
-// The line of a call that was refused.
-pub fn put_refused(
-    out: &mut [u8],
-    at: usize,
-    place: u32,
-    letter: u8,
-    number: u8,
-    count: u32,
-) -> usize
-    requires { at + length (line place letter (refusal number count)) ≤ length out.old }
-    ensures { Puts at (line place letter (refusal number count)) out.old out.new result }
-{
-    let p = put_head(out, at, place, letter);
-    let q = put_bytes(out, p, b" no");
-    let r = put_refusal(out, q, number, count);
-    put_byte(out, r, b'\n')
-}
+    // One byte.
+    fn put_byte(&mut self, byte: u8)
+        requires { HasRoom (byte ∷ []) self.old }
+        ensures { Adds (byte ∷ []) self.old self.new }
+    {
+        self.out[self.at] = byte;
+        self.at += 1;
+    }
 
-// A line of some words and a number.
-fn put_words(out: &mut [u8], at: usize, words: &[u8], number: u32) -> usize
-    requires { at + length (words.now ++ (spaced number ++ (newline ∷ []))) ≤ length out.old }
-    ensures { Puts at (words.now ++ (spaced number ++ (newline ∷ []))) out.old out.new result }
-{
-    let p = put_bytes(out, at, words);
-    let q = put_spaced(out, p, number);
-    put_byte(out, q, b'\n')
-}
+    // Some bytes.
+    fn put_bytes(&mut self, bytes: &[u8])
+        requires { HasRoom bytes.now self.old }
+        ensures { Adds bytes.now self.old self.new }
+    {
+        let end = self.at + bytes.len();
+        self.out[self.at..end].copy_from_slice(bytes);
+        self.at = end;
+    }
 
-// The last line.
-pub fn put_live(out: &mut [u8], at: usize, live: u32) -> usize
-    requires { at + length (live_line live) ≤ length out.old }
-    ensures { Puts at (live_line live) out.old out.new result }
-{
-    put_words(out, at, b"live", live)
-}
+    // The decimal digits of n. Kept: `write!` can fail, and these functions can't.
+    fn put_decimal(&mut self, n: u32)
+        requires { HasRoom (dec n) self.old }
+        ensures { Adds (dec n) self.old self.new }
+    {
+        if n >= 10 {
+            self.put_decimal(n / 10);
+        }
+        self.put_byte(b'0' + (n % 10) as u8);
+    }
 
-// The single line of a network file that is refused.
-pub fn put_network(out: &mut [u8], at: usize, number: u8) -> usize
-    requires { at + length (network_line number) ≤ length out.old }
-    ensures { Puts at (network_line number) out.old out.new result }
-{
-    put_words(out, at, b"net no", number as u32)
+    // A space and the digits of n.
+    fn put_spaced(&mut self, n: u32)
+        requires { HasRoom (spaced n) self.old }
+        ensures { Adds (spaced n) self.old self.new }
+    {
+        self.put_byte(b' ');
+        self.put_decimal(n);
+    }
+
+    // Each number after a space.
+    fn put_all(&mut self, ns: &[u8])
+        requires { HasRoom (spaced_all ns.now) self.old }
+        ensures { Adds (spaced_all ns.now) self.old self.new }
+    {
+        for n in ns {
+            self.put_spaced(u32::from(*n));
+        }
+    }
+
+    // A call's place and its letter.
+    fn put_head(&mut self, place: u32, letter: u8)
+        requires { HasRoom (line_head place letter) self.old }
+        ensures { Adds (line_head place letter) self.old self.new }
+    {
+        self.put_decimal(place);
+        self.put_byte(b' ');
+        self.put_byte(letter);
+    }
+
+    // The groups of a schedule, its frames and its cycles, parted by a slash. Check 12: a route has at most 8 hops.
+    fn put_groups(&mut self, held: Held, hops: usize)
+        requires { (hops ≤ 8) × HasRoom (groups_text (groups_of (holding_of hops held))) self.old }
+        ensures { Adds (groups_text (groups_of (holding_of hops held))) self.old self.new }
+    {
+        self.put_all(&held.frames[..hops]);
+        self.put_bytes(b" /");
+        self.put_all(&held.cycles[..hops]);
+    }
+
+    // Delay, count and groups of a schedule. Check 12: a route has at most 8 hops.
+    fn put_schedule(&mut self, count: u32, held: Held, hops: usize)
+        requires { (hops ≤ 8) × HasRoom (schedule_text (holding_of hops held) count) self.old }
+        ensures { Adds (schedule_text (holding_of hops held) count) self.old self.new }
+    {
+        self.put_spaced(u32::from(held.delay.0));
+        self.put_spaced(count);
+        self.put_groups(held, hops);
+    }
+
+    // The count of a refusal, which only 18 has.
+    fn put_count(&mut self, number: u8, count: u32)
+        requires { HasRoom (count_text number count) self.old }
+        ensures { Adds (count_text number count) self.old self.new }
+    {
+        let counted = number == 18;
+        if counted {
+            self.put_spaced(count)
+        }
+    }
+
+    // The number of a refusal, and the count of 18.
+    fn put_refusal(&mut self, number: u8, count: u32)
+        requires { HasRoom (spaced number ++ count_text number count) self.old }
+        ensures { Adds (spaced number ++ count_text number count) self.old self.new }
+    {
+        self.put_spaced(u32::from(number));
+        self.put_count(number, count);
+    }
+
+    // A line of some words and a number.
+    fn put_words(&mut self, words: &[u8], number: u32)
+        requires { HasRoom (words.now ++ (spaced number ++ (newline ∷ []))) self.old }
+        ensures { Adds (words.now ++ (spaced number ++ (newline ∷ []))) self.old self.new }
+    {
+        self.put_bytes(words);
+        self.put_spaced(number);
+        self.put_byte(b'\n');
+    }
+
+    // The line of a call that was answered by a schedule. Check 12: a route has at most 8 hops.
+    pub fn put_scheduled(&mut self, place: u32, letter: u8, count: u32, held: Held, hops: usize)
+        requires { (hops ≤ 8) × HasRoom (line place letter (schedule (holding_of hops held) count)) self.old }
+        ensures { Adds (line place letter (schedule (holding_of hops held) count)) self.old self.new }
+    {
+        self.put_head(place, letter);
+        self.put_bytes(b" ok");
+        self.put_schedule(count, held, hops);
+        self.put_byte(b'\n');
+    }
+
+    // The line of a release that wasn't refused.
+    pub fn put_freed(&mut self, place: u32, letter: u8)
+        requires { HasRoom (line place letter freed) self.old }
+        ensures { Adds (line place letter freed) self.old self.new }
+    {
+        self.put_head(place, letter);
+        self.put_bytes(b" ok\n");
+    }
+
+    // The line of a call that was refused.
+    pub fn put_refused(&mut self, place: u32, letter: u8, number: u8, count: u32)
+        requires { HasRoom (line place letter (refusal number count)) self.old }
+        ensures { Adds (line place letter (refusal number count)) self.old self.new }
+    {
+        self.put_head(place, letter);
+        self.put_bytes(b" no");
+        self.put_refusal(number, count);
+        self.put_byte(b'\n');
+    }
+
+    // The last line.
+    pub fn put_live(&mut self, live: u32)
+        requires { HasRoom (live_line live) self.old }
+        ensures { Adds (live_line live) self.old self.new }
+    {
+        self.put_words(b"live", live);
+    }
+
+    // The single line of a network file that is refused.
+    pub fn put_network(&mut self, number: u8)
+        requires { HasRoom (network_line number) self.old }
+        ensures { Adds (network_line number) self.old self.new }
+    {
+        self.put_words(b"net no", u32::from(number));
+    }
 }
