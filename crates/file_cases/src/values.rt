@@ -5,6 +5,7 @@ use super::{image, lines};
 use network::{Link, Network};
 use refusals::Refusal;
 use std::io;
+use streams::show;
 
 // The first bytes of an image that are shown.
 const SHOWN: usize = 16;
@@ -51,7 +52,8 @@ fn show_written(
             length
         }
         Err(refusal) => {
-            print!(rt; " no {}, buffer ", u8::from(refusal))?;
+            show::no(rt, refusal)?;
+            print!(rt; ", buffer ")?;
             0
         }
     };
@@ -62,10 +64,12 @@ fn show_written(
 fn check_and_write(rt: &HostRuntime, network: Network, room: usize) -> io::Result<()>
     requires { room ≤ 400 }
 {
+    print!(rt; " check")?;
     match network::check_network(network) {
-        Ok(()) => print!(rt; " check passed, write")?,
-        Err(refusal) => print!(rt; " check no {}, write", u8::from(refusal))?,
+        Ok(()) => print!(rt; " passed")?,
+        Err(refusal) => show::no(rt, refusal)?,
     }
+    print!(rt; ", write")?;
     let mut buffer = [image::FILL; image::ROOM];
     let written = network_file::write_network(network, &mut buffer[..room]);
     show_written(rt, &buffer, written)
