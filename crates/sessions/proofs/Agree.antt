@@ -1,6 +1,8 @@
 -- States that show the same agree, and what a quote depends on. Assumes nothing.
 use mathlib.Core.Path.{◌≡◌, refl, sym, ap, ap₂, subst, ◌∙◌}
+use Prim.Native.Nat.{ℕ}
 use mathlib.Core.List.{List, ◌∷◌, map, nil≢cons, head-eq_of_cons-eq, tail-eq_of_cons-eq}
+use Rattle.std.specs.Prelude.{Result, Err}
 use Rattle.refusals.specs.Refusals.{Outcome, given, refused}
 use Rattle.refusals.specs.declared.Refusal.{Refusal}
 use Rattle.refusals.proofs.Refusals.{refusal_only}
@@ -11,23 +13,22 @@ use Rattle.ledger.specs.Ledger.{AnsweredCall, did, call_of}
 use Rattle.ledger.specs.Demand.{Runs, over, call_then}
 use Rattle.ledger.proofs.Quoted.{quote_depends}
 use Rattle.state.specs.declared.Quoted.{Quoted}
-use Rattle.state.specs.State.{view_of, not_quoted, Quotes}
+use Rattle.state.specs.State.{view_of, Quotes}
 use Rattle.state.proofs.Replies.{quotes_back}
-use Rattle.sessions.specs.Calls.{Tells, shown_of, not_shown, counted_of, not_counted}
-use Rattle.sessions.specs.Ways.{numbered_of, not_numbered}
+use Rattle.sessions.specs.Calls.{Tells, shown_of}
 use Rattle.sessions.specs.Stored.{ArrangementFree, StoredQuoteDepends}
 use Rattle.sessions.proofs.Stored.{stored_by_rules, number_tells}
 use Rattle.sessions.proofs.Meets.{Named, lookup_named, count_named, ways_named}
 
 -- ---- two answers to one outcome are the same
-tells_same : {A B : Type 0} (of : A → B) (not : Refusal → B) (o : Outcome A) → Named o → (a b : B) → Tells of not o a → Tells of not o b → a ≡ b
-tells_same of not (given x) h a b p q = p ∙ sym q
-tells_same of not (refused k) h a b p q = p.2 ∙ ap not (number_tells k p.0 q.0 p.1 q.1 h.2) ∙ sym q.2
+tells_same : {A B : Type 0} (of : A → B) (o : Outcome A) → Named o → (a b : Result B Refusal) → Tells of o a → Tells of o b → a ≡ b
+tells_same of (given x) h a b p q = p ∙ sym q
+tells_same of (refused k) h a b p q = p.2 ∙ ap Err (number_tells k p.0 q.0 p.1 q.1 h.2) ∙ sym q.2
 
-quotes_same : (r : Reply) (a b : Quoted) → Quotes r a → Quotes r b → a ≡ b
+quotes_same : (r : Reply) (a b : Result Quoted Refusal) → Quotes r a → Quotes r b → a ≡ b
 quotes_same (schedule held count) a b p q = p ∙ sym q
 quotes_same freed a b p q = absurd p
-quotes_same (refusal k count) a b p q = p.3 ∙ ap not_quoted (refusal_only p.0 q.0 (p.1 ∙ sym q.1) (p.2 ∙ sym q.2)) ∙ sym q.3
+quotes_same (refusal k count) a b p q = p.3 ∙ ap Err (refusal_only p.0 q.0 (p.1 ∙ sym q.1) (p.2 ∙ sym q.2)) ∙ sym q.3
 
 -- ---- the calls of a list tell its steps and what the last view shows
 runs_same : {v last end : View} {steps others : List AnsweredCall} → Runs v steps last → Runs v others end → map call_of steps ≡ map call_of others
@@ -45,14 +46,14 @@ pub arrangement_free : ArrangementFree
 arrangement_free st other e =
     record {
       lookups = λ n r q a b.
-          tells_same shown_of not_shown (lookup (view_of st) n) (lookup_named (view_of st) n) r.shown q.shown a.shown
-          (subst (λ (v : View). Tells shown_of not_shown (lookup v n) q.shown) (sym e) b.shown);
+          tells_same shown_of (lookup (view_of st) n) (lookup_named (view_of st) n) r.answer q.answer a.shown
+          (subst (λ (v : View). Tells shown_of (lookup v n) q.answer) (sym e) b.shown);
       counts = λ l r q a b.
-          tells_same counted_of not_counted (free_count (view_of st) l) (count_named (view_of st) l) r.counted q.counted a.counted
-          (subst (λ (v : View). Tells counted_of not_counted (free_count v l) q.counted) (sym e) b.counted);
+          tells_same (λ (n : ℕ). n) (free_count (view_of st) l) (count_named (view_of st) l) r.answer q.answer a.counted
+          (subst (λ (v : View). Tells (λ (n : ℕ). n) (free_count v l) q.answer) (sym e) b.counted);
       ways = λ route r q a b.
-          tells_same numbered_of not_numbered (ways_of (view_of st) route) (ways_named (view_of st) route) r.numbered q.numbered a.numbered
-          (subst (λ (v : View). Tells numbered_of not_numbered (ways_of v route) q.numbered) (sym e) b.numbered);
+          tells_same (λ (n : ℕ). n) (ways_of (view_of st) route) (ways_named (view_of st) route) r.answer q.answer a.numbered
+          (subst (λ (v : View). Tells (λ (n : ℕ). n) (ways_of v route) q.answer) (sym e) b.numbered);
       lists = λ steps others last end a b.
           runs_same (stored_by_rules st last steps a)
           (subst (λ (v : View). Runs v others (view_of end)) (sym e) (stored_by_rules other end others b));

@@ -1,13 +1,14 @@
 -- W-202 at the calls: beside the frames of an answer and of a lookup stand their cycles. Assumes nothing.
-use mathlib.Core.Path.{◌≡◌, refl, sym, ap, ◌∙◌}
+use mathlib.Core.Path.{◌≡◌, refl, sym, ap, subst, ◌∙◌}
 use mathlib.Core.List.{List, []}
 use Prim.Native.Nat.{ℕ, suc, ◌<◌, ◌≤◌}
 use native.Mathlib.Omega.{arith}
 use lib.ListN.{length, length-map}
+use Rattle.std.specs.Prelude.{Result, Ok}
 use Rattle.places.specs.Places.{firsts}
 use Rattle.places.proofs.Firsts.{get_d_firsts, firsts_back, so_many_back}
 use Rattle.refusals.specs.Refusals.{Outcome, given, refused, pass}
-use Rattle.refusals.specs.declared.Verdict.TheVariants.{Passed, Refused}
+use Rattle.refusals.specs.declared.Refusal.{Refusal}
 use Rattle.network.specs.Network.{Topology, topology_of}
 use Rattle.network.specs.Checks.{network_check}
 use Rattle.forwarding.specs.declared.Hop.{Hop}
@@ -27,10 +28,9 @@ use Rattle.ledger.proofs.Scheduled.{scheduled}
 use Rattle.ledger.proofs.Shown.{lookup_given, shown_good}
 use Rattle.routes.proofs.Routes.{route_long}
 use Rattle.routes.proofs.Hops.{route_all_ready}
-use Rattle.state.specs.declared.Quoted.{Quoted}
-use Rattle.state.specs.State.{view_of, Quotes}
+use Rattle.state.specs.State.{view_of, quoted_of, Quotes}
 use Rattle.sessions.specs.declared.Shown.{Shown}
-use Rattle.sessions.specs.Calls.{Tells, shown_of, not_shown}
+use Rattle.sessions.specs.Calls.{Tells, shown_of}
 use Rattle.sessions.specs.Cycles.{CyclesBeside, LookupCycles, AnswerCycles}
 
 -- what holds of every later hop holds of it in eight places
@@ -68,25 +68,23 @@ module _ (net : Topology) (route : List ℕ) (held : Holding) (passed : network_
 
 -- A LOOKUP SHOWS THE CYCLES OF THE FRAMES SHOWN
 pub lookup_cycles : LookupCycles
-lookup_cycles st n q looks p = go (lookup (view_of st) n) refl looks.shown
+lookup_cycles st n q looks x p = go (lookup (view_of st) n) refl (subst (λ (a : Result Shown Refusal). Tells shown_of (lookup (view_of st) n) a) p looks.shown)
   where
-    go : (o : Outcome Session) → lookup (view_of st) n ≡ o → Tells shown_of not_shown o q.shown
-        → CyclesBeside (topology_of st.network) (firsts q.shown.hops q.shown.route 0) q.shown.held
+    go : (o : Outcome Session) → lookup (view_of st) n ≡ o → Tells shown_of o (Ok x) → CyclesBeside (topology_of st.network) (firsts x.hops x.route 0) x.held
     go (given s) e t =
         let g = shown_good (view_of st) n s e in
         let net : Topology = topology_of st.network in
         let there : CyclesBeside net s.route (held_places s.held) =
         beside net s.route s.held (intact_is (view_of st) (lookup_given (view_of st) n s e).0).network g.route (spots_in s.held) (good_frames net s g) g.schedule (good_cycles net s g ∙ ap (schedule_cycles (hops_of net [] s.route)) (good_frames net s g)) in
-        rw (t, firsts_back 8 s.route 0 (route_long net s.route g.route).1) there
-    go (refused k) e t =
-        let z : Passed ≡ Refused t.0 = sym p ∙ ap (λ (a : Shown). a.verdict) t.2 in
-        let y : ◌≡◌ {A = ℕ} 0 1 = cc in absurd (omega arith)
+        let same : x ≡ shown_of s = cc in
+        rw (same, firsts_back 8 s.route 0 (route_long net s.route g.route).1) there
+    go (refused k) e t = let z = t.2 in cc
 
 -- AN ANSWER THAT IS A SCHEDULE GIVES THE CYCLES OF ITS FRAMES
 pub answer_cycles : AnswerCycles
-answer_cycles st call r serves p = go (reply (view_of st) call) refl serves.answer
+answer_cycles st call r serves q p = go (reply (view_of st) call) refl (subst (Quotes (reply (view_of st) call)) p serves.answer)
   where
-    go : (x : Reply) → reply (view_of st) call ≡ x → Quotes x r.answer → CyclesBeside (topology_of st.network) (links_of call) r.answer.held
+    go : (x : Reply) → reply (view_of st) call ≡ x → Quotes x (Ok q) → CyclesBeside (topology_of st.network) (links_of call) q.held
     go (schedule held count) e t =
         let a = scheduled (view_of st) call held count e in
         let net : Topology = topology_of st.network in
@@ -95,8 +93,7 @@ answer_cycles st call r serves p = go (reply (view_of st) call) refl serves.answ
         let c : held.cycles ≡ schedule_cycles (hops_of net [] (links_of call)) (frames_of a.spots) =
         ap (λ (h : Holding). h.cycles) a.gives ∙ cycles_over hops a.delay a.spots ∙ cycles_free net (view_of st).live (links_of call) (frames_of a.spots) in
         let s : IsSchedule (hops_of net [] (links_of call)) a.spots = schedule_unclosed net (view_of st).live (links_of call) a.spots a.schedule in
-        rw t (beside net (links_of call) held (intact_is (view_of st) a.unbroken).network a.passed a.spots f s c)
+        let same : q ≡ quoted_of held count = cc in
+        rw same (beside net (links_of call) held (intact_is (view_of st) a.unbroken).network a.passed a.spots f s c)
     go freed e t = absurd t
-    go (refusal k count) e t =
-        let z : Passed ≡ Refused t.0 = sym p ∙ ap (λ (a : Quoted). a.verdict) t.3 in
-        let y : ◌≡◌ {A = ℕ} 0 1 = cc in absurd (omega arith)
+    go (refusal k count) e t = let z = t.3 in cc

@@ -6,6 +6,7 @@ use Prim.Native.Nat.{ℕ, ◌≤◌}
 use native.Mathlib.Omega.{arith}
 use lib.ListN.{length, length-map}
 use lib.Dec.{eqb}
+use Rattle.std.specs.Prelude.{Result, Ok, Err, ⊤}
 use borrow.Author.Tests.{eqb-false}
 use Rattle.lists.proofs.Count as tests
 use Rattle.places.specs.Places.{firsts}
@@ -15,8 +16,6 @@ use Rattle.trellis.specs.Answer as trellis
 use Rattle.refusals.specs.Refusals.{refusal_number, refusal_count, Outcome, Ruling, given, refused, pass, Pass, refuse_if, refused_or, ruling}
 use Rattle.refusals.specs.declared.Refusal.{Refusal}
 use Rattle.refusals.specs.declared.Refusal.TheVariants.{BrokenState, LinkCount, CycleLength, FrameCount, RangeOutside, LeastOutside, ClosedOutside, RouteLength, UnknownLink, LinkTwice, RatesApart, NumberLive, PlacesFull, NoSchedule, NumberNotLive}
-use Rattle.refusals.specs.declared.Verdict.{Verdict}
-use Rattle.refusals.specs.declared.Verdict.TheVariants as verdict
 use Rattle.refusals.proofs.Refusals.{uncounted}
 use Rattle.network.specs.Network.{Topology, topology_of}
 use Rattle.network.specs.Checks.{bad_count, bad_cycle, bad_frames, bad_range, bad_least, bad_closed, link_check, links_check, network_check}
@@ -46,10 +45,9 @@ use Rattle.table.specs.Table.{session_of, no_place, live_of}
 use Rattle.state.specs.declared.State.{State}
 use Rattle.state.specs.declared.Quoted.{Quoted}
 use Rattle.state.specs.declared.Served.{Served}
-use Rattle.state.specs.State.{view_of, fresh_state, quoted_of, not_quoted, Quotes, released_in, Leaves, Serves}
+use Rattle.state.specs.State.{view_of, fresh_state, quoted_of, Quotes, released_in, Leaves, Serves}
 use Rattle.state.proofs.Replies.{refusal_leaves, stays, moves}
-use Rattle.sessions.specs.Calls.{begun_on, Tells, shown_of, not_shown, counted_of, not_counted}
-use Rattle.sessions.specs.Ways.{numbered_of, not_numbered}
+use Rattle.sessions.specs.Calls.{begun_on, Tells, shown_of}
 use Rattle.sessions.specs.Stored.{StoredRun, over, set_up, quote, release, ContractsMet, BeginMet, StoredSteps, EveryListStored}
 use Rattle.sessions.proofs.Surveying.{told_bounded}
 
@@ -112,30 +110,30 @@ count_named v l =
     named_or (broken_check v) (refused_or (refuse_if b 13) n) (broken_named v) (named_or (refuse_if b 13) n (named_if b UnknownLink refl) tt)
 
 -- ---- the answers: what is given, or the refusal with the number
-told_for : {A B : Type 0} (of : A → B) (not : Refusal → B) (o : Outcome A) → Named o → (q : B) × Tells of not o q
-told_for of not (given a) h = (of a, refl)
-told_for of not (refused k) h = (not h.0, (h.0, h.1, refl))
+told_for : {A B : Type 0} (of : A → B) (o : Outcome A) → Named o → (q : Result B Refusal) × Tells of o q
+told_for of (given a) h = (Ok (of a), refl)
+told_for of (refused k) h = (Err h.0, (h.0, h.1, refl))
 
-quoted_unless : (o : Ruling) (r : Reply) → Named o → (q : Quoted) × Quotes r q → (q : Quoted) × Quotes (unless o r) q
+quoted_unless : (o : Ruling) (r : Reply) → Named o → (q : Result Quoted Refusal) × Quotes r q → (q : Result Quoted Refusal) × Quotes (unless o r) q
 quoted_unless (given p) r h w = w
-quoted_unless (refused k) r h w = (not_quoted h.0, (h.0, h.1, no_count k h, refl))
+quoted_unless (refused k) r h w = (Err h.0, (h.0, h.1, no_count k h, refl))
 
-quoted_over : (T : ℕ) (hops : List Hop) → (q : Quoted) × Quotes (answer_over T hops) q
+quoted_over : (T : ℕ) (hops : List Hop) → (q : Result Quoted Refusal) × Quotes (answer_over T hops) q
 quoted_over T hops = go (route_answer T hops)
   where
-    go : (a : trellis.Answer Spot) → (q : Quoted) × Quotes (reply_of hops a) q
-    go (found d n w) = (quoted_of (held_over hops d w) n, refl)
-    go (blocked n) = (not_quoted (NoSchedule n), (NoSchedule n, refl, refl, refl))
+    go : (a : trellis.Answer Spot) → (q : Result Quoted Refusal) × Quotes (reply_of hops a) q
+    go (found d n w) = (Ok (quoted_of (held_over hops d w) n), refl)
+    go (blocked n) = (Err (NoSchedule n), (NoSchedule n, refl, refl, refl))
 
-freed_unless : (o : Ruling) → Named o → (w : Verdict) × (released_in w ≡ unless o freed)
-freed_unless (given p) h = (verdict.Passed, refl)
-freed_unless (refused k) h = (verdict.Refused h.0, ap₂ refusal h.1 (no_count k h))
+freed_unless : (o : Ruling) → Named o → (w : Result ⊤ Refusal) × (released_in w ≡ unless o freed)
+freed_unless (given p) h = (Ok tt, refl)
+freed_unless (refused k) h = (Err h.0, ap₂ refusal h.1 (no_count k h))
 
 module _ (v : View) where
   checks_named : (call : Call) → Named (checks_of v call)
   checks_named call = named_or (broken_check v) (call_check v.network v.live call) (broken_named v) (call_named v.network v.live call)
 
-  quoted_for : (call : Call) → (q : Quoted) × Quotes (granted v.network v.live call) q → (q : Quoted) × Quotes (reply v call) q
+  quoted_for : (call : Call) → (q : Result Quoted Refusal) × Quotes (granted v.network v.live call) q → (q : Result Quoted Refusal) × Quotes (reply v call) q
   unfolding reply
   quoted_for call w = quoted_unless (checks_of v call) (granted v.network v.live call) (checks_named call) w
 
@@ -143,15 +141,15 @@ module _ (v : View) where
   unfolding ways_of
   ways_named route = named_or (checks_of v (Quote route)) (given (route_ways (hops_of v.network v.live route))) (checks_named (Quote route)) tt
 
-  set_up_quoted : (n : ℕ) (route : List ℕ) → (q : Quoted) × Quotes (reply v (SetUp n route)) q
+  set_up_quoted : (n : ℕ) (route : List ℕ) → (q : Result Quoted Refusal) × Quotes (reply v (SetUp n route)) q
   unfolding granted
   set_up_quoted n route = quoted_for (SetUp n route) (quoted_over v.network.ticks (hops_of v.network v.live route))
 
-  quote_quoted : (route : List ℕ) → (q : Quoted) × Quotes (reply v (Quote route)) q
+  quote_quoted : (route : List ℕ) → (q : Result Quoted Refusal) × Quotes (reply v (Quote route)) q
   unfolding granted
   quote_quoted route = quoted_for (Quote route) (quoted_over v.network.ticks (hops_of v.network v.live route))
 
-  released : (n : ℕ) → (w : Verdict) × (released_in w ≡ reply v (Release n))
+  released : (n : ℕ) → (w : Result ⊤ Refusal) × (released_in w ≡ reply v (Release n))
   unfolding reply granted
   released n = freed_unless (checks_of v (Release n)) (checks_named (Release n))
 
@@ -205,7 +203,7 @@ module _ (st : State) (call : Call) where
   after_call : (after : State) × Leaves st call after
   after_call = left_for (effect call (reply (view_of st) call)) refl
 
-  serving : (q : Quoted) × Quotes (reply (view_of st) call) q → (r : Served) × Serves st call r
+  serving : (q : Result Quoted Refusal) × Quotes (reply (view_of st) call) q → (r : Served Quoted) × Serves st call r
   serving q = (record { answer = q.0; state = after_call.0 }, record { answer = q.1; after = after_call.1 })
 
 -- EACH CONTRACT CAN BE MET ON EVERY STATE
@@ -217,16 +215,16 @@ contracts_met st =
       release = λ n.
           let w = released (view_of st) n in
           let a = after_call st (Release n) in
-          (record { verdict = w.0; state = a.0 }, record { answer = w.1; after = a.1 });
+          (record { answer = w.0; state = a.0 }, record { answer = w.1; after = a.1 });
       lookup = λ n.
-          let q = told_for shown_of not_shown (lookup (view_of st) n) (lookup_named (view_of st) n) in
-          (record { shown = q.0; state = st }, record { shown = q.1; same = refl });
+          let q = told_for shown_of (lookup (view_of st) n) (lookup_named (view_of st) n) in
+          (record { answer = q.0; state = st }, record { shown = q.1; same = refl });
       free_frames_lem = λ l.
-          let q = told_for counted_of not_counted (free_count (view_of st) l) (count_named (view_of st) l) in
-          (record { counted = q.0; state = st }, record { counted = q.1; same = refl });
+          let q = told_for (λ (n : ℕ). n) (free_count (view_of st) l) (count_named (view_of st) l) in
+          (record { answer = q.0; state = st }, record { counted = q.1; same = refl });
       ways = λ route.
-          let q = told_for numbered_of not_numbered (ways_of (view_of st) route) (ways_named (view_of st) route) in
-          (record { numbered = q.0; state = st }, record { numbered = q.1; most = told_bounded (view_of st) route q.0 q.1; same = refl });
+          let q = told_for (λ (n : ℕ). n) (ways_of (view_of st) route) (ways_named (view_of st) route) in
+          (record { answer = q.0; state = st }, record { numbered = q.1; most = told_bounded (view_of st) route q.0 q.1; same = refl });
     }
 
 -- ---- `begin`
@@ -254,15 +252,15 @@ network_named net =
     named_or (refuse_if (bad_count (length net.links)) 2) t (named_if (bad_count (length net.links)) LinkCount refl)
     (named_or (refuse_if (bad_cycle net.ticks) 3) l (named_if (bad_cycle net.ticks) CycleLength refl) (links_named net.ticks net.links))
 
-verdict_for : (o : Ruling) → Named o → (w : Verdict) × (ruling w ≡ o)
-verdict_for (given pass) h = (verdict.Passed, refl)
-verdict_for (refused k) h = (verdict.Refused h.0, ap refused h.1)
+ruled_for : (o : Ruling) → Named o → (w : Result ⊤ Refusal) × (ruling w ≡ o)
+ruled_for (given pass) h = (Ok tt, refl)
+ruled_for (refused k) h = (Err h.0, ap refused h.1)
 
 -- THE CONTRACT OF `begin` CAN BE MET ON EVERY NETWORK
 pub begin_met : BeginMet
 begin_met network =
-    let w = verdict_for (network_check (topology_of network)) (network_named (topology_of network)) in
-    (record { verdict = w.0; state = fresh_state (begun_on (network_check (topology_of network)) network) }, record { verdict = w.1; state = refl })
+    let w = ruled_for (network_check (topology_of network)) (network_named (topology_of network)) in
+    (record { answer = w.0; state = fresh_state (begun_on (network_check (topology_of network)) network) }, record { answer = w.1; state = refl })
 
 -- ---- lists of calls
 -- one call before the steps of others

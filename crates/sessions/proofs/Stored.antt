@@ -3,14 +3,13 @@ use mathlib.Core.Path.{◌≡◌, refl, sym, ap, subst, ◌∙◌}
 use mathlib.Core.Bool.{true, false}
 use mathlib.Core.List.{List, ◌∷◌}
 use Prim.Native.Nat.{ℕ}
-use native.Mathlib.Omega.{arith}
 use lib.Dec.{eqb}
+use Rattle.std.specs.Prelude.{Result, Ok, Err, ⊤}
 use borrow.Author.Tests.{eqb-false}
 use Rattle.places.specs.Places.{firsts}
 use Rattle.refusals.specs.Refusals.{refusal_number, Outcome, Ruling, given, refused, pass}
 use Rattle.refusals.specs.declared.Refusal.{Refusal}
 use Rattle.refusals.specs.declared.Refusal.TheVariants.{NumberNotLive}
-use Rattle.refusals.specs.declared.Verdict.TheVariants.{Passed, Refused}
 use Rattle.refusals.proofs.Refusals.{refusal_only, uncounted}
 use Rattle.network.specs.Network.{Topology, topology_of}
 use Rattle.network.specs.Checks.{network_check}
@@ -26,9 +25,9 @@ use Rattle.ledger.proofs.Whole.{runs_intact, demand3}
 use Rattle.state.specs.declared.State.{State}
 use Rattle.state.specs.State.{view_of}
 use Rattle.state.proofs.Replies.{fresh_shown, quotes_back}
-use Rattle.sessions.specs.declared.Begun.{Begun}
+use Rattle.state.specs.declared.Served.{Served}
 use Rattle.sessions.specs.declared.Shown.{Shown}
-use Rattle.sessions.specs.Calls.{shut_network, begun_on, Begins, Tells, shown_of, not_shown}
+use Rattle.sessions.specs.Calls.{shut_network, begun_on, Begins, Tells, shown_of}
 use Rattle.sessions.specs.Cycles.{CyclesBeside}
 use Rattle.sessions.specs.Stored.{StoredByRules, BegunIntact, StoredDemand3, FreesShown, StoredReleaseFrees}
 use Rattle.sessions.specs.Stored as stored
@@ -52,7 +51,7 @@ stored_by_rules st last steps (stored.release n r w rest) = step (Release n) _ w
 
 -- ---- what `begin` gave
 -- its network passed, and it shows that network fresh
-module _ (network : Network) (r : Begun) (b : Begins network r) where
+module _ (network : Network) (r : Served ⊤) (b : Begins network r) where
   on : Network
   on = begun_on (network_check (topology_of network)) network
 
@@ -89,8 +88,8 @@ pub number_tells : (k : ℕ) (a b : Refusal) → refusal_number a ≡ k → refu
 number_tells k a b p q other =
     refusal_only a b (p ∙ sym q) (uncounted a (λ e. eqb-false k 18 other (sym p ∙ e)) ∙ sym (uncounted b (λ e. eqb-false k 18 other (sym q ∙ e))))
 
-not_live : (q : Shown) → Tells {A = Session} shown_of not_shown (refused 19) q → q ≡ not_shown NumberNotLive
-not_live q w = w.2 ∙ ap not_shown (number_tells 19 w.0 NumberNotLive w.1 refl refl)
+not_live : (q : Result Shown Refusal) → Tells {A = Session} shown_of (refused 19) q → q ≡ Err NumberNotLive
+not_live q w = w.2 ∙ ap Err (number_tells 19 w.0 NumberNotLive w.1 refl refl)
 
 -- DEMAND 3 OF THE STORED STATES
 pub stored_demand3 : StoredDemand3
@@ -100,23 +99,21 @@ stored_demand3 network r b last steps run =
     (subst (λ (v : View). Runs v steps (view_of last)) (begun_view network r b) (stored_by_rules r.state last steps run)) in
     record {
       rules = rules;
-      entry_shown = λ e m q w. subst (λ (o : Outcome Session). Tells shown_of not_shown o q.shown) (rules.entry_shown e m) w.shown;
-      none_shown = λ n h q w. not_live q.shown (subst (λ (o : Outcome Session). Tells shown_of not_shown o q.shown) (rules.none_shown n h) w.shown);
-      cycles_shown = λ n q w p. subst (λ (net : Topology). CyclesBeside net (firsts q.shown.hops q.shown.route 0) q.shown.held) rules.network (lookup_cycles last n q w p);
+      entry_shown = λ e m q w. subst (λ (o : Outcome Session). Tells shown_of o q.answer) (rules.entry_shown e m) w.shown;
+      none_shown = λ n h q w. not_live q.answer (subst (λ (o : Outcome Session). Tells shown_of o q.answer) (rules.none_shown n h) w.shown);
+      cycles_shown = λ n q w s p. subst (λ (net : Topology). CyclesBeside net (firsts s.hops s.route 0) s.held) rules.network (lookup_cycles last n q w s p);
     }
 
 -- ---- a release
 -- A RELEASE FREES EXACTLY ITS SESSION'S FRAMES, at the call
 pub stored_release_frees : StoredReleaseFrees
-stored_release_frees st n q r looks passed w = go (lookup (view_of st) n) refl looks.shown
+stored_release_frees st n q r looks x p w = go (lookup (view_of st) n) refl (subst (λ (a : Result Shown Refusal). Tells shown_of (lookup (view_of st) n) a) p looks.shown)
   where
-    go : (o : Outcome Session) → lookup (view_of st) n ≡ o → Tells shown_of not_shown o q.shown → FreesShown st r.state q
+    go : (o : Outcome Session) → lookup (view_of st) n ≡ o → Tells shown_of o (Ok x) → FreesShown st r.state x
     go (given s) e t =
         record {
           session = s;
-          shown = t;
-          frees = λ x. ap (λ (v : View). held_in v.live x) w.after.view ∙ release_frees (view_of st) n s e x;
+          shown = cc;
+          frees = λ y. ap (λ (v : View). held_in v.live y) w.after.view ∙ release_frees (view_of st) n s e y;
         }
-    go (refused k) e t =
-        let z : Passed ≡ Refused t.0 = sym passed ∙ ap (λ (a : Shown). a.verdict) t.2 in
-        let y : ◌≡◌ {A = ℕ} 0 1 = cc in absurd (omega arith)
+    go (refused k) e t = let z = t.2 in cc

@@ -1,5 +1,5 @@
 -- The number of ways, at the call: what it counts, when it is 0, when it is refused, and what it is where nothing is taken. Assumes nothing.
-use mathlib.Core.Path.{◌≡◌, refl, sym, ap, ap₂, subst, ◌∙◌}
+use mathlib.Core.Path.{◌≡◌, refl, sym, ap, ap₂, ◌∙◌}
 use mathlib.Core.Bool.{true}
 use mathlib.Core.List.{List, [], ◌∷◌}
 use mathlib.Core.Logic.{◌↔◌}
@@ -7,11 +7,10 @@ use Prim.Native.Nat.{ℕ, zero, suc, ◌^◌, ◌≤◌}
 use native.Mathlib.Omega.{arith}
 use borrow.Author.Tests.{ne_eqb}
 use lib.ListN.{get_or, length-map, replicate}
+use Rattle.std.specs.Prelude.{Result, Ok, Err}
 use Rattle.refusals.specs.Refusals.{refusal_number, refusal_count, Outcome, Ruling, given, refused, pass}
 use Rattle.refusals.specs.declared.Refusal.{Refusal}
 use Rattle.refusals.specs.declared.Refusal.TheVariants.{NoSchedule}
-use Rattle.refusals.specs.declared.Verdict.{Verdict}
-use Rattle.refusals.specs.declared.Verdict.TheVariants as verdict
 use Rattle.refusals.proofs.Refusals.{refusal_only, uncounted}
 use Rattle.words.proofs.Bits.{bit_zero}
 use Rattle.network.specs.Network.{no_link, topology_of}
@@ -35,78 +34,70 @@ use Rattle.routes.proofs.Routes.{route_long}
 use Rattle.routes.proofs.Hops.{route_all_ready, one_colour}
 use Rattle.state.specs.declared.State.{State}
 use Rattle.state.specs.declared.Quoted.{Quoted}
-use Rattle.state.specs.State.{view_of, fresh_state, not_quoted, Quotes}
+use Rattle.state.specs.State.{view_of, fresh_state, Quotes}
 use Rattle.state.proofs.Replies.{fresh_shown}
-use Rattle.sessions.specs.declared.Numbered.{Numbered}
-use Rattle.sessions.specs.declared.Surveyed.{Surveyed}
+use Rattle.state.specs.declared.Served.{Served}
 use Rattle.sessions.specs.Calls.{begun_on, Tells}
-use Rattle.sessions.specs.Ways.{numbered_of, not_numbered, Surveys, NumberListed, NumberZero, NumberRefused, NumberOpen, NumberReached}
+use Rattle.sessions.specs.Ways.{Surveys, NumberListed, NumberZero, NumberRefused, NumberOpen, NumberReached}
 use Rattle.sessions.proofs.Stored.{number_tells}
 
 -- ---- an answer tells its outcome
-not_both : (v : Verdict) (x : Refusal) → v ≡ verdict.Passed → v ≡ verdict.Refused x → ⊥
-not_both v x e q = let z : ◌≡◌ {A = ℕ} 0 1 = cc in omega arith
+abbrev pub Numbers : Outcome ℕ → Result ℕ Refusal → Type 0
+Numbers o q = Tells (λ (n : ℕ). n) o q
 
-same_refusal : (v : Verdict) (x y : Refusal) → v ≡ verdict.Refused x → v ≡ verdict.Refused y → x ≡ y
-same_refusal v x y e q = cc
+told_given : (o : Outcome ℕ) (q : Result ℕ Refusal) (n : ℕ) → Numbers o q → (q ≡ Ok n) ↔ (o ≡ given n)
+told_given (given m) q n t = (λ e. let z : m ≡ n = cc in ap given z, λ e. let z : m ≡ n = cc in t ∙ ap Ok z)
+told_given (refused k) q n t = (λ e. let z = t.2 in cc, λ e. cc)
 
-told_given : (o : Outcome ℕ) (q : Numbered) (n : ℕ) → Tells numbered_of not_numbered o q → (q ≡ numbered_of n) ↔ (o ≡ given n)
-told_given (given m) q n t = (λ e. ap given (ap (λ (x : Numbered). x.ways) (sym t ∙ e)), λ e. let z : m ≡ n = cc in t ∙ ap numbered_of z)
-told_given (refused k) q n t = (
-  λ e. absurd (not_both q.verdict t.0 (ap (λ (x : Numbered). x.verdict) e) (ap (λ (x : Numbered). x.verdict) t.2)),
-  λ e. let z : ◌≡◌ {A = ℕ} 0 1 = cc in absurd (omega arith),
-)
-
-told_refused : (o : Outcome ℕ) (q : Numbered) (x : Refusal) → Tells numbered_of not_numbered o q → q ≡ not_numbered x → o ≡ refused (refusal_number x)
-told_refused (given m) q x t e = absurd (not_both q.verdict x (ap (λ (y : Numbered). y.verdict) t) (ap (λ (y : Numbered). y.verdict) e))
+told_refused : (o : Outcome ℕ) (q : Result ℕ Refusal) (x : Refusal) → Numbers o q → q ≡ Err x → o ≡ refused (refusal_number x)
+told_refused (given m) q x t e = cc
 told_refused (refused k) q x t e =
-    let s : t.0 ≡ x = same_refusal q.verdict t.0 x (ap (λ (y : Numbered). y.verdict) t.2) (ap (λ (y : Numbered). y.verdict) e) in
+    let w : q ≡ Err t.0 = t.2 in
+    let s : t.0 ≡ x = cc in
     ap refused (sym t.1 ∙ ap refusal_number s)
 
-refused_told : (o : Outcome ℕ) (q : Numbered) (x : Refusal) → Tells numbered_of not_numbered o q → (refusal_number x ≡ 18 → ⊥) → o ≡ refused (refusal_number x) → q ≡ not_numbered x
-refused_told (given m) q x t h e = let z : ◌≡◌ {A = ℕ} 0 1 = cc in absurd (omega arith)
+refused_told : (o : Outcome ℕ) (q : Result ℕ Refusal) (x : Refusal) → Numbers o q → (refusal_number x ≡ 18 → ⊥) → o ≡ refused (refusal_number x) → q ≡ Err x
+refused_told (given m) q x t h e = cc
 refused_told (refused k) q x t h e =
     let z : k ≡ refusal_number x = cc in
-    t.2 ∙ ap not_numbered (number_tells (refusal_number x) t.0 x (t.1 ∙ z) refl (ne_eqb (refusal_number x) 18 h))
+    t.2 ∙ ap Err (number_tells (refusal_number x) t.0 x (t.1 ∙ z) refl (ne_eqb (refusal_number x) 18 h))
 
 -- ---- and so does a quote's
-quote_told : (r : Reply) (q : Quoted) (x : Refusal) → Quotes r q → (q ≡ not_quoted x) ↔ (r ≡ refusal (refusal_number x) (refusal_count x))
-quote_told (schedule held count) q x t = (
-  λ e. absurd (not_both q.verdict x (ap (λ (y : Quoted). y.verdict) t) (ap (λ (y : Quoted). y.verdict) e)),
-  λ e. let z : ◌≡◌ {A = ℕ} 0 1 = cc in absurd (omega arith),
-)
+quote_told : (r : Reply) (q : Result Quoted Refusal) (x : Refusal) → Quotes r q → (q ≡ Err x) ↔ (r ≡ refusal (refusal_number x) (refusal_count x))
+quote_told (schedule held count) q x t = (λ e. cc, λ e. cc)
 quote_told freed q x t = absurd t
 quote_told (refusal k c) q x t = (
-  λ e. let s : t.0 ≡ x = same_refusal q.verdict t.0 x (ap (λ (y : Quoted). y.verdict) t.3) (ap (λ (y : Quoted). y.verdict) e) in
+  λ e. let w : q ≡ Err t.0 = t.3 in
+      let s : t.0 ≡ x = cc in
       ap₂ refusal (sym t.1 ∙ ap refusal_number s) (sym t.2 ∙ ap refusal_count s),
-  λ e. let n : k ≡ refusal_number x = cc in let m : c ≡ refusal_count x = cc in t.3 ∙ ap not_quoted (refusal_only t.0 x (t.1 ∙ n) (t.2 ∙ m)),
+  λ e. let n : k ≡ refusal_number x = cc in let m : c ≡ refusal_count x = cc in t.3 ∙ ap Err (refusal_only t.0 x (t.1 ∙ n) (t.2 ∙ m)),
 )
 
 -- THE NUMBER IS 0 EXACTLY WHEN A QUOTE IS BLOCKED
 pub number_zero : NumberZero
 number_zero st route r q s w = (
-  λ e. let b = (ways_zero (view_of st) route).0 ((told_given (ways_of (view_of st) route) r.numbered 0 s.numbered).0 e) in
+  λ e. let b = (ways_zero (view_of st) route).0 ((told_given (ways_of (view_of st) route) r.answer 0 s.numbered).0 e) in
       (b.0, (quote_told (reply (view_of st) (Quote route)) q.answer (NoSchedule b.0) w.answer).1 b.1),
-  λ (n, e). (told_given (ways_of (view_of st) route) r.numbered 0 s.numbered).1
+  λ (n, e). (told_given (ways_of (view_of st) route) r.answer 0 s.numbered).1
       ((ways_zero (view_of st) route).1 (n, (quote_told (reply (view_of st) (Quote route)) q.answer (NoSchedule n) w.answer).0 e)),
 )
 
 -- A CHECK REFUSES IT EXACTLY WHERE IT REFUSES A QUOTE
 pub number_refused : NumberRefused
 number_refused st route r q s w x = (
-  λ e. let b = (ways_refused (view_of st) route (refusal_number x)).0 (told_refused (ways_of (view_of st) route) r.numbered x s.numbered e) in (
+  λ e. let b = (ways_refused (view_of st) route (refusal_number x)).0 (told_refused (ways_of (view_of st) route) r.answer x s.numbered e) in (
     (quote_told (reply (view_of st) (Quote route)) q.answer x w.answer).1 (b.0 ∙ ap (refusal (refusal_number x)) (sym (uncounted x b.1))),
     b.1,
   ),
-  λ (e, h). refused_told (ways_of (view_of st) route) r.numbered x s.numbered h
+  λ (e, h). refused_told (ways_of (view_of st) route) r.answer x s.numbered h
       ((ways_refused (view_of st) route (refusal_number x)).1
       ((quote_told (reply (view_of st) (Quote route)) q.answer x w.answer).0 e ∙ ap (refusal (refusal_number x)) (uncounted x h), h)),
 )
 
 -- WHAT IS GIVEN IS THE LENGTH OF EVERY LIST OF ALL SCHEDULES
-given_ways : (st : State) (route : List ℕ) (r : Surveyed) (n : ℕ) → Surveys st route r → r.numbered ≡ numbered_of n
+given_ways : (st : State) (route : List ℕ) (r : Served ℕ) (n : ℕ) → Surveys st route r → r.answer ≡ Ok n
     → (intact (view_of st) ≡ true) × (route_check (view_of st).network route ≡ given pass) × (n ≡ route_ways (hops_of (view_of st).network (view_of st).live route))
-given_ways st route r n s e = ways_given (view_of st) route n ((told_given (ways_of (view_of st) route) r.numbered n s.numbered).0 e)
+given_ways st route r n s e = ways_given (view_of st) route n ((told_given (ways_of (view_of st) route) r.answer n s.numbered).0 e)
 
 pub number_listed : NumberListed
 number_listed st route r n s e list once each = ways_only (hops_of (view_of st).network (view_of st).live route) list once each ∙ sym (given_ways st route r n s e).2
@@ -131,12 +122,8 @@ ways_bounded v route n e =
           (route_all_ready v.network v.live route (intact_is v g.0).network g.1) (one_colour v.network v.live route),
     )
 
-pub told_bounded : (v : View) (route : List ℕ) (q : Numbered) → Tells numbered_of not_numbered (ways_of v route) q → q.ways ≤ 64 ^ 8
-told_bounded v route q t = go (ways_of v route) refl t
-  where
-    go : (o : Outcome ℕ) → ways_of v route ≡ o → Tells numbered_of not_numbered o q → q.ways ≤ 64 ^ 8
-    go (given n) e w = subst (λ (x : Numbered). x.ways ≤ 64 ^ 8) (sym w) (ways_bounded v route n e)
-    go (refused k) e w = subst (λ (x : Numbered). x.ways ≤ 64 ^ 8) (sym w.2) (omega arith)
+pub told_bounded : (v : View) (route : List ℕ) (q : Result ℕ Refusal) → Numbers (ways_of v route) q → (n : ℕ) → q ≡ Ok n → n ≤ 64 ^ 8
+told_bounded v route q t n e = ways_bounded v route n ((told_given (ways_of v route) q n t).0 e)
 
 -- ---- 64 TO THE POWER 8: eight links of 64 frames, all open, each with a range of 64
 abbrev open_link : Link
@@ -186,7 +173,7 @@ number_reached = (
   widest,
   (
     longest,
-    λ b r begins s. (told_given (ways_of (view_of b.state) longest) r.numbered (64 ^ 8) s.numbered).1
+    λ b r begins s. (told_given (ways_of (view_of b.state) longest) r.answer (64 ^ 8) s.numbered).1
         (ap (λ (st : State). ways_of (view_of st) longest) (begins.state ∙ ap (λ (o : Ruling). fresh_state (begun_on o widest)) widest_passed)
         ∙ ap (λ (v : View). ways_of v longest) (fresh_shown widest) ∙ widest_ways),
   ),

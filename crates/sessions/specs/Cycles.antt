@@ -1,16 +1,16 @@
 -- W-202 at the calls: the cycles of an answer and of a lookup are those of the frames beside them. Assumes nothing.
-use Rattle.std.specs.Prelude.{◌≡◌, List, [], ℕ, ◌<◌, ◌≤◌, length, get_or}
+use Rattle.std.specs.Prelude.{◌≡◌, List, [], ℕ, Ok, ◌<◌, ◌≤◌, length, get_or}
 use Rattle.places.specs.Places.{firsts}
-use Rattle.refusals.specs.declared.Verdict.TheVariants.{Passed}
 use Rattle.network.specs.Network.{Topology, topology_of}
 use Rattle.forwarding.specs.declared.Held.{Held}
 use Rattle.forwarding.specs.Cycles.{schedule_cycles, LaterHop, Keeps, Lies, Follows, NotBelow}
 use Rattle.ledger.specs.Sessions.{hops_of}
 use Rattle.ledger.specs.Calls.{Call, links_of}
 use Rattle.state.specs.declared.State.{State}
+use Rattle.state.specs.declared.Quoted.{Quoted}
 use Rattle.state.specs.declared.Served.{Served}
 use Rattle.state.specs.State.{Serves}
-use Rattle.sessions.specs.declared.Looked.{Looked}
+use Rattle.sessions.specs.declared.Shown.{Shown}
 use Rattle.sessions.specs.Calls.{Looks}
 
 -- beside the frames of a route's links stand their cycles, "unused hop and link places hold 0"; each frame is led to by a number from Y up to Z that fits, lies in its cycle,
@@ -25,10 +25,10 @@ pub record CyclesBeside (net : Topology) (route : List ℕ) (h : Held) : Type 0 
 
 -- A LOOKUP SHOWS THE CYCLES OF THE FRAMES SHOWN, on every state, whoever built it
 abbrev pub LookupCycles : Type 0
-LookupCycles = (st : State) (n : ℕ) (q : Looked) → Looks st n q → q.shown.verdict ≡ Passed
-    → CyclesBeside (topology_of st.network) (firsts q.shown.hops q.shown.route 0) q.shown.held
+LookupCycles = (st : State) (n : ℕ) (q : Served Shown) → Looks st n q → (s : Shown) → q.answer ≡ Ok s
+    → CyclesBeside (topology_of st.network) (firsts s.hops s.route 0) s.held
 
 -- AN ANSWER THAT IS A SCHEDULE GIVES THE CYCLES OF ITS FRAMES, of a set-up and of a quote, on every state
 abbrev pub AnswerCycles : Type 0
-AnswerCycles = (st : State) (call : Call) (r : Served) → Serves st call r → r.answer.verdict ≡ Passed
-    → CyclesBeside (topology_of st.network) (links_of call) r.answer.held
+AnswerCycles = (st : State) (call : Call) (r : Served Quoted) → Serves st call r → (q : Quoted) → r.answer ≡ Ok q
+    → CyclesBeside (topology_of st.network) (links_of call) q.held

@@ -3,70 +3,28 @@
 // sessions and in the places of a stored session past its hops; no answer goes by it (`ArrangementFree`).
 #![tactic(auto)]
 
-ghost use Rattle.std.specs.Prelude.{◌≡◌, true, false, ◌≤◌};
-ghost use Rattle.ledger.specs.Sound.{intact};
-ghost use Rattle.ledger.specs.Calls.{Call, SetUp, Quote};
+ghost use Rattle.std.specs.Prelude.{◌≡◌, true, ◌≤◌};
+ghost use Rattle.refusals.specs.Refusals.{ruling};
+ghost use Rattle.ledger.specs.Sound.{intact, broken_check};
+ghost use Rattle.ledger.specs.Calls.{SetUp, Quote, reply, lookup, free_count};
 ghost use Rattle.ledger.specs.Ways.{ways_of};
 ghost use Rattle.table.specs.Table.{session_of};
-ghost use Rattle.state.specs.State.{view_of, Serves, Releases};
-ghost use Rattle.sessions.specs.Calls.{shut_network, Begins, Tells, shown_of, not_shown, Looks, not_counted, Tallies};
-ghost use Rattle.sessions.specs.Ways.{numbered_of, not_numbered, Surveys};
+ghost use Rattle.state.specs.State.{view_of, Quotes, Serves, Releases};
+ghost use Rattle.sessions.specs.Calls.{shut_network, Begins, Tells, shown_of, Looks, Tallies};
+ghost use Rattle.sessions.specs.Ways.{Surveys};
 
 use forwarding::Held;
 use network::{Link, Network};
-use refusals::{Refusal, Verdict};
-use state::{Released, Served, State};
+use refusals::Refusal;
+use state::{Quoted, Served, State};
 use table::Place;
-
-// What `begin` answers: the verdict of the network's checks, and a state that holds no sessions.
-#[derive(Clone, Copy)]
-pub struct Begun {
-    pub verdict: Verdict,
-    pub state: State,
-}
 
 // What a lookup shows: the session's hops, their links, hop 0 first, and what it holds; unused places hold 0.
 #[derive(Clone, Copy)]
 pub struct Shown {
-    pub verdict: Verdict,
     pub hops: usize,
     pub route: [u8; 8],
     pub held: Held,
-}
-
-// What a lookup answers: what it shows, and the state, which is the same.
-#[derive(Clone, Copy)]
-pub struct Looked {
-    pub shown: Shown,
-    pub state: State,
-}
-
-// The number of free frames of a link, 0 where it is refused.
-#[derive(Clone, Copy)]
-pub struct Counted {
-    pub verdict: Verdict,
-    pub count: u32,
-}
-
-// The number of free frames of a link, and the state, which is the same.
-#[derive(Clone, Copy)]
-pub struct Tallied {
-    pub counted: Counted,
-    pub state: State,
-}
-
-// The number of ways through a route, 0 where it is refused.
-#[derive(Clone, Copy)]
-pub struct Numbered {
-    pub verdict: Verdict,
-    pub ways: u64,
-}
-
-// The number of ways through a route, and the state, which is the same.
-#[derive(Clone, Copy)]
-pub struct Surveyed {
-    pub numbered: Numbered,
-    pub state: State,
 }
 
 // A network that passes its checks and on which nothing can be held: one link of one frame, which is closed.
@@ -88,85 +46,70 @@ fn shut_network() -> Network
 
 // The state of a fresh network: its checks, and no sessions. Where the network is refused, the state is one that can hold nothing, so that no caller who
 // built no state by hand meets 0.
-pub fn begin(network: Network) -> Begun
+pub fn begin(network: Network) -> Served<()>
     ensures { Begins network result }
 {
-    match network::check_network(network) {
-        Verdict::Refused(refusal) => {
-            let state = state::fresh_state(shut_network());
-            Begun {
-                verdict: Verdict::Refused(refusal),
-                state,
-            }
-        }
-        Verdict::Passed => {
-            let state = state::fresh_state(network);
-            Begun {
-                verdict: Verdict::Passed,
-                state,
-            }
-        }
-    }
+    let answer = network::check_network(network);
+    let state = match answer {
+        Ok(()) => state::fresh_state(network),
+        Err(_) => state::fresh_state(shut_network()),
+    };
+    Served { answer, state }
 }
 
-// A set-up or a quote on a broken state: refused with 0, and the state is the same.
-fn broken_answer(st: State) -> Served
-    ensures { (call : Call) → intact (view_of st) ≡ false → Serves st call result }
+// Check 0 of a state.
+fn check_state(st: State) -> Result<(), Refusal>
+    ensures { ruling result ≡ broken_check (view_of st) }
 {
-    Served {
-        answer: state::refused(Refusal::BrokenState),
-        state: st,
+    if state_check::broken(st) {
+        return Err(Refusal::BrokenState);
     }
+    Ok(())
 }
 
 // Set-up: holds the frames of the least-delay schedule over the route for a session of this number. Refuses with 0, 12 to 17, or 18 with
 // the count.
-pub fn set_up(st: State, number: u32, route: &[u8]) -> Served
+pub fn set_up(st: State, number: u32, route: &[u8]) -> Served<Quoted>
     ensures { Serves st (SetUp number route.now) result }
 {
-    if state_check::broken(st) {
-        return broken_answer(st);
+    if let Err(refusal) = check_state(st) {
+        return Served {
+            answer: Err(refusal),
+            state: st,
+        };
     }
     state::set_up(st, number, route)
 }
 
+// A quote's answer.
+fn answer_quote(st: State, route: &[u8]) -> Result<Quoted, Refusal>
+    ensures { Quotes (reply (view_of st) (Quote route.now)) result }
+{
+    check_state(st)?;
+    state::quote(st, route)
+}
+
 // Quote: the same answer, nothing held. Refuses with 0, 12 to 15, or 18 with the count.
-pub fn quote(st: State, route: &[u8]) -> Served
+pub fn quote(st: State, route: &[u8]) -> Served<Quoted>
     ensures { Serves st (Quote route.now) result }
 {
-    if state_check::broken(st) {
-        return broken_answer(st);
-    }
     Served {
-        answer: state::quote(st, route),
+        answer: answer_quote(st, route),
         state: st,
     }
 }
 
 // Release: frees exactly the frames of the session with the number. Refuses with 0 or 19.
-pub fn release(st: State, number: u32) -> Released
+pub fn release(st: State, number: u32) -> Served<()>
     ensures { Releases st number result }
 {
-    if state_check::broken(st) {
-        return Released {
-            verdict: Verdict::Refused(Refusal::BrokenState),
+    if let Err(refusal) = check_state(st) {
+        return Served {
+            answer: Err(refusal),
             state: st,
         };
     }
     state::release(st, number)
-}
-
-// A lookup that is refused.
-fn not_shown(refusal: Refusal) -> Shown
-    ensures { result ≡ not_shown refusal }
-{
-    let held = table::nothing_held();
-    Shown {
-        verdict: Verdict::Refused(refusal),
-        hops: 0,
-        route: [0u8; 8],
-        held,
-    }
 }
 
 // What a lookup shows of a stored session, the places not in use cleared. Check 0: it has at most 8 hops.
@@ -174,121 +117,87 @@ fn shown_place(place: Place) -> Shown
     requires { place.hops ≤ 8 }
     ensures { result ≡ shown_of (session_of place) }
 {
-    let hops = place.hops as usize;
+    let hops = usize::from(place.hops);
     let links = place.route;
     let route = table::in_eight(&links[..hops]);
     let held = table::cleared(place.held, hops);
-    Shown {
-        verdict: Verdict::Passed,
-        hops,
-        route,
-        held,
-    }
+    Shown { hops, route, held }
+}
+
+// A lookup's answer.
+fn answer_lookup(st: State, number: u32) -> Result<Shown, Refusal>
+    ensures { Tells shown_of (lookup (view_of st) number) result }
+{
+    check_state(st)?;
+    let table = st.table;
+    let Some(at) = table::place_of(table, number) else {
+        return Err(Refusal::NumberNotLive);
+    };
+    Ok(shown_place(table.places[at]))
 }
 
 // Lookup: the route, frames, cycles and delay of the live session with the number. Refuses with 0 or 19.
-pub fn lookup(st: State, number: u32) -> Looked
+pub fn lookup(st: State, number: u32) -> Served<Shown>
     ensures { Looks st number result }
 {
-    if state_check::broken(st) {
-        return Looked {
-            shown: not_shown(Refusal::BrokenState),
-            state: st,
-        };
-    }
-    let table = st.table;
-    let at = table::place_of(table, number);
-    if table.live <= at {
-        return Looked {
-            shown: not_shown(Refusal::NumberNotLive),
-            state: st,
-        };
-    }
-    let place = table.places[at];
-    Looked {
-        shown: shown_place(place),
+    Served {
+        answer: answer_lookup(st, number),
         state: st,
     }
 }
 
-// A count of free frames that is refused.
-fn not_counted(refusal: Refusal) -> Counted
-    ensures { result ≡ not_counted refusal }
+// The answer of free frames.
+fn answer_free_frames(st: State, link: u8) -> Result<u32, Refusal>
+    ensures { Tells (λ n. n) (free_count (view_of st) link) result }
 {
-    Counted {
-        verdict: Verdict::Refused(refusal),
-        count: 0,
-    }
-}
-
-// Free frames of a link: how many of its frames are neither closed nor held. Refuses with 0 or 13.
-pub fn free_frames(st: State, link: u8) -> Tallied
-    ensures { Tallies st link result }
-{
-    if state_check::broken(st) {
-        return Tallied {
-            counted: not_counted(Refusal::BrokenState),
-            state: st,
-        };
-    }
+    check_state(st)?;
     let network = st.network;
-    let at = link as usize;
+    let at = usize::from(link);
     if network.count <= at {
-        return Tallied {
-            counted: not_counted(Refusal::UnknownLink),
-            state: st,
-        };
+        return Err(Refusal::UnknownLink);
     }
     let held = table::held_words(st.table);
     let of = network.links[at];
     let place = words::bank(link, 0);
-    let counted = Counted {
-        verdict: Verdict::Passed,
-        count: words::free_frames(of.frames, of.closed, held[place]),
-    };
-    Tallied { counted, state: st }
+    Ok(words::free_frames(of.frames, of.closed, held[place]))
 }
 
-// A number of ways that is refused.
-fn not_numbered(refusal: Refusal) -> Numbered
-    ensures { result ≡ not_numbered refusal }
+// Free frames of a link: how many of its frames are neither closed nor held. Refuses with 0 or 13.
+pub fn free_frames(st: State, link: u8) -> Served<u32>
+    ensures { Tallies st link result }
 {
-    Numbered {
-        verdict: Verdict::Refused(refusal),
-        ways: 0,
+    Served {
+        answer: answer_free_frames(st, link),
+        state: st,
     }
 }
 
 // The number of ways where check 0 has passed: the quote's other checks, and the schedules over the frames now free, counted.
-fn count_ways(st: State, route: &[u8]) -> Numbered
+fn count_ways(st: State, route: &[u8]) -> Result<u64, Refusal>
     requires { intact (view_of st) ≡ true }
-    ensures { Tells numbered_of not_numbered (ways_of (view_of st) route.now) result }
+    ensures { Tells (λ n. n) (ways_of (view_of st) route.now) result }
 {
-    match routes::check_route(st.network, route) {
-        Verdict::Refused(refusal) => return not_numbered(refusal),
-        Verdict::Passed => {}
-    }
+    routes::check_route(st.network, route)?;
     let held = table::held_words(st.table);
     let hops = routes::route_hops(st.network, &held, route);
-    Numbered {
-        verdict: Verdict::Passed,
-        ways: ways::number_over(hops, route.len()),
-    }
+    Ok(ways::number_over(hops, route.len()))
+}
+
+// The answer of how many ways through.
+fn answer_ways(st: State, route: &[u8]) -> Result<u64, Refusal>
+    ensures { Tells (λ n. n) (ways_of (view_of st) route.now) result }
+{
+    check_state(st)?;
+    count_ways(st, route)
 }
 
 // How many ways through: the number of schedules over the route in the frames now free, nothing held. Refuses with 0 or 12 to 15, as a quote does; where that is
 // blocked the number is 0.
-pub fn number_of_ways(st: State, route: &[u8]) -> Surveyed
+pub fn number_of_ways(st: State, route: &[u8]) -> Served<u64>
     ensures { Surveys st route.now result }
 {
-    if state_check::broken(st) {
-        return Surveyed {
-            numbered: not_numbered(Refusal::BrokenState),
-            state: st,
-        };
-    }
-    Surveyed {
-        numbered: count_ways(st, route),
+    Served {
+        answer: answer_ways(st, route),
         state: st,
     }
 }

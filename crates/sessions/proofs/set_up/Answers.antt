@@ -1,6 +1,6 @@
 -- `sessions::set_up` meets its contract. Assumes nothing.
-use Rattle.sessions.proofs.First.{is_broken}
+use Rattle.sessions.proofs.First.{broken_serves}
 use Rattle.sessions.proofs.set_up.Goals as goal
 
-pub returns-then-broken : goal.returns-then-broken
-returns-then-broken c = c.broken_answer.ensures _ (is_broken c.args.st _ c.broken.ensures c.if-broken.true)
+pub returns-in-Err : goal.returns-in-Err
+returns-in-Err c = broken_serves c.args.st _ c.check_state.ensures _ c.in-Err.is _

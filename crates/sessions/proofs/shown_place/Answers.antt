@@ -9,4 +9,4 @@ use Rattle.sessions.proofs.shown_place.Goals as goal
 
 pub returns : goal.returns
 returns c = let long : length c.args.place.route ≡ 8 = search rules in
-    place_shown c.args.place _ _ (part_filled c.args.place.hops c.args.place.route _ (omega (arith, c.requires, long)) c.in_eight-route.ensures) c.cleared-held.ensures
+    place_shown c.args.place _ c.from-hops.ensures _ _ (part_filled c.from-hops.result c.args.place.route _ (omega (arith, c.requires, c.from-hops.ensures, long)) c.in_eight-route.ensures) c.cleared-held.ensures
