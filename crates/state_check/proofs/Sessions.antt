@@ -1,22 +1,23 @@
 -- A stored session that keeps the rules, test by test. Assumes nothing.
 use mathlib.Core.Path.{◌≡◌, refl, sym, ap, subst, ◌∙◌}
-use mathlib.Core.Bool.{Bool, true, false, ◌&&◌, cond}
-use mathlib.Core.List.{List, []}
+use mathlib.Core.Bool.{Bool, true, false, true≢false, ◌&&◌, cond}
+use mathlib.Core.List.{List, [], ◌∷◌, map}
 use mathlib.Core.Option.{some, none}
-use Prim.Native.Nat.{ℕ, ◌+◌, ◌<◌, ◌≤◌}
+use Prim.Native.Nat.{ℕ, ◌<◌, ◌≤◌}
 use native.Mathlib.Omega.{arith}
-use lib.ListN.{length, get_or, take, drop, replicate}
+use lib.ListN.{length, take, replicate}
 use lib.Seq.{length-take-le}
 use lib.Dec.{eqb}
+use lib.Pointwise.{pointwise}
 use borrow.Author.Tests.{lt-ltb, ne_eqb}
+use Rattle.std.specs.Prelude.{Option, Some, None, Result, Ok, Err, is_err, ⊤}
+use Rattle.std.specs.List.{list_all}
 use Rattle.places.specs.Places.{firsts}
 use Rattle.places.proofs.Firsts.{length_firsts, so_many_back, firsts_take}
 use Rattle.refusals.specs.Refusals.{refusal_number, Ruling, given, refused, pass, ruling}
 use Rattle.refusals.specs.declared.Refusal.{Refusal}
-use Rattle.refusals.specs.declared.Verdict.{Verdict}
-use Rattle.refusals.specs.declared.Verdict.TheVariants.{Passed, Refused}
 use Rattle.words.specs.Bank.{bank_size}
-use Rattle.network.specs.Network.{topology_of}
+use Rattle.network.specs.Network.{Topology, topology_of}
 use Rattle.network.specs.Checks.{network_check}
 use Rattle.network.specs.declared.Network.{Network}
 use Rattle.forwarding.specs.declared.Hop.{Hop}
@@ -37,18 +38,20 @@ use Rattle.ledger.proofs.Held.{frames_joined, same_held_lem}
 use Rattle.routes.specs.Hops.{hops_from, delay_if, walked_delay}
 use Rattle.routes.specs.Inner.{FramesLaid}
 use Rattle.routes.proofs.HopCycles.{schedule_laid}
-use Rattle.routes.specs.declared.Walked.{Walked}
-use Rattle.routes.specs.declared.Walked.TheVariants.{Delayed, Unfit}
 use Rattle.table.specs.declared.Place.{Place}
 use Rattle.table.specs.Table.{session_of, no_place, in_places}
-use Rattle.table.proofs.Live.{in_next, in_end}
 use Rattle.table.proofs.Banks.{words_none}
+use Rattle.state_check.proofs.Same.{same_places}
 use Rattle.state.proofs.Searches.{ticks_told, hops_eight, hops_ready, hops_back}
 
--- a verdict that isn't passed is a refusal
-pub not_passed : (tag : Verdict → ℕ) → tag Passed ≡ 0 → (v : Verdict) → tag v ≡ 1 → (r : Refusal) × (v ≡ Refused r)
-not_passed tag h Passed e = absurd (omega (arith, h, e))
-not_passed tag h (Refused r) e = (r, refl)
+-- a check that fails refuses, and one that doesn't passes
+pub check_fails : (q : Result ⊤ Refusal) → is_err q ≡ true → (n : ℕ) × (ruling q ≡ refused n)
+check_fails (Ok x) e = absurd (true≢false (sym e))
+check_fails (Err r) e = (refusal_number r, refl)
+
+pub check_passes : (q : Result ⊤ Refusal) → is_err q ≡ false → ruling q ≡ given pass
+check_passes (Ok x) e = refl
+check_passes (Err r) e = absurd (true≢false e)
 
 -- a bank in which nothing is held
 pub none_held : HeldWords (replicate bank_size 0) []
@@ -67,17 +70,17 @@ module _ (network : Network) (place : Place) where
     pub taken_length : place.hops ≡ length (take place.hops place.route)
     taken_length = sym (length-take-le place.hops place.route (omega (arith, few, long)))
 
-    module _ (v : Verdict) (ev : ruling v ≡ route_check (topology_of network) (take place.hops place.route)) where
+    module _ (v : Result ⊤ Refusal) (ev : ruling v ≡ route_check (topology_of network) (take place.hops place.route)) where
       told : (r : Ruling) → ruling v ≡ r → route_check (topology_of network) (firsts place.hops place.route 0) ≡ r
       told r e = ap (route_check (topology_of network)) (sym same_route) ∙ sym ev ∙ e
 
-      pub route_fails : (r : Refusal) → v ≡ Refused r → false ≡ good_session (topology_of network) (session_of place)
+      pub route_fails : is_err v ≡ true → false ≡ good_session (topology_of network) (session_of place)
       unfolding good_session
-      route_fails r e = rw (told (refused (refusal_number r)) (ap ruling e))
+      route_fails e = let r = check_fails v e in rw (told (refused r.0) r.1)
 
-      module _ (e : v ≡ Passed) where
+      module _ (e : is_err v ≡ false) where
         pub route_stands : route_check (topology_of network) (take place.hops place.route) ≡ given pass
-        route_stands = sym ev ∙ ap ruling e
+        route_stands = sym ev ∙ check_passes v e
 
         module _ (passed : network_check (topology_of network) ≡ given pass) (laid : List Hop)
             (el : laid ≡ firsts 8 (hops_from network.links (replicate bank_size 0) (take place.hops place.route)) blank_hop) where
@@ -108,7 +111,7 @@ module _ (network : Network) (place : Place) where
           spot_frames = frames_joined (firsts place.hops place.held.frames 0) (firsts place.hops place.held.colours 0) as_many
 
           -- what a walk over them tells of it
-          module _ (w : Walked) (ew : walked_delay w ≡ delay_if network.ticks (firsts place.hops laid no_hop) spots) where
+          module _ (w : Option Delay) (ew : walked_delay w ≡ delay_if network.ticks (firsts place.hops laid no_hop) spots) where
             hops : List Hop
             hops = hops_of (topology_of network) [] (session_of place).route
 
@@ -132,9 +135,9 @@ module _ (network : Network) (place : Place) where
             -- where the route stands, a session is good exactly when what it holds is
             by_walk : good_session (topology_of network) (session_of place) ≡ (is_schedule_lem && (same_cycles && eqb place.held.delay.0 its_delay))
             unfolding good_session good_held is_schedule_lem its_delay same_cycles hops
-            by_walk = rw (told (given pass) (ap ruling e), same_held_lem hops (session_of place).held its_delay as_many)
+            by_walk = rw (told (given pass) (check_passes v e), same_held_lem hops (session_of place).held its_delay as_many)
 
-            module _ (d : Delay) (q : w ≡ Delayed d) where
+            module _ (d : Delay) (q : w ≡ Some d) where
               walked_fits : (is_schedule_lem ≡ true) × (its_delay ≡ d.0)
               unfolding is_schedule_lem its_delay
               walked_fits = fits (is_schedule hops (spots_in (session_of place).held)) (schedule_delay (topology_of network).ticks hops (spots_in (session_of place).held)) (sym walked_told ∙ ap walked_delay q)
@@ -152,12 +155,15 @@ module _ (network : Network) (place : Place) where
               walked_laid = schedule_laid network.ticks place.hops laid place.held.frames spots walk_ready spot_frames schedule
 
               -- and the first of the cycles are the schedule's
-              pub session_walked : (cycles : List ℕ) → cycles ≡ firsts 8 (schedule_cycles (firsts place.hops laid no_hop) (firsts place.hops place.held.frames 0)) 0 → (b : Bool)
-                  → b ≡ (same_list eqb (firsts place.hops place.held.cycles 0) (firsts place.hops cycles 0) && eqb place.held.delay.0 d.0)
+              pub session_walked : length place.held.cycles ≡ 8 → (cycles : List ℕ) → cycles ≡ firsts 8 (schedule_cycles (firsts place.hops laid no_hop) (firsts place.hops place.held.frames 0)) 0 → (b : Bool)
+                  → b ≡ (pointwise eqb (take place.hops place.held.cycles) (take place.hops cycles) && eqb place.held.delay.0 d.0)
                   → b ≡ good_session (topology_of network) (session_of place)
               unfolding same_cycles hops
-              session_walked cycles ec b eb =
-                  let there : b ≡ (same_cycles && eqb place.held.delay.0 its_delay) = eb ∙ rw (cycles_back cycles ec, walked_hops, ← walked_fits.1) in
+              session_walked long' cycles ec b eb =
+                  let eight_cycles : length cycles ≡ 8 = ap length ec ∙ length_firsts 8 (schedule_cycles (firsts place.hops laid no_hop) (firsts place.hops place.held.frames 0)) 0 in
+                  let told' : pointwise eqb (take place.hops place.held.cycles) (take place.hops cycles) ≡ same_list eqb (firsts place.hops place.held.cycles 0) (firsts place.hops cycles 0) =
+                  same_places place.hops place.held.cycles cycles (omega (arith, few, long')) (omega (arith, few, eight_cycles)) in
+                  let there : b ≡ (same_cycles && eqb place.held.delay.0 its_delay) = eb ∙ rw (told', cycles_back cycles ec, walked_hops, ← walked_fits.1) in
                   there ∙ sym (by_walk ∙ rw walked_fits.0)
                 where
                   cycles_back : (cycles : List ℕ) → cycles ≡ firsts 8 (schedule_cycles (firsts place.hops laid no_hop) (firsts place.hops place.held.frames 0)) 0
@@ -167,7 +173,7 @@ module _ (network : Network) (place : Place) where
                       let many : length xs ≡ place.hops = ap (λ (fs : List ℕ). length (schedule_cycles (firsts place.hops laid no_hop) fs)) (sym spot_frames) ∙ cycle_per_hop (firsts place.hops laid no_hop) spots schedule ∙ length_firsts place.hops laid no_hop in
                       ap (λ (l : List ℕ). firsts place.hops l 0) ec ∙ so_many_back 8 place.hops xs 0 many few
 
-            pub session_unfit : w ≡ Unfit → false ≡ good_session (topology_of network) (session_of place)
+            pub session_unfit : w ≡ None → false ≡ good_session (topology_of network) (session_of place)
             unfolding is_schedule_lem its_delay
             session_unfit q = sym (by_walk ∙ unfit is_schedule_lem its_delay (sym walked_told ∙ ap walked_delay q))
               where
@@ -175,27 +181,10 @@ module _ (network : Network) (place : Place) where
                 unfit true x k = cc
                 unfit false x k = refl
 
--- ---- the sessions of a table, one after the other: the first i keep the rules
-module _ (network : Network) (n : ℕ) (places : List Place) where
-  pub record GoodSoFar (i : ℕ) : Type 0 where
-    pub within : i ≤ n
-    pub same : all_of (good_session (topology_of network)) (in_places n places) ≡ all_of (good_session (topology_of network)) (drop i (in_places n places))
+-- ---- the sessions of a table, by its places
+each_good : (net : Topology) (places : List Place) → list_all (λ p. good_session net (session_of p)) places ≡ all_of (good_session net) (map session_of places)
+each_good net [] = refl
+each_good net (p ∷ places) = ap (λ (b : Bool). good_session net (session_of p) && b) (each_good net places)
 
-  pub none_bad : GoodSoFar 0
-  none_bad = record { within = omega arith; same = refl }
-
-  module _ (i : ℕ) (p : GoodSoFar i) where
-    module _ (h : i < n) (b : Bool) (eb : b ≡ good_session (topology_of network) (session_of (get_or places i no_place))) where
-      split : all_of (good_session (topology_of network)) (in_places n places) ≡ (b && all_of (good_session (topology_of network)) (drop (i + 1) (in_places n places)))
-      split =
-          p.same ∙ ap (all_of (good_session (topology_of network))) (in_next n places i h)
-          ∙ ap (λ (x : Bool). x && all_of (good_session (topology_of network)) (drop (i + 1) (in_places n places))) (sym eb)
-
-      pub one_bad : b ≡ false → false ≡ all_of (good_session (topology_of network)) (in_places n places)
-      one_bad e = sym (split ∙ ap (λ (x : Bool). x && all_of (good_session (topology_of network)) (drop (i + 1) (in_places n places))) e)
-
-      pub one_good : b ≡ true → GoodSoFar (i + 1)
-      one_good e = record { within = omega arith; same = split ∙ ap (λ (x : Bool). x && all_of (good_session (topology_of network)) (drop (i + 1) (in_places n places))) e }
-
-    pub all_good : n ≤ i → true ≡ all_of (good_session (topology_of network)) (in_places n places)
-    all_good h = sym (p.same ∙ ap (all_of (good_session (topology_of network))) (in_end n places i h))
+pub all_good : (net : Topology) (n : ℕ) (places : List Place) → n ≤ length places → list_all (λ p. good_session net (session_of p)) (take n places) ≡ all_of (good_session net) (in_places n places)
+all_good net n places h = each_good net (take n places) ∙ rw (firsts_take n places no_place h)

@@ -1,46 +1,28 @@
 // Refusal 0: whether a stored state is broken, for every state that a caller could build by hand.
 #![tactic(auto)]
 
-ghost use Rattle.std.specs.Prelude.{◌≡◌, not, ◌&&◌, ◌≤◌, eqb};
-ghost use Rattle.places.specs.Places.{firsts};
+ghost use Rattle.std.specs.Prelude.{◌≡◌, not, ◌&&◌, ◌≤◌, nat_eq, take};
+ghost use Rattle.std.specs.List.{list_all};
+ghost use lib.Pointwise.{pointwise};
 ghost use Rattle.refusals.specs.Refusals.{given, pass};
 ghost use Rattle.network.specs.Network.{topology_of};
 ghost use Rattle.network.specs.Checks.{network_check};
-ghost use Rattle.ledger.specs.Lists.{all_of, same_list};
 ghost use Rattle.ledger.specs.Sound.{good_session, intact};
-ghost use Rattle.table.specs.Table.{session_of, live_of};
+ghost use Rattle.table.specs.Table.{session_of};
 ghost use Rattle.state.specs.State.{view_of};
 
 use forwarding::{Delay, Held};
 use network::Network;
-use refusals::Verdict;
-use routes::Walked;
 use state::State;
 use table::{Place, Table};
 use words::BANK;
 
-// Whether the first n places of two arrays agree.
-fn same_places(one: [u8; 8], other: [u8; 8], n: usize) -> bool
-    requires { n ≤ 8 }
-    ensures { result ≡ same_list eqb (firsts n one 0) (firsts n other 0) }
-{
-    let mut j: usize = 0;
-    while j < n {
-        if one[j] != other[j] {
-            return false;
-        }
-        j += 1;
-    }
-    true
-}
-
 // Whether these cycles and this delay are held: what is stored beside the frames and their colours, by the rule that gives it.
 fn same_held(held: Held, cycles: [u8; 8], delay: Delay, n: usize) -> bool
     requires { n ≤ 8 }
-    ensures { result ≡ (same_list eqb (firsts n held.cycles 0) (firsts n cycles 0) && eqb held.delay.0 delay.0) }
+    ensures { result ≡ (pointwise nat_eq (take n held.cycles) (take n cycles) && nat_eq held.delay.0 delay.0) }
 {
-    let stored = held.cycles;
-    same_places(stored, cycles, n) && held.delay.0 == delay.0
+    held.cycles[..n] == cycles[..n] && held.delay == delay
 }
 
 // Whether a session's route passes 12 to 15, its frames in their colours are a schedule over unclosed frames, and what it holds is what that schedule holds.
@@ -52,40 +34,28 @@ fn good_session(network: Network, place: Place) -> bool
     if 8 < hops {
         return false;
     }
-    let route = place.route;
-    match routes::check_route(network, &route[..hops]) {
-        Verdict::Refused(_) => return false,
-        Verdict::Passed => {}
+    let route = &place.route[..hops];
+    if routes::check_route(network, route).is_err() {
+        return false;
     }
-    let held = [0u64; BANK];
-    let laid = routes::route_hops(network, &held, &route[..hops]);
-    let stored = place.held;
-    let frames = stored.frames;
-    let colours = stored.colours;
-    match routes::walk(network.ticks, laid, frames, colours, hops) {
-        Walked::Delayed(delay) => {
-            let cycles = routes::cycles(laid, frames, hops);
-            same_held(stored, cycles, delay, hops)
+    let laid = routes::route_hops(network, &[0; BANK], route);
+    let held = place.held;
+    match routes::walk(network.ticks, laid, held.frames, held.colours, hops) {
+        Some(delay) => {
+            let cycles = routes::cycles(laid, held.frames, hops);
+            same_held(held, cycles, delay, hops)
         }
-        Walked::Unfit => false,
+        None => false,
     }
 }
 
 // Whether each live session is so.
 fn good_sessions(network: Network, table: Table) -> bool
     requires { (network_check (topology_of network) ≡ given pass) × (table.live ≤ 96) }
-    ensures { result ≡ all_of (good_session (topology_of network)) (live_of table) }
+    ensures { result ≡ list_all (λ place. good_session (topology_of network) (session_of place)) (take table.live table.places) }
 {
-    let live = table.live;
-    let mut i: usize = 0;
-    while i < live {
-        let place = table.places[i];
-        if !good_session(network, place) {
-            return false;
-        }
-        i += 1;
-    }
-    true
+    let live = &table.places[..table.live];
+    live.iter().all(|place| good_session(network, *place))
 }
 
 // Whether the stored state handed to a call is broken: check 0.
@@ -94,9 +64,8 @@ pub fn broken(st: State) -> bool
 {
     let network = st.network;
     let table = st.table;
-    match network::check_network(network) {
-        Verdict::Refused(_) => return true,
-        Verdict::Passed => {}
+    if network::check_network(network).is_err() {
+        return true;
     }
     if 96 < table.live {
         return true;
