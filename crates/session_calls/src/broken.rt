@@ -93,8 +93,7 @@ fn with_change(st: State, line: &[u8], k: usize) -> State
 // A state built by hand, by one change, in place of a state; whether the comparison tells the two apart.
 pub(super) fn put(rt: &HostRuntime, st: State, line: &[u8]) -> io::Result<State> {
     let next = with_change(st, line, 1);
-    show::text(rt, b" live")?;
-    show::next(rt, next.table.live as u64)?;
+    print!(rt; " live {}", next.table.live)?;
     show::kept(rt, same::state(st, next))?;
     Ok(next)
 }
@@ -102,17 +101,14 @@ pub(super) fn put(rt: &HostRuntime, st: State, line: &[u8]) -> io::Result<State>
 // A state built by hand, by one change or two, and handed to six calls, each on what the one before returned; whether all of it is as it was after them,
 // and it isn't the state that was changed. The state itself stays.
 pub(super) fn case(rt: &HostRuntime, st: State, line: &[u8]) -> io::Result<State> {
-    let one = [0u8; 1];
-    let route: &[u8] = &one;
+    let route = [0u8; 1];
     let built = with_change(with_change(st, line, 1), line, 5);
-    let first = calls::served(rt, built, 9, route, false)?;
-    let second = calls::served(rt, first, 9, route, true)?;
+    let first = calls::set_up(rt, built, 9, &route)?;
+    let second = calls::quote(rt, first, &route)?;
     let third = calls::number_call(rt, second, b'R', 5)?;
     let fourth = calls::number_call(rt, third, b'L', 5)?;
     let fifth = calls::number_call(rt, fourth, b'F', 0)?;
-    let sixth = calls::surveyed(rt, fifth, route)?;
-    let kept = same::state(built, sixth);
-    let other = !same::state(built, st);
-    show::kept(rt, kept & other)?;
+    let sixth = calls::number_of_ways(rt, fifth, &route)?;
+    show::kept(rt, same::state(built, sixth) && !same::state(built, st))?;
     Ok(st)
 }

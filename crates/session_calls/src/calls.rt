@@ -3,9 +3,7 @@ ghost use Rattle.std.specs.Prelude.{◌<◌, ◌≤◌};
 
 use super::{broken, lines, same, show};
 use network::{Link, Network};
-use refusals::Verdict;
-use sessions::Begun;
-use state::{Released, State};
+use state::{Served, State};
 use std::io;
 
 // The link whose values are the words from word k on: K, Z, closed frames and, where a link has four words, Y; where it has three, Y is 1.
@@ -26,17 +24,13 @@ fn link_at(line: &[u8], k: usize, many: usize) -> Link
 }
 
 // The state on the fresh network that a line tells: the letter, T, and so many words for each link. The places that are not in use hold the first link.
-fn begin(line: &[u8], many: usize) -> Begun
+fn begin(line: &[u8], many: usize) -> Served<()>
     requires { (0 < many) × (many ≤ 4) }
 {
     let count = lines::words(line) / many % 33;
     let mut links = [link_at(line, 2, many); 32];
-    let mut k = 2;
-    let mut i: usize = 0;
-    while i < count {
-        links[i] = link_at(line, k, many);
-        k += many;
-        i += 1;
+    for i in 0..count {
+        links[i] = link_at(line, 2 + many * i, many);
     }
     sessions::begin(Network {
         ticks: lines::word(lines::number(line, 1)),
@@ -50,139 +44,111 @@ fn fresh(rt: &HostRuntime, line: &[u8], many: usize) -> io::Result<State>
     requires { (0 < many) × (many ≤ 4) }
 {
     let begun = begin(line, many);
-    let verdict = begun.verdict;
-    show::verdict(rt, verdict)?;
+    show::passed(rt, begun.answer)?;
     Ok(begun.state)
 }
 
-// A set-up, or a quote, which never changes a state.
-pub(super) fn served(
-    rt: &HostRuntime,
-    st: State,
-    number: u32,
-    route: &[u8],
-    quotes: bool,
-) -> io::Result<State> {
-    let served = if quotes {
-        sessions::quote(st, route)
-    } else {
-        sessions::set_up(st, number, route)
-    };
-    let answer = served.answer;
-    show::answer(rt, answer, route.len())?;
-    let verdict = answer.verdict;
-    let same = if quotes {
-        same::state(st, served.state)
-    } else {
-        same::after(verdict, st, served.state)
-    };
-    show::after(rt, same)?;
+// A set-up.
+pub(super) fn set_up(rt: &HostRuntime, st: State, number: u32, route: &[u8]) -> io::Result<State> {
+    let served = sessions::set_up(st, number, route);
+    show::answer(rt, served.answer, route.len())?;
+    show::after(rt, same::after(served.answer.is_ok(), st, served.state))?;
+    Ok(served.state)
+}
+
+// A quote, which never changes a state.
+pub(super) fn quote(rt: &HostRuntime, st: State, route: &[u8]) -> io::Result<State> {
+    let served = sessions::quote(st, route);
+    show::answer(rt, served.answer, route.len())?;
+    show::after(rt, same::state(st, served.state))?;
     Ok(served.state)
 }
 
 // The number of ways over a route, a call which never changes a state.
-pub(super) fn surveyed(rt: &HostRuntime, st: State, route: &[u8]) -> io::Result<State> {
-    let surveyed = sessions::number_of_ways(st, route);
-    let numbered = surveyed.numbered;
-    show::numbered(rt, numbered)?;
-    show::after(rt, same::state(st, surveyed.state))?;
-    Ok(surveyed.state)
+pub(super) fn number_of_ways(rt: &HostRuntime, st: State, route: &[u8]) -> io::Result<State> {
+    let served = sessions::number_of_ways(st, route);
+    show::counted(rt, served.answer)?;
+    show::after(rt, same::state(st, served.state))?;
+    Ok(served.state)
 }
 
 // A set-up, a quote or the number of ways, by its letter, over the route that stands after k words. No line has a route of more than 40 links.
-fn route_call(rt: &HostRuntime, st: State, line: &[u8], k: usize, letter: u8) -> io::Result<State>
-    requires { k ≤ 2 }
-{
+fn route_call(rt: &HostRuntime, st: State, line: &[u8], k: usize, letter: u8) -> io::Result<State> {
     let mut links = [0u8; 40];
-    let mut i: usize = 0;
-    while i < 40 {
-        links[i] = lines::byte(lines::number(line, k + i));
-        i += 1;
+    let words = line.split(|c| *c == b' ').skip(k);
+    for (link, word) in links.iter_mut().zip(words) {
+        *link = lines::byte(lines::value(word));
     }
-    let n = lines::words(line).wrapping_sub(k) % 41;
+    let n = lines::words(line).saturating_sub(k).min(40);
     let route = &links[..n];
-    if letter == b'H' {
-        return surveyed(rt, st, route);
+    match letter {
+        b'H' => number_of_ways(rt, st, route),
+        b'Q' => quote(rt, st, route),
+        _ => set_up(rt, st, lines::session_number(lines::number(line, 1)), route),
     }
-    served(
-        rt,
-        st,
-        lines::session_number(lines::number(line, 1)),
-        route,
-        letter == b'Q',
-    )
 }
 
 // A release, a lookup or the free frames of a link, by its letter; the last two never change a state. Any other letter leaves the state.
 pub(super) fn number_call(rt: &HostRuntime, st: State, letter: u8, x: usize) -> io::Result<State> {
     match letter {
         b'R' => {
-            let released = sessions::release(st, lines::session_number(x));
-            let verdict = released.verdict;
-            show::verdict(rt, verdict)?;
-            show::after(rt, same::after(verdict, st, released.state))?;
-            Ok(released.state)
+            let served = sessions::release(st, lines::session_number(x));
+            show::passed(rt, served.answer)?;
+            show::after(rt, same::after(served.answer.is_ok(), st, served.state))?;
+            Ok(served.state)
         }
         b'L' | b'E' => {
-            let looked = sessions::lookup(st, lines::session_number(x));
-            let shown = looked.shown;
-            show::session(rt, shown, letter)?;
-            show::after(rt, same::state(st, looked.state))?;
-            Ok(looked.state)
+            let served = sessions::lookup(st, lines::session_number(x));
+            show::session(rt, served.answer, letter)?;
+            show::after(rt, same::state(st, served.state))?;
+            Ok(served.state)
         }
         b'F' => {
-            let tallied = sessions::free_frames(st, lines::byte(x));
-            let counted = tallied.counted;
-            show::counted(rt, counted)?;
-            show::after(rt, same::state(st, tallied.state))?;
-            Ok(tallied.state)
+            let served = sessions::free_frames(st, lines::byte(x));
+            show::counted(rt, served.answer.map(u64::from))?;
+            show::after(rt, same::state(st, served.state))?;
+            Ok(served.state)
         }
         _ => Ok(st),
     }
 }
 
-// One more accepted call, if the verdict is no refusal.
-fn with_verdict(accepted: u64, verdict: Verdict) -> u64 {
-    match verdict {
-        Verdict::Passed => accepted.wrapping_add(1),
-        Verdict::Refused(_) => accepted,
-    }
-}
-
-// A set-up or a release: its verdict, and the state after it.
-fn set_up_or_release(st: State, number: u32, route: &[u8], sets_up: bool) -> Released {
-    if !sets_up {
-        return sessions::release(st, number);
-    }
-    let served = sessions::set_up(st, number, route);
-    let answer = served.answer;
-    let verdict = answer.verdict;
-    let state = served.state;
-    Released { verdict, state }
-}
-
-// A set-up over one link, or a release, for each number from one to before another, and how many of them were accepted. The state is compared
-// after each of them.
-fn many(rt: &HostRuntime, st: State, line: &[u8], sets_up: bool) -> io::Result<State> {
-    let one = [lines::byte(lines::number(line, 3)); 1];
-    let route: &[u8] = &one;
+// A call for each number from one to before another, and how many of them were accepted. The state is compared after each of them.
+fn many<F: Fn(State, u32) -> Served<()>>(
+    rt: &HostRuntime,
+    st: State,
+    line: &[u8],
+    call: F,
+) -> io::Result<State>
+    requires { F.IsAlwaysCallable call }
+{
+    let from = lines::session_number(lines::number(line, 1));
     let to = lines::session_number(lines::number(line, 2));
-    let mut number = lines::session_number(lines::number(line, 1));
     let mut next = st;
     let mut accepted: u64 = 0;
     let mut same = true;
-    while number < to {
-        let done = set_up_or_release(next, number, route, sets_up);
-        let verdict = done.verdict;
-        accepted = with_verdict(accepted, verdict);
-        same = same & same::after(verdict, next, done.state);
-        next = done.state;
-        number += 1;
+    for number in from..to {
+        let served = call(next, number);
+        let passed = served.answer.is_ok();
+        accepted += u64::from(passed);
+        same &= same::after(passed, next, served.state);
+        next = served.state;
     }
-    show::verdict(rt, Verdict::Passed)?;
-    show::next(rt, accepted)?;
+    print!(rt; " ok {accepted}")?;
     show::after(rt, same)?;
     Ok(next)
+}
+
+// A set-up over one link for each number of a line.
+fn many_set_ups(rt: &HostRuntime, st: State, line: &[u8]) -> io::Result<State> {
+    let route = [lines::byte(lines::number(line, 3)); 1];
+    many(rt, st, line, |st, number| {
+        let served = sessions::set_up(st, number, &route);
+        Served {
+            answer: served.answer.map(|_| ()),
+            state: served.state,
+        }
+    })
 }
 
 // The call of a line. A line with a colon, whose words begin there, is a state built by hand.
@@ -193,16 +159,13 @@ fn call(rt: &HostRuntime, st: State, line: &[u8]) -> io::Result<State> {
         b'Y' => fresh(rt, line, 4),
         b'S' => route_call(rt, st, line, 2, letter),
         b'Q' | b'H' => route_call(rt, st, line, 1, letter),
-        b'M' => many(rt, st, line, true),
-        b'D' => many(rt, st, line, false),
+        b'M' => many_set_ups(rt, st, line),
+        b'D' => many(rt, st, line, sessions::release),
         b'W' => {
-            let all = [0u8; 200];
-            let route: &[u8] = &all;
-            surveyed(
-                rt,
-                served(rt, served(rt, st, 5, route, false)?, 5, route, true)?,
-                route,
-            )
+            let route = [0u8; 200];
+            let st = set_up(rt, st, 5, &route)?;
+            let st = quote(rt, st, &route)?;
+            number_of_ways(rt, st, &route)
         }
         b'P' => broken::put(rt, st, line),
         b':' => broken::case(rt, st, line),
@@ -212,15 +175,10 @@ fn call(rt: &HostRuntime, st: State, line: &[u8]) -> io::Result<State> {
 
 // The lines of a text, each on the state that the one before it left. The first network is of no account: a line tells another.
 pub(super) fn run(rt: &HostRuntime, text: &[u8]) -> io::Result<()> {
-    let begun = begin(text, 3);
-    let mut st = begun.state;
-    let mut from = 0;
-    while from < text.len() {
-        let end = streams::find(text, from, text.len(), b'\n');
-        let line = &text[from..end];
+    let mut st = begin(text, 3).state;
+    for line in text.split(|b| *b == b'\n') {
         st = call(rt, st, show::said(rt, line)?)?;
         show::end(rt, line)?;
-        from = end + 1;
     }
     Ok(())
 }

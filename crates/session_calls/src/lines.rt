@@ -1,38 +1,21 @@
 // Words and numbers written in text, with a space between two.
 
-// A word's value with one character more: of a number its value, of another word its first letter. The remainder changes no number of 64 bits.
-fn more(x: usize, c: u8) -> usize {
-    if c < b':' {
-        return (x % 1844674407370955162 * 10).wrapping_add((c % 16) as usize);
+// The value of a word: of a number its value, of another word its first letter.
+pub(super) fn value(word: &[u8]) -> usize {
+    match word.first() {
+        Some(c) if !c.is_ascii_digit() => usize::from(*c),
+        _ => streams::number(word, 10).unwrap_or(0) as usize,
     }
-    if x == 0 { c as usize } else { x }
 }
 
-// The value of word k of a line, 0 where there is none. The space before a word counts as a 0.
+// The value of word k of a line, 0 where there is none.
 pub(super) fn number(line: &[u8], k: usize) -> usize {
-    let mut x: usize = 0;
-    let mut passed: usize = 0;
-    let mut i = 0;
-    while i < line.len() {
-        let c = line[i];
-        passed = passed.wrapping_add((c == b' ') as usize);
-        if passed == k {
-            x = more(x, c);
-        }
-        i += 1;
-    }
-    x
+    line.split(|c| *c == b' ').nth(k).map(value).unwrap_or(0)
 }
 
 // How many words a line has.
 pub(super) fn words(line: &[u8]) -> usize {
-    let mut n: usize = 1;
-    let mut i = 0;
-    while i < line.len() {
-        n = n.wrapping_add((line[i] == b' ') as usize);
-        i += 1;
-    }
-    n
+    line.split(|c| *c == b' ').count()
 }
 
 pub(super) fn byte(x: usize) -> u8 {
