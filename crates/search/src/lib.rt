@@ -47,17 +47,17 @@ pub struct Finding {
     pub count: u32,
 }
 
-// A frame, and the key that it is chosen by. Of a frame that the least hold leads to, the key is the delay as it would be at the end of the cycle without a hold: the cell of the frame
-// before and the time from the frame to the end. So two keys compare wherever a hold ends. Of an end of the route it is the cell.
+// A place, and the key that it is chosen by. Of a frame that the least hold leads to, the key is the delay as it would be at the end of the cycle without a hold: the cell of the frame
+// before and the time from the frame to the end. So two keys compare wherever a hold ends. Of a lane and of an end of the route it is the cell.
 #[derive(Clone, Copy)]
 struct Choice {
     key: u16,
-    frame: u8,
+    place: u8,
 }
 
 // The first of two, unless the key of the other is smaller.
 fn sooner(first: Choice, other: Choice) -> Choice
-    ensures { (result.key ≡ cond (ltb other.key first.key) other.key first.key) × (result.frame ≡ cond (ltb other.key first.key) other.frame first.frame) }
+    ensures { (result.key ≡ cond (ltb other.key first.key) other.key first.key) × (result.place ≡ cond (ltb other.key first.key) other.place first.place) }
 {
     if other.key < first.key {
         return other;
@@ -73,27 +73,6 @@ fn if_free(free: u64, i: u16, cell: u16) -> u16
     if words::has_bit(free, i) { cell } else { NEVER }
 }
 
-// Frame i is offered the key of frame k of the hop before. Check 7: both are below 64.
-fn enter(keys: &mut [u16; 64], froms: &mut [u8; 64], i: u16, key: u16, k: u16)
-    requires { (length keys.old ≡ 64) × (length froms.old ≡ 64) × (i < 64) × (k < 64) }
-    ensures { Entered i key k keys.old froms.old keys.new froms.new }
-{
-    let at = i as usize;
-    let kept = Choice {
-        key: keys[at],
-        frame: froms[at],
-    };
-    let choice = sooner(
-        kept,
-        Choice {
-            key,
-            frame: k as u8,
-        },
-    );
-    keys[at] = choice.key;
-    froms[at] = choice.frame;
-}
-
 // 1 for a cell that some schedule leads to.
 fn one_reached(cell: u16) -> u8
     ensures { result ≡ one_if (reached (cell_reach cell)) }
@@ -106,7 +85,7 @@ fn leaving(many: u8, ones: u8) -> u32
     requires { (many ≤ 4) × (ones ≤ 64) }
     ensures { result ≡ many * ones }
 {
-    many as u32 * ones as u32
+    u32::from(many) * u32::from(ones)
 }
 
 // The reference frame of frame k of the hop before: between links of one rate k itself, without a division. Check 7 bounds both links' frames; k is a frame of the hop before.
@@ -120,193 +99,190 @@ fn reference(k: u16, before: Hop, hop: Hop) -> u16
     forwarding::reference_frame(k, before, hop)
 }
 
+// Of each frame of the hop before, over the colours from which a colour of the hop may be reached: the least cell, the first lane that has it, and in how many of them schedules end there.
+#[derive(Drop)]
+struct Near {
+    cells: [u16; 64],
+    lanes: [u8; 64],
+    many: [u8; 64],
+}
+
+// The frames of a hop as a cycle of so many ticks: of each frame the least key that leads to it, and the frame before that it is of. Checks 3 and 7.
+#[derive(Drop)]
+struct Ring {
+    frames: u16,
+    cycle: Delay,
+    keys: [u16; 64],
+    froms: [u8; 64],
+}
+
+impl Ring {
+    // Frame i is offered the key of frame k of the hop before. Check 7: both are below 64.
+    fn enter(&mut self, i: u16, key: u16, k: u16)
+        requires { (length self.old.keys ≡ 64) × (length self.old.froms ≡ 64) × (i < 64) × (k < 64) }
+        ensures { Entered i key k self.old.keys self.old.froms self.new.keys self.new.froms × (self.new.frames ≡ self.old.frames) × (self.new.cycle ≡ self.old.cycle) }
+    {
+        let at = i as usize;
+        let kept = Choice {
+            key: self.keys[at],
+            place: self.froms[at],
+        };
+        let offered = Choice {
+            key,
+            place: k as u8,
+        };
+        let choice = sooner(kept, offered);
+        self.keys[at] = choice.key;
+        self.froms[at] = choice.place;
+    }
+
+    // Frame i with its key.
+    fn own(&self, i: u16) -> Choice
+        requires { i < 64 }
+        ensures { (result.key ≡ get_or self.now.keys i 0) × (result.place ≡ i) }
+    {
+        Choice {
+            key: self.keys[i as usize],
+            place: i as u8,
+        }
+    }
+
+    // The key of frame i as seen from another: where it lies after that one it is meant in the cycle before, and has a cycle more. Check 7: a frame is below 64.
+    fn seen(&self, i: u16, from: u16) -> u16
+        requires { (i < 64) × (get_or self.now.keys i 0 + self.now.cycle.0 ≤ 65535) }
+        ensures { result ≡ get_or self.now.keys i 0 + cond (ltb from i) self.now.cycle.0 0 }
+    {
+        let key = self.keys[i as usize];
+        if from < i { key + self.cycle.0 } else { key }
+    }
+
+    // The frame that lies o frames before frame `end`, with its key as seen from there: a frame of
+    // the cycle before has a cycle more.
+    fn back(&self, end: u16, o: u16) -> Choice
+        requires { Keys self.now.cycle.0 self.now.frames self.now.keys × (end < self.now.frames) × (o < self.now.frames) }
+        ensures { (result.place ≡ (end + (self.now.frames - o)) % self.now.frames) × (result.key ≡ get_or self.now.keys result.place 0 + cond (ltb end result.place) self.now.cycle.0 0) }
+    {
+        if o <= end {
+            return self.own(end - o);
+        }
+        let i = end + self.frames - o;
+        Choice {
+            key: self.keys[i as usize] + self.cycle.0,
+            place: i as u8,
+        }
+    }
+
+    // The picks of the windows that end with frame `end`, of 1 to `width` frames: that of o + 1 frames at o. Checks 3, 7, 8 and 21, also of the two below.
+    fn trail(&self, end: u16, width: u16, behind: &mut [u8; 64])
+        requires { Keys self.now.cycle.0 self.now.frames self.now.keys × (end < self.now.frames) × (0 < width) × (width ≤ self.now.frames) × (length behind.old ≡ 64) }
+        ensures { Trail self.now.cycle.0 self.now.frames self.now.keys end width behind.new }
+    {
+        let mut kept = self.own(end);
+        behind[0] = kept.place;
+        for o in 1..width {
+            kept = sooner(kept, self.back(end, o));
+            behind[o as usize] = kept.place;
+        }
+    }
+
+    // The picks of the windows of `width` frames that end with the `span` frames from `first` on: each has a part up to `first`, whose picks `behind` has, and one from there on.
+    fn block(&self, width: u16, first: u16, span: u16, behind: &[u8; 64], preds: &mut [u8; 64])
+        requires { Keys self.now.cycle.0 self.now.frames self.now.keys × Trail self.now.cycle.0 self.now.frames self.now.keys first width behind.now × (width ≤ self.now.frames) × (0 < span) × (span ≤ width) × (first + span ≤ self.now.frames) × Windows self.now.cycle.0 self.now.frames self.now.keys width first preds.old }
+        ensures { Windows self.now.cycle.0 self.now.frames self.now.keys width (first + span) preds.new }
+    {
+        let mut run = self.own(first);
+        preds[first as usize] = behind[(width - 1) as usize];
+        for j in 1..span {
+            let i = first + j;
+            run = sooner(self.own(i), run);
+            let place = behind[(width - 1 - j) as usize];
+            let far = Choice {
+                key: self.seen(u16::from(place), first),
+                place,
+            };
+            let pick = sooner(run, far);
+            preds[i as usize] = pick.place;
+        }
+    }
+
+    // The picks of the windows of `width` frames, each at the frame that it ends with, block by block; `behind` is lent.
+    fn windows(&self, width: u16, behind: &mut [u8; 64], preds: &mut [u8; 64])
+        requires { Keys self.now.cycle.0 self.now.frames self.now.keys × (0 < width) × (width ≤ self.now.frames) × (length behind.old ≡ 64) × (length preds.old ≡ 64) }
+        ensures { Windows self.now.cycle.0 self.now.frames self.now.keys width self.now.frames preds.new }
+    {
+        let mut first = 0;
+        // Kept: a `step_by` took 3 of 100 instructions more at Z 4 and 23 at Z 1.
+        while first < self.frames {
+            let span = width.min(self.frames - first);
+            self.trail(first, width, behind);
+            self.block(width, first, span, behind, preds);
+            first += span;
+        }
+    }
+}
+
 // Gathers the frames of the hop before by the frame that the least hold leads each to: the least key, and the smallest frame that has it. Answers how many transitions there are.
-// `many` has for each frame of the hop before in how many colours some schedule leads to it, `ones` for each frame the free ones in the window that begins with it, `time` is the time of
-// the hop's frame.
-fn gather(
-    row: &[u16; 64],
-    before: Hop,
-    hop: Hop,
-    time: Delay,
-    many: &[u8; 64],
-    ones: &[u8; 64],
-    keys: &mut [u16; 64],
-    froms: &mut [u8; 64],
-) -> u32
-    requires { Gathering before hop time.0 row.now many.now ones.now keys.old froms.old }
-    ensures { Gathers (first_frame before hop) time.0 hop.frames row.now before.frames keys.new froms.new × (result ≡ leadings (first_frame before hop) many.now ones.now before.frames) }
+// `ones` has for each frame the free ones in the window that begins with it, `time` is the time of the hop's frame.
+fn gather(near: &Near, before: Hop, hop: Hop, time: Delay, ones: &[u8; 64], ring: &mut Ring) -> u32
+    requires { Gathering before hop time.0 near.now.cells near.now.many ones.now ring.old.keys ring.old.froms }
+    ensures { Gathers (first_frame before hop) time.0 hop.frames near.now.cells before.frames ring.new.keys ring.new.froms × (ring.new.frames ≡ ring.old.frames) × (ring.new.cycle ≡ ring.old.cycle) × (result ≡ leadings (first_frame before hop) near.now.many ones.now before.frames) }
 {
     let frames = hop.frames;
     let least = forwarding::least_hold(hop);
     let mut count: u32 = 0;
     for k in 0..before.frames {
-        let cell = row[k as usize];
+        let cell = near.cells[k as usize];
         let i = words::frame_on(reference(k, before, hop), least, frames);
         let wait = forwarding::delay_of(Hold(frames - i), time);
-        count += leaving(many[k as usize], ones[i as usize]);
-        enter(keys, froms, i, cell + wait.0, k);
+        count += leaving(near.many[k as usize], ones[i as usize]);
+        ring.enter(i, cell + wait.0, k);
     }
     count
-}
-
-// The key of frame i as seen from another: where it lies after that one it is meant in the cycle before, and has a cycle more. Check 7: a frame is below 64.
-fn seen(keys: &[u16; 64], cycle: Delay, i: u16, from: u16) -> u16
-    requires { (i < 64) × (get_or keys.now i 0 + cycle.0 ≤ 65535) }
-    ensures { result ≡ get_or keys.now i 0 + cond (ltb from i) cycle.0 0 }
-{
-    let key = keys[i as usize];
-    if from < i { key + cycle.0 } else { key }
-}
-
-// The frame that lies o frames before frame `end`, with its key as seen from there: a frame of
-// the cycle before has a cycle more.
-fn back(keys: &[u16; 64], cycle: Delay, frames: u16, end: u16, o: u16) -> Choice
-    requires { Keys cycle.0 frames keys.now × (end < frames) × (o < frames) }
-    ensures { (result.frame ≡ (end + (frames - o)) % frames) × (result.key ≡ get_or keys.now result.frame 0 + cond (ltb end result.frame) cycle.0 0) }
-{
-    if o <= end {
-        let i = end - o;
-        return Choice {
-            key: keys[i as usize],
-            frame: i as u8,
-        };
-    }
-    let i = end + frames - o;
-    Choice {
-        key: keys[i as usize] + cycle.0,
-        frame: i as u8,
-    }
-}
-
-// The picks of the windows that end with frame `end`, of 1 to `width` frames: that of o + 1 frames at o. Checks 3, 7, 8 and 21, also of the two below.
-fn trail(keys: &[u16; 64], cycle: Delay, frames: u16, end: u16, width: u16, behind: &mut [u8; 64])
-    requires { Keys cycle.0 frames keys.now × (end < frames) × (0 < width) × (width ≤ frames) × (length behind.old ≡ 64) }
-    ensures { Trail cycle.0 frames keys.now end width behind.new }
-{
-    let mut kept = Choice {
-        key: keys[end as usize],
-        frame: end as u8,
-    };
-    behind[0] = kept.frame;
-    for o in 1..width {
-        kept = sooner(kept, back(keys, cycle, frames, end, o));
-        behind[o as usize] = kept.frame;
-    }
-}
-
-// The picks of the windows of `width` frames that end with the `span` frames from `first` on: each has a part up to `first`, whose picks `behind` has, and one from there on.
-fn block(
-    keys: &[u16; 64],
-    cycle: Delay,
-    frames: u16,
-    width: u16,
-    first: u16,
-    span: u16,
-    behind: &[u8; 64],
-    preds: &mut [u8; 64],
-)
-    requires { Keys cycle.0 frames keys.now × Trail cycle.0 frames keys.now first width behind.now × (width ≤ frames) × (0 < span) × (span ≤ width) × (first + span ≤ frames) × Windows cycle.0 frames keys.now width first preds.old }
-    ensures { Windows cycle.0 frames keys.now width (first + span) preds.new }
-{
-    let mut run = Choice {
-        key: keys[first as usize],
-        frame: first as u8,
-    };
-    preds[first as usize] = behind[(width - 1) as usize];
-    for j in 1..span {
-        let i = first + j;
-        let own = Choice {
-            key: keys[i as usize],
-            frame: i as u8,
-        };
-        run = sooner(own, run);
-        let frame = behind[(width - 1 - j) as usize];
-        let far = Choice {
-            key: seen(keys, cycle, u16::from(frame), first),
-            frame,
-        };
-        let pick = sooner(run, far);
-        preds[i as usize] = pick.frame;
-    }
-}
-
-// The picks of the windows of `width` frames, each at the frame that it ends with, block by block; `behind` is lent.
-fn windows(
-    keys: &[u16; 64],
-    cycle: Delay,
-    frames: u16,
-    width: u16,
-    behind: &mut [u8; 64],
-    preds: &mut [u8; 64],
-)
-    requires { Keys cycle.0 frames keys.now × (0 < width) × (width ≤ frames) × (length behind.old ≡ 64) × (length preds.old ≡ 64) }
-    ensures { Windows cycle.0 frames keys.now width frames preds.new }
-{
-    for first in (0..frames).step_by(width as usize) {
-        let span = width.min(frames - first);
-        trail(keys, cycle, frames, first, width, behind);
-        block(keys, cycle, frames, width, first, span, behind, preds);
-    }
 }
 
 // The cells of a lane, each over the frame that is picked for it, whose frame before, in the
 // lane chosen for that one, is the predecessor. From the key the time from the frame to the end
 // of the cycle is subtracted; the time of the least hold, `lead`, is added.
-fn settle(
-    keys: &[u16; 64],
-    froms: &[u8; 64],
-    lanes: &[u8; 64],
-    time: Delay,
-    lead: Delay,
-    frames: u16,
-    free: u64,
-    row: &mut [u16; 64],
-    preds: &mut [u8; 64],
-)
-    requires { (w : ℕ) × Settling time.0 lead.0 frames free w keys.now froms.now lanes.now row.old preds.old }
-    ensures { (w : ℕ) → Settling time.0 lead.0 frames free w keys.now froms.now lanes.now row.old preds.old → Settled time.0 lead.0 frames free w keys.now froms.now lanes.now frames row.new preds.new }
+fn settle(ring: &Ring, time: Delay, lead: Delay, free: u64, near: &mut Near, preds: &mut [u8; 64])
+    requires { (ring.now.cycle.0 ≡ ring.now.frames * time.0) × ((w : ℕ) × Settling time.0 lead.0 ring.now.frames free w ring.now.keys ring.now.froms near.old.lanes near.old.cells preds.old) }
+    ensures { (w : ℕ) → Settling time.0 lead.0 ring.now.frames free w ring.now.keys ring.now.froms near.old.lanes near.old.cells preds.old → Settled time.0 lead.0 ring.now.frames free w ring.now.keys ring.now.froms near.old.lanes ring.now.frames near.new.cells preds.new }
 {
-    let cycle = forwarding::delay_of(Hold(frames), time);
+    let frames = ring.frames;
     for i in 0..frames {
         let at = i as usize;
         let frame = u16::from(preds[at]);
-        let key = seen(keys, cycle, frame, i);
+        let key = ring.seen(frame, i);
         let wait = forwarding::delay_of(Hold(frames - i), time);
         let cell = key + lead.0 - wait.0;
-        row[at] = if_free(free, i, cell.min(NEVER));
-        let from = froms[frame as usize];
-        preds[at] = lanes[usize::from(from)] + from;
+        near.cells[at] = if_free(free, i, cell.min(NEVER));
+        let from = ring.froms[frame as usize];
+        preds[at] = near.lanes[usize::from(from)] + from;
     }
 }
 
-// The lane of a hop in one colour, whose free word this is, in the place of a row of frames of
-// the hop before; the places before go to `preds`. `many` has for each frame before in how many
-// colours schedules end there, `lanes` the lane chosen for it. Answers the number of transitions.
-fn lane(
-    row: &mut [u16; 64],
-    t: u16,
-    before: Hop,
-    hop: Hop,
-    free: u64,
-    many: &[u8; 64],
-    lanes: &[u8; 64],
-    preds: &mut [u8; 64],
-) -> u32
-    requires { Lane t before hop row.old many.now lanes.now preds.old }
-    ensures { LaneSet t before hop free row.old many.now lanes.now row.new preds.new result }
+// The lane of a hop in one colour, whose free word this is, in the place of the cells of the hop before; the places before go to `preds`. Answers the number of transitions.
+fn lane(near: &mut Near, t: u16, before: Hop, hop: Hop, free: u64, preds: &mut [u8; 64]) -> u32
+    requires { Lane t before hop near.old.cells near.old.many near.old.lanes preds.old }
+    ensures { LaneSet t before hop free near.old.cells near.old.many near.old.lanes near.new.cells preds.new result }
 {
     let frames = hop.frames;
     let time = forwarding::frame_time(t, frames);
     let cycle = forwarding::delay_of(Hold(frames), time);
     let lead = forwarding::delay_of(Hold(forwarding::least_hold(hop)), time);
     let width = forwarding::choices(hop);
-    let mut keys = [EMPTY; 64];
-    let mut froms = [0u8; 64];
     let mut lent = [0u8; 64];
     words::window_ones(free, frames, width, &mut lent);
-    let count = gather(row, before, hop, time, many, &lent, &mut keys, &mut froms);
-    windows(&keys, cycle, frames, width, &mut lent, preds);
-    settle(&keys, &froms, lanes, time, lead, frames, free, row, preds);
+    let keys = [EMPTY; 64];
+    let froms = [0u8; 64];
+    let mut ring = Ring {
+        frames,
+        cycle,
+        keys,
+        froms,
+    };
+    let count = gather(near, before, hop, time, &lent, &mut ring);
+    ring.windows(width, &mut lent, preds);
+    settle(&ring, time, lead, free, near, preds);
     count
 }
 
@@ -314,7 +290,7 @@ fn lane(
 fn low_turn(hop: Hop, c: u16) -> u16
     ensures { result ≡ low_turn hop c }
 {
-    if c < hop.turn { 0 } else { c - hop.turn }
+    c.saturating_sub(hop.turn)
 }
 
 // One above the largest such colour of the hop before. Checks 23 and 24.
@@ -325,57 +301,40 @@ fn high_turn(before: Hop, hop: Hop, c: u16) -> u16
     before.colours.min(c + hop.turn + 1)
 }
 
-// Offers each of the frames its cell in one lane of a row: `cells` has the least so far, `lanes`
-// the first lane that has it, `many` how many lanes have reached the frame.
-fn near_lane(
-    row: &[u16; 256],
-    lane: u8,
-    frames: u16,
-    cells: &mut [u16; 64],
-    lanes: &mut [u8; 64],
-    many: &mut [u8; 64],
-)
-    requires { (lane ≤ 192) × (frames ≤ 64) × (length cells.old ≡ 64) × (length lanes.old ≡ 64) × (length many.old ≡ 64) × ((k : ℕ) → k < frames → get_or many.old k 0 ≤ 3) }
-    ensures { NearLane lane row.now frames cells.old lanes.old many.old cells.new lanes.new many.new }
+// Offers each of the frames its cell in one lane of a row.
+fn near_lane(row: &[u16; 256], lane: u8, frames: u16, near: &mut Near)
+    requires { (lane ≤ 192) × (frames ≤ 64) × (length near.old.cells ≡ 64) × (length near.old.lanes ≡ 64) × (length near.old.many ≡ 64) × ((k : ℕ) → k < frames → get_or near.old.many k 0 ≤ 3) }
+    ensures { NearLane lane row.now frames near.old.cells near.old.lanes near.old.many near.new.cells near.new.lanes near.new.many }
 {
     let first = usize::from(lane);
     for k in 0..frames {
         let at = k as usize;
         let cell = row[first + at];
         let kept = Choice {
-            key: cells[at],
-            frame: lanes[at],
+            key: near.cells[at],
+            place: near.lanes[at],
         };
         let other = Choice {
             key: cell,
-            frame: lane,
+            place: lane,
         };
         let choice = sooner(kept, other);
-        cells[at] = choice.key;
-        lanes[at] = choice.frame;
-        many[at] += one_reached(cell);
+        near.cells[at] = choice.key;
+        near.lanes[at] = choice.place;
+        near.many[at] += one_reached(cell);
     }
 }
 
-// For colour c of a hop, the row of the frames of the hop before: of each frame the least cell of
-// the colours from which c may be reached, its lane, and in how many of them schedules end.
-fn near_row(
-    row: &[u16; 256],
-    before: Hop,
-    hop: Hop,
-    c: u16,
-    cells: &mut [u16; 64],
-    lanes: &mut [u8; 64],
-    many: &mut [u8; 64],
-)
-    requires { (before.frames ≤ 64) × (before.colours ≤ 4) × (c < 4) × (hop.turn < 4) × NearRow before.colours (low_turn hop c) 0 row.now before.frames cells.old lanes.old many.old }
-    ensures { NearRow before.colours (low_turn hop c) (near_span before hop c) row.now before.frames cells.new lanes.new many.new }
+// For colour c of a hop, the frames of the hop before: `near` begins with no colour.
+fn near_row(row: &[u16; 256], before: Hop, hop: Hop, c: u16, near: &mut Near)
+    requires { (before.frames ≤ 64) × (before.colours ≤ 4) × (c < 4) × (hop.turn < 4) × NearRow before.colours (low_turn hop c) 0 row.now before.frames near.old.cells near.old.lanes near.old.many }
+    ensures { NearRow before.colours (low_turn hop c) (near_span before hop c) row.now before.frames near.new.cells near.new.lanes near.new.many }
 {
     let frames = before.frames;
     let high = high_turn(before, hop, c);
     let low = low_turn(hop, c);
     for d in low..high {
-        near_lane(row, (64 * d) as u8, frames, cells, lanes, many);
+        near_lane(row, (64 * d) as u8, frames, near);
     }
 }
 
@@ -415,13 +374,14 @@ fn colour(
     requires { Colouring t before hop c free row.now next.old preds.old base count }
     ensures { Coloured t before hop (c + 1) (by_node before row.now) base preds.old next.new preds.new result }
 {
-    let mut cells = [NEVER; 64];
-    let mut lanes = [0u8; 64];
-    let mut many = [0u8; 64];
-    near_row(row, before, hop, c, &mut cells, &mut lanes, &mut many);
+    let cells = [NEVER; 64];
+    let lanes = [0u8; 64];
+    let many = [0u8; 64];
+    let mut near = Near { cells, lanes, many };
+    near_row(row, before, hop, c, &mut near);
     let mut froms = [0u8; 64];
-    let more = lane(&mut cells, t, before, hop, free, &many, &lanes, &mut froms);
-    put_lane(&cells, &froms, c, next, preds, base);
+    let more = lane(&mut near, t, before, hop, free, &mut froms);
+    put_lane(&near.cells, &froms, c, next, preds, base);
     count + more
 }
 
@@ -501,62 +461,50 @@ fn sweep(t: u16, hops: [Hop; 8], last: usize, row: &mut [u16; 256], preds: &mut 
 // The least cell of the lane of colour c, and the smallest frame that has it.
 fn best_frame(row: &[u16; 256], c: u16, frames: u16) -> Choice
     requires { (frames ≤ 64) × (c < 4) }
-    ensures { (way_of result.key 0 result.frame ≡ best_of (lane_offers row.now c) frames) × (result.frame < 64) }
+    ensures { (way_of result.key 0 result.place ≡ best_of (lane_offers row.now c) frames) × (result.place < 64) }
 {
     let first = 64 * c as usize;
     let mut end = Choice {
         key: NEVER,
-        frame: 0,
+        place: 0,
     };
     for f in 0..frames {
         let choice = Choice {
             key: row[first + f as usize],
-            frame: f as u8,
+            place: f as u8,
         };
         end = sooner(end, choice);
     }
     end
 }
 
-// The end of a schedule: its cell and its place.
-#[derive(Clone, Copy)]
-struct End {
-    key: u16,
-    place: u8,
-}
-
 // The end kept so far, unless the cell of the other is smaller, or the same with a smaller frame.
 // The other has the larger colour.
-fn sooner_end(kept: End, other: End) -> End
+fn sooner_end(kept: Choice, other: Choice) -> Choice
     ensures { (result.key ≡ cond (end_sooner kept.key kept.place other.key other.place) other.key kept.key) × (result.place ≡ cond (end_sooner kept.key kept.place other.key other.place) other.place kept.place) }
 {
-    if other.key < kept.key {
-        return other;
+    if (other.key, other.place % 64) < (kept.key, kept.place % 64) {
+        other
+    } else {
+        kept
     }
-    if kept.key < other.key {
-        return kept;
-    }
-    if other.place % 64 < kept.place % 64 {
-        return other;
-    }
-    kept
 }
 
 // The end of the best schedule: the least cell of the last hop, then the smallest frame that has
 // it, then the smallest colour. Checks 7 and 23.
-fn best_end(row: &[u16; 256], frames: u16, colours: u16) -> End
+fn best_end(row: &[u16; 256], frames: u16, colours: u16) -> Choice
     requires { (frames ≤ 64) × (colours ≤ 4) }
     ensures { EndOf row.now frames colours result.key result.place }
 {
-    let mut end = End {
+    let mut end = Choice {
         key: NEVER,
         place: 0,
     };
     for c in 0..colours {
         let best = best_frame(row, c, frames);
-        let other = End {
+        let other = Choice {
             key: best.key,
-            place: (64 * c) as u8 + best.frame,
+            place: (64 * c) as u8 + best.place,
         };
         end = sooner_end(end, other);
     }

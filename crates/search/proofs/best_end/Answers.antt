@@ -8,5 +8,5 @@ loop-c-preserved c = let a = c.args in
     let l = c.loop-c in
     let b = c.best_frame-best in
     let r = c.sooner_end-end in
-    end_more a.row.now a.frames l.c l.end.key l.end.place b.result.key b.result.frame (64 * l.c + b.result.frame) r.result.key r.result.place
+    end_more a.row.now a.frames l.c l.end.key l.end.place b.result.key b.result.place (64 * l.c + b.result.place) r.result.key r.result.place
     l.invariant b.ensures.0 b.ensures.1 refl r.ensures.0 r.ensures.1

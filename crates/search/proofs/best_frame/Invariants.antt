@@ -7,4 +7,4 @@ use Rattle.search.specs.Inner.{way_of, lane_offers}
 use Rattle.search.proofs.best_frame.Given as goal
 
 abbrev pub invariant-loop-f : goal.invariant-loop-f
-invariant-loop-f l = (way_of l.end.key 0 l.end.frame ≡ best_of (lane_offers l.row l.c) l.f) × (l.end.frame < 64)
+invariant-loop-f l = (way_of l.end.key 0 l.end.place ≡ best_of (lane_offers l.row l.c) l.f) × (l.end.place < 64)

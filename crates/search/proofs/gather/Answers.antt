@@ -31,8 +31,10 @@ loop-k-preserved c = let a = c.args in
     let to = led_first a.before a.hop l.k c.reference.result first.result i c.requires.some_frame c.reference.ensures first.ensures c.frame_on-i.ensures in
     let wait = c.delay_of-wait in
     let some = c.leaving-count.ensures in (
-      omega (arith, some, few_leave (get_or a.many.now l.k 0) (get_or a.ones.now i 0) (c.requires.few_many l.k less) (c.requires.few_ones i to.1), l.invariant.0),
-      one_gathered (first_frame a.before a.hop) a.time.0 a.hop.frames a.row.now c.requires.in_time l.k i (get_or a.row.now l.k 0 + wait.result.0) l.keys l.froms _ _ l.invariant.1 to.0 to.1 c.requires.few_frames
-          (ap (λ (x : ℕ). get_or a.row.now l.k 0 + x) wait.ensures.product) (c.requires.small l.k less) (le_trans less c.requires.few_before) c.enter.ensures,
-      rw (add-one l.k) (ap₂ ◌+◌ l.invariant.2 (some ∙ ap (λ (x : ℕ). get_or a.many.now l.k 0 * get_or a.ones.now x 0) to.0)),
+      omega (arith, some, few_leave (get_or a.near.now.many l.k 0) (get_or a.ones.now i 0) (c.requires.few_many l.k less) (c.requires.few_ones i to.1), l.invariant.0),
+      one_gathered (first_frame a.before a.hop) a.time.0 a.hop.frames a.near.now.cells c.requires.in_time l.k i (get_or a.near.now.cells l.k 0 + wait.result.0) l.ring.keys l.ring.froms _ _ l.invariant.1 to.0 to.1 c.requires.few_frames
+          (ap (λ (x : ℕ). get_or a.near.now.cells l.k 0 + x) wait.ensures.product) (c.requires.small l.k less) (le_trans less c.requires.few_before) c.enter.ensures.0,
+      c.enter.ensures.1 ∙ l.invariant.2,
+      c.enter.ensures.2 ∙ l.invariant.3,
+      rw (add-one l.k) (ap₂ ◌+◌ l.invariant.4 (some ∙ ap (λ (x : ℕ). get_or a.near.now.many l.k 0 * get_or a.ones.now x 0) to.0)),
     )

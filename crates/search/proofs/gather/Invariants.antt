@@ -6,4 +6,4 @@ use Rattle.search.specs.Inner.{Gathers, leadings}
 use Rattle.search.proofs.gather.Given as goal
 
 abbrev pub invariant-loop-k : goal.invariant-loop-k
-invariant-loop-k l = (l.count ≤ l.k * 256) × Gathers (first_frame l.before l.hop) l.time.0 l.frames l.row l.k l.keys l.froms × (l.count ≡ leadings (first_frame l.before l.hop) l.many l.ones l.k)
+invariant-loop-k l = (l.count ≤ l.k * 256) × Gathers (first_frame l.before l.hop) l.time.0 l.frames l.near.cells l.k l.ring.keys l.ring.froms × (l.ring.frames ≡ l.initial.ring.frames) × (l.ring.cycle ≡ l.initial.ring.cycle) × (l.count ≡ leadings (first_frame l.before l.hop) l.near.many l.ones l.k)

@@ -14,7 +14,7 @@ delay_of-cycle-requires c = time_fits c.args.t c.args.hop.frames c.frame_time-ti
 pub delay_of-lead-requires : goal.delay_of-lead-requires
 delay_of-lead-requires c = let a = c.args in
     let time = c.frame_time-time in
-    least_time a.t a.before a.hop a.row.now a.many.now a.lanes.now a.preds.now time.result.0 c.requires time.ensures c.least_hold.result c.least_hold.ensures
+    least_time a.t a.before a.hop a.near.now.cells a.near.now.many a.near.now.lanes a.preds.now time.result.0 c.requires time.ensures c.least_hold.result c.least_hold.ensures
 
 pub choices-width-requires : goal.choices-width-requires
 choices-width-requires c = let r = c.requires.ready in (least_range c.args.t c.args.hop r, omega (arith, r.in_cycle, r.few_frames))
@@ -29,7 +29,7 @@ gather-count-requires c = let a = c.args in
     let wide = c.choices-width in
     let O = opens a.t a.hop c.requires.ready wide.result a.free wide.ensures in
     let ones = c.window_ones in
-    begins_gathering a.t a.before a.hop a.row.now a.many.now a.lanes.now a.preds.now time.result.0 c.requires time.ensures wide.result a.free _ ones.new.ones O ones.ensures
+    begins_gathering a.t a.before a.hop a.near.now.cells a.near.now.many a.near.now.lanes a.preds.now time.result.0 c.requires time.ensures wide.result a.free _ ones.new.ones O ones.ensures
 
 pub windows-requires : goal.windows-requires
 windows-requires c = let a = c.args in
@@ -38,8 +38,8 @@ windows-requires c = let a = c.args in
     let O = opens a.t a.hop c.requires.ready wide.result a.free wide.ensures in
     let ones = c.window_ones in
     let G = c.gather-count in
-    let keys = begins_windows a.t a.before a.hop a.row.now a.many.now a.lanes.now a.preds.now time.result.0 c.requires time.ensures wide.result a.free O _ _ G.ensures.0 c.delay_of-cycle.result.0 c.delay_of-cycle.ensures.product in
-    (keys, O.some, O.within, ones.ensures.long, c.requires.long)
+    let keys = begins_windows a.t a.before a.hop a.near.now.cells a.near.now.many a.near.now.lanes a.preds.now time.result.0 c.requires time.ensures wide.result a.free O _ _ G.ensures.0 c.delay_of-cycle.result.0 c.delay_of-cycle.ensures.product in
+    rw (G.ensures.1, G.ensures.2) (keys, O.some, O.within, ones.ensures.long, c.requires.long)
 
 pub settle-requires : goal.settle-requires
 settle-requires c = let a = c.args in
@@ -51,7 +51,7 @@ settle-requires c = let a = c.args in
     let O = opens a.t a.hop c.requires.ready wide.result a.free wide.ensures in
     let G = c.gather-count in
     let W = c.windows in
-    (wide.result, begins_settling a.t a.before a.hop a.row.now a.many.now a.lanes.now a.preds.now time.result.0 c.requires time.ensures wide.result a.free O G.new.keys G.new.froms G.ensures.0 cycle.result.0 cycle.ensures.product lead.result.0 led W.new.preds W.ensures)
+    rw (G.ensures.1, G.ensures.2) (cycle.ensures.product, (wide.result, begins_settling a.t a.before a.hop a.near.now.cells a.near.now.many a.near.now.lanes a.preds.now time.result.0 c.requires time.ensures wide.result a.free O G.new.ring.keys G.new.ring.froms G.ensures.0 cycle.result.0 cycle.ensures.product lead.result.0 led W.new.preds (rw (G.ensures.1, G.ensures.2) at W.ensures)))
 
 pub returns : goal.returns
 returns c = let a = c.args in
@@ -64,4 +64,4 @@ returns c = let a = c.args in
     let G = c.gather-count in
     let W = c.windows in
     let ones = c.window_ones in
-    lane_set a.t a.before a.hop a.row.now a.many.now a.lanes.now a.preds.now time.result.0 c.requires time.ensures wide.result a.free O G.new.keys G.new.froms G.ensures.0 cycle.result.0 cycle.ensures.product lead.result.0 led W.new.preds W.ensures _ ones.new.ones G.result c.settle.new.row c.settle.new.preds ones.ensures G.ensures.1 c.settle.ensures
+    lane_set a.t a.before a.hop a.near.now.cells a.near.now.many a.near.now.lanes a.preds.now time.result.0 c.requires time.ensures wide.result a.free O G.new.ring.keys G.new.ring.froms G.ensures.0 cycle.result.0 cycle.ensures.product lead.result.0 led W.new.preds (rw (G.ensures.1, G.ensures.2) at W.ensures) _ ones.new.ones G.result c.settle.new.near.cells c.settle.new.preds ones.ensures G.ensures.3 (rw (G.ensures.1) at c.settle.ensures)

@@ -4,4 +4,4 @@ use Rattle.search.specs.Inner.{NearLane}
 use Rattle.search.proofs.near_lane.Given as goal
 
 abbrev pub invariant-loop-k : goal.invariant-loop-k
-invariant-loop-k l = (l.first ≡ l.lane) × NearLane l.lane l.row l.k l.initial.cells l.initial.lanes l.initial.many l.cells l.lanes l.many
+invariant-loop-k l = (l.first ≡ l.lane) × NearLane l.lane l.row l.k l.initial.near.cells l.initial.near.lanes l.initial.near.many l.near.cells l.near.lanes l.near.many

@@ -12,7 +12,7 @@ near_lane-requires c = let a = c.args in
     let low = c.low_turn-low in
     let high = c.high_turn-high in
     let N = l.invariant.1 a.before.colours (omega (arith, high.ensures)) (rw low.ensures c.requires.4) in
-    (omega (arith, t, high.ensures), c.requires.0, N.cells_long, N.lanes_are.long, N.many_long, λ k m. omega (arith, near_many a.before.colours low.result (l.d - low.result) a.row.now a.before.frames l.cells l.lanes l.many N k m, t, high.ensures))
+    (omega (arith, t, high.ensures), c.requires.0, N.cells_long, N.lanes_are.long, N.many_long, λ k m. omega (arith, near_many a.before.colours low.result (l.d - low.result) a.row.now a.before.frames l.near.cells l.near.lanes l.near.many N k m, t, high.ensures))
 
 pub loop-d-preserved : goal.loop-d-preserved
 loop-d-preserved c = let a = c.args in
@@ -22,9 +22,9 @@ loop-d-preserved c = let a = c.args in
     let k = c.near_lane in
     let on : l.d + 1 - low ≡ l.d - low + 1 = omega arith in (
       omega arith,
-      λ C h N. subst (λ (x : ℕ). NearRow C low x a.row.now a.before.frames k.new.cells k.new.lanes k.new.many) (sym on)
+      λ C h N. subst (λ (x : ℕ). NearRow C low x a.row.now a.before.frames k.new.near.cells k.new.near.lanes k.new.near.many) (sym on)
           (lane_near C low a.row.now a.before.frames c.requires.0 (l.d - low) (64 * l.d) (omega arith) (omega (arith, t, h)) (omega (arith, t, c.high_turn-high.ensures))
-          l.cells l.lanes l.many k.new.cells k.new.lanes k.new.many (l.invariant.1 C h N) k.ensures),
+          l.near.cells l.near.lanes l.near.many k.new.near.cells k.new.near.lanes k.new.near.many (l.invariant.1 C h N) k.ensures),
     )
 
 pub returns : goal.returns

@@ -1,8 +1,0 @@
--- `search::trail` meets its contract. The invariant: the windows of up to o frames have their picks, and the last of these is kept with its key. Assumes nothing.
-use Prim.Native.Nat.{◌+◌}
-use Rattle.search.specs.Inner.{key_at, Trail}
-use Rattle.search.proofs.Latest.{Chosen}
-use Rattle.search.proofs.trail.Given as goal
-
-abbrev pub invariant-loop-o : goal.invariant-loop-o
-invariant-loop-o l = Trail l.cycle.0 l.frames l.keys l.end l.o l.behind × Chosen (key_at l.cycle.0 l.frames l.keys) l.frames (l.end + l.frames) l.o l.kept.frame l.kept.key
