@@ -34,7 +34,7 @@ same_at zero v i l = absurd (omega arith)
 same_at (suc n) v zero l = refl
 same_at (suc n) v (suc i) l = same_at n v i (omega arith)
 
-most_same : (n v i : ℕ) → get_or (replicate n v) i 0 ≤ v
+pub most_same : (n v i : ℕ) → get_or (replicate n v) i 0 ≤ v
 most_same zero v i = omega arith
 most_same (suc n) v zero = omega arith
 most_same (suc n) v (suc i) = most_same n v i

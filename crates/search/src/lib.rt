@@ -114,6 +114,7 @@ struct Ring {
     cycle: Delay,
     keys: [u16; 64],
     froms: [u8; 64],
+    ghost fits: { Keys cycle.0 frames keys },
 }
 
 impl Ring {
@@ -159,7 +160,7 @@ impl Ring {
     // The frame that lies o frames before frame `end`, with its key as seen from there: a frame of
     // the cycle before has a cycle more.
     fn back(&self, end: u16, o: u16) -> Choice
-        requires { Keys self.now.cycle.0 self.now.frames self.now.keys × (end < self.now.frames) × (o < self.now.frames) }
+        requires { (end < self.now.frames) × (o < self.now.frames) }
         ensures { (result.place ≡ (end + (self.now.frames - o)) % self.now.frames) × (result.key ≡ get_or self.now.keys result.place 0 + cond (ltb end result.place) self.now.cycle.0 0) }
     {
         if o <= end {
@@ -174,7 +175,7 @@ impl Ring {
 
     // The picks of the windows that end with frame `end`, of 1 to `width` frames: that of o + 1 frames at o. Checks 3, 7, 8 and 21, also of the two below.
     fn trail(&self, end: u16, width: u16, behind: &mut [u8; 64])
-        requires { Keys self.now.cycle.0 self.now.frames self.now.keys × (end < self.now.frames) × (0 < width) × (width ≤ self.now.frames) × (length behind.old ≡ 64) }
+        requires { (end < self.now.frames) × (0 < width) × (width ≤ self.now.frames) × (length behind.old ≡ 64) }
         ensures { Trail self.now.cycle.0 self.now.frames self.now.keys end width behind.new }
     {
         let mut kept = self.own(end);
@@ -187,7 +188,7 @@ impl Ring {
 
     // The picks of the windows of `width` frames that end with the `span` frames from `first` on: each has a part up to `first`, whose picks `behind` has, and one from there on.
     fn block(&self, width: u16, first: u16, span: u16, behind: &[u8; 64], preds: &mut [u8; 64])
-        requires { Keys self.now.cycle.0 self.now.frames self.now.keys × Trail self.now.cycle.0 self.now.frames self.now.keys first width behind.now × (width ≤ self.now.frames) × (0 < span) × (span ≤ width) × (first + span ≤ self.now.frames) × Windows self.now.cycle.0 self.now.frames self.now.keys width first preds.old }
+        requires { Trail self.now.cycle.0 self.now.frames self.now.keys first width behind.now × (width ≤ self.now.frames) × (0 < span) × (span ≤ width) × (first + span ≤ self.now.frames) × Windows self.now.cycle.0 self.now.frames self.now.keys width first preds.old }
         ensures { Windows self.now.cycle.0 self.now.frames self.now.keys width (first + span) preds.new }
     {
         let mut run = self.own(first);
@@ -207,7 +208,7 @@ impl Ring {
 
     // The picks of the windows of `width` frames, each at the frame that it ends with, block by block; `behind` is lent.
     fn windows(&self, width: u16, behind: &mut [u8; 64], preds: &mut [u8; 64])
-        requires { Keys self.now.cycle.0 self.now.frames self.now.keys × (0 < width) × (width ≤ self.now.frames) × (length behind.old ≡ 64) × (length preds.old ≡ 64) }
+        requires { (0 < width) × (width ≤ self.now.frames) × (length behind.old ≡ 64) × (length preds.old ≡ 64) }
         ensures { Windows self.now.cycle.0 self.now.frames self.now.keys width self.now.frames preds.new }
     {
         let mut first = 0;

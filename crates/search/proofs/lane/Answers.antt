@@ -5,7 +5,8 @@ use lib.ListN.{length-replicate}
 use native.Mathlib.Omega.{arith}
 use Rattle.forwarding.proofs.Holds.{least_range}
 use Rattle.search.proofs.Counting.{opens}
-use Rattle.search.proofs.Settling.{time_fits, least_time, begins_gathering, begins_windows, begins_settling, lane_set}
+use Rattle.search.proofs.Gathering.{most_same}
+use Rattle.search.proofs.Settling.{time_fits, least_time, begins_gathering, begins_settling, lane_set}
 use Rattle.search.proofs.lane.Goals as goal
 
 pub delay_of-cycle-requires : goal.delay_of-cycle-requires
@@ -23,6 +24,10 @@ pub window_ones-requires : goal.window_ones-requires
 window_ones-requires c = let O = opens c.args.t c.args.hop c.requires.ready c.choices-width.result c.args.free c.choices-width.ensures in
     (O.some, O.within, c.requires.ready.few_frames, length-replicate {A = ℕ} 64 0)
 
+pub invariant_of-ring : goal.invariant_of-ring
+invariant_of-ring c = let ready = c.requires.ready in
+    record { fits = record { some_frame = ready.some_frame; few_frames = ready.few_frames; short = omega (arith, c.delay_of-cycle.ensures.product, time_fits c.args.t c.args.hop.frames c.frame_time-time.result.0 c.requires.cycle c.frame_time-time.ensures); small = most_same 64 33728 } }
+
 pub gather-count-requires : goal.gather-count-requires
 gather-count-requires c = let a = c.args in
     let time = c.frame_time-time in
@@ -38,8 +43,7 @@ windows-requires c = let a = c.args in
     let O = opens a.t a.hop c.requires.ready wide.result a.free wide.ensures in
     let ones = c.window_ones in
     let G = c.gather-count in
-    let keys = begins_windows a.t a.before a.hop a.near.now.cells a.near.now.many a.near.now.lanes a.preds.now time.result.0 c.requires time.ensures wide.result a.free O _ _ G.ensures.0 c.delay_of-cycle.result.0 c.delay_of-cycle.ensures.product in
-    rw (G.ensures.1, G.ensures.2) (keys, O.some, O.within, ones.ensures.long, c.requires.long)
+    rw G.ensures.1 (O.some, O.within, ones.ensures.long, c.requires.long)
 
 pub settle-requires : goal.settle-requires
 settle-requires c = let a = c.args in
