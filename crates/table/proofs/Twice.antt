@@ -1,48 +1,38 @@
 -- Two of a list that pass a test together, found one after the other. Assumes nothing.
 use mathlib.Core.Path.{◌≡◌, refl, sym, ap, ap₂, ◌∙◌}
-use mathlib.Core.Bool.{Bool, true, false, ◌||◌}
-use mathlib.Core.List.{List}
-use Prim.Native.Nat.{ℕ, zero, suc, ◌+◌, ◌<◌, ◌≤◌, ◌-◌}
-use native.Mathlib.Nat.{add-zero}
-use native.Mathlib.Omega.{arith}
-use lib.ListN.{get_or}
-use Rattle.places.specs.Places.{firsts}
+use mathlib.Core.Bool.{Bool, true, false, ◌||◌, or_assoc, or-true}
+use mathlib.Core.List.{List, [], ◌∷◌, ◌++◌, map-append}
+use Prim.Native.Nat.{ℕ, ◌+◌, ◌<◌}
+use lib.ListN.{length, get_or, take, drop, take-append-drop}
 use Rattle.ledger.specs.Lists.{any_of, any_two}
 use Rattle.ledger.specs.Sessions.{Session}
 use Rattle.ledger.proofs.Lists.{any_two_snoc}
 use Rattle.table.specs.declared.Place.{Place}
-use Rattle.table.specs.Table.{session_of, no_place, in_places}
-use Rattle.table.proofs.Live.{in_snoc}
+use Rattle.table.specs.Table.{session_of, no_place}
+use Rattle.table.proofs.Live.{sessions, one_more}
 
-module _ (r : Session → Session → Bool) (places : List Place) where
-  -- no two of the first i sessions pass
-  pub record NoTwo (n i : ℕ) : Type 0 where
-    pub within : i ≤ n
-    pub none : any_two r (in_places i places) ≡ false
+any_append : {A : Type 0} (p : A → Bool) (xs ys : List A) → any_of p (xs ++ ys) ≡ (any_of p xs || any_of p ys)
+any_append p [] ys = refl
+any_append p (x ∷ xs) ys = ap (λ (b : Bool). p x || b) (any_append p xs ys) ∙ sym (or_assoc (p x) (any_of p xs) (any_of p ys))
 
-  two_next : (i : ℕ) → any_two r (in_places (i + 1) places) ≡ (any_two r (in_places i places) || any_of (λ s. r s (session_of (get_or places i no_place))) (in_places i places))
-  two_next i = ap (any_two r) (in_snoc i places) ∙ any_two_snoc r (in_places i places) (session_of (get_or places i no_place))
+two_append : {A : Type 0} (r : A → A → Bool) (xs ys : List A) → any_two r xs ≡ true → any_two r (xs ++ ys) ≡ true
+two_append r [] ys h = cc
+two_append r (x ∷ xs) ys h = rw (any_append (r x) xs ys) (go (any_of (r x) xs) (any_two r xs) h (two_append r xs ys))
+  where
+    go : (a b : Bool) → (a || b) ≡ true → (b ≡ true → any_two r (xs ++ ys) ≡ true) → ((a || any_of (r x) ys) || any_two r (xs ++ ys)) ≡ true
+    go true b e ih = refl
+    go false b e ih = rw (ih e) (or-true (any_of (r x) ys))
 
-  still : (m k : ℕ) → any_two r (in_places m places) ≡ true → any_two r (in_places (m + k) places) ≡ true
-  still m zero e = ap (λ (x : ℕ). any_two r (in_places x places)) (add-zero m) ∙ e
-  still m (suc k) e =
-      ap (λ (x : ℕ). any_two r (in_places x places)) (omega arith)
-      ∙ two_next (m + k)
-      ∙ ap (λ (b : Bool). b || any_of (λ s. r s (session_of (get_or places (m + k) no_place))) (in_places (m + k) places)) (still m k e)
+module _ (r : Session → Session → Bool) (xs : List Place) (i : ℕ) (l : i < length xs) (b : Bool) (e : b ≡ any_of (λ s. r s (session_of (get_or xs i no_place))) (sessions (take i xs))) where
+  two_next : any_two r (sessions (take (i + 1) xs)) ≡ (any_two r (sessions (take i xs)) || b)
+  two_next = ap (any_two r) (one_more xs i l) ∙ any_two_snoc r (sessions (take i xs)) (session_of (get_or xs i no_place)) ∙ ap (λ (x : Bool). any_two r (sessions (take i xs)) || x) (sym e)
 
-  module _ (n i : ℕ) (h : NoTwo n i) where
-    module _ (l : i < n) (b : Bool) (eb : b ≡ any_of (λ s. r s (session_of (get_or places i no_place))) (in_places i places)) where
-      pub two_found : b ≡ true → true ≡ any_two r (in_places n places)
-      two_found e =
-          sym (ap (λ (x : ℕ). any_two r (in_places x places)) {x = n} {y = i + 1 + (n - (i + 1))} (omega arith)
-          ∙ still (i + 1) (n - (i + 1)) (two_next i ∙ ap₂ (λ (x y : Bool). x || y) h.none (sym eb ∙ e)))
+  -- two of the first i + 1 sessions pass
+  pub two_found : b ≡ true → true ≡ any_two r (sessions xs)
+  two_found t =
+      let early : any_two r (sessions (take (i + 1) xs)) ≡ true = two_next ∙ ap (λ (x : Bool). any_two r (sessions (take i xs)) || x) t ∙ or-true (any_two r (sessions (take i xs))) in
+      sym (ap (λ (l : List Place). any_two r (sessions l)) (sym (take-append-drop (i + 1) xs)) ∙ rw map-append (two_append r (sessions (take (i + 1) xs)) (sessions (drop (i + 1) xs)) early))
 
-      pub two_missed : b ≡ false → NoTwo n (i + 1)
-      two_missed e = record { within = omega arith; none = two_next i ∙ ap₂ (λ (x y : Bool). x || y) h.none (sym eb ∙ e) }
-
-    pub two_none : n ≤ i → false ≡ any_two r (in_places n places)
-    two_none l = sym (ap (λ (x : ℕ). any_two r (in_places x places)) {x = n} {y = i} (omega (arith, h.within)) ∙ h.none)
-
-  pub none_yet : (n : ℕ) → NoTwo n 0
-  unfolding firsts
-  none_yet n = record { within = omega arith; none = refl }
+  -- no two of them do
+  pub two_missed : any_two r (sessions (take i xs)) ≡ false → b ≡ false → any_two r (sessions (take (i + 1) xs)) ≡ false
+  two_missed none f = two_next ∙ ap₂ (λ (x y : Bool). x || y) none f

@@ -1,5 +1,5 @@
 -- Words of the contracts of inner functions, and of what callers show before a call. They are no part of what is promised. Assumes nothing.
-use Rattle.std.specs.Prelude.{Bool, ◌||◌, List, ℕ, ◌<◌, ◌≤◌, get_or}
+use Rattle.std.specs.Prelude.{◌≡◌, Bool, ◌||◌, List, ℕ, ◌<◌, ◌≤◌, get_or}
 use Rattle.words.specs.Word.{bit_of, Words}
 use Rattle.words.specs.Bank.{most_colours, bank_size, bank_at, bank_link, bank_colour}
 use Rattle.ledger.specs.Lists.{any_of}
@@ -24,6 +24,13 @@ PlaceWithin p = Within p.hops p.route p.held.frames p.held.colours
 pub record AllWithin (t : Table) : Type 0 where
   pub few : t.live ≤ 96
   pub each : (i : ℕ) → i < t.live → PlaceWithin (get_or t.places i no_place)
+
+-- the place of the word of a session's hop, and the hop's frame
+pub record IsSlot (p : Place) (j at frame : ℕ) : Type 0 where
+  pub word : at ≡ bank_at (get_or p.route j 0) (get_or p.held.colours j 0)
+  pub inside : at < bank_size
+  pub same : frame ≡ get_or p.held.frames j 0
+  pub small : frame < 64
 
 -- a bank gains some frames, whatever it had
 abbrev pub Marked : List Slot → List ℕ → List ℕ → Type 0

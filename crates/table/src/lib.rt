@@ -1,5 +1,5 @@
 // The live sessions as they are stored: a table of 96 places, the first of them used, in the order of set-up.
-// What gives each `requires`: check 0, that at most 96 sessions are live (`place_of`, `without`, `number_twice`, `among`) and that the links, frames and colours of each are
+// What gives each `requires`: check 0, that at most 96 sessions are live (`place_of`, `without`, `number_twice`) and that the links, frames and colours of each are
 // within the arrays (`held_words`, `frame_twice` and what these call); check 17, that a place is left (`with_place`); check 12, that a route has at most 8
 // links, and check 0 that a stored one has (`in_eight`, `cleared`).
 #![tactic(auto)]
@@ -14,7 +14,7 @@ ghost use Rattle.ledger.specs.Inner.{HeldWords};
 ghost use Rattle.ledger.specs.Sound.{number_twice, frame_twice};
 ghost use Rattle.ledger.specs.Calls.{other_than};
 ghost use Rattle.table.specs.Table.{session_of, live_of, place_of};
-ghost use Rattle.table.specs.Inner.{Within, PlaceWithin, AllWithin, Marked, marked_in};
+ghost use Rattle.table.specs.Inner.{IsSlot, PlaceWithin, AllWithin, Marked, marked_in};
 
 use forwarding::{Delay, Held};
 use words::BANK;
@@ -63,45 +63,38 @@ pub fn without(table: Table, number: u32) -> Table
     requires { table.live ≤ 96 }
     ensures { live_of result ≡ keep (other_than number) (live_of table) }
 {
-    let live = table.live;
     let mut next = table;
-    let mut i: usize = 0;
-    let mut kept: usize = 0;
-    while i < live {
-        let place = table.places[i];
+    let mut kept = 0;
+    for place in &table.places[..table.live] {
         if place.number != number {
-            next.places[kept] = place;
+            next.places[kept] = *place;
             kept += 1;
         }
-        i += 1;
     }
     next.live = kept;
     next
 }
 
-// Marks a frame of each of so many links, in its colour, in a bank.
-fn mark(words: &mut [u64; BANK], hops: usize, route: [u8; 8], frames: [u8; 8], colours: [u8; 8])
-    requires { (length words.old ≡ bank_size) × Within hops route frames colours }
-    ensures { Marked (slots_at (firsts hops route 0) (firsts hops frames 0) (firsts hops colours 0)) words.old words.new }
-{
-    let mut j: usize = 0;
-    while j < hops {
-        let at = words::bank(route[j], colours[j]);
-        words[at] = words::set_bit(words[at], frames[j] as u16);
-        j += 1;
+impl Place {
+    // The place in a bank of the word of hop j's link and colour, and hop j's frame.
+    fn slot(&self, j: usize) -> (usize, u16)
+        requires { PlaceWithin self.now × (j < self.now.hops) }
+        ensures { IsSlot self.now j result.0 result.1 }
+    {
+        let at = words::bank(self.route[j], self.held.colours[j]);
+        (at, u16::from(self.held.frames[j]))
     }
 }
 
-// Marks what a session holds.
-fn mark_place(words: &mut [u64; BANK], place: Place)
-    requires { (length words.old ≡ bank_size) × PlaceWithin place }
-    ensures { Marked (slots_of (session_of place)) words.old words.new }
+// Marks what a session holds in a bank.
+fn mark(words: &mut [u64; BANK], place: &Place)
+    requires { (length words.old ≡ bank_size) × PlaceWithin place.now }
+    ensures { Marked (slots_of (session_of place.now)) words.old words.new }
 {
-    let route = place.route;
-    let held = place.held;
-    let frames = held.frames;
-    let colours = held.colours;
-    mark(words, place.hops as usize, route, frames, colours);
+    for j in 0..usize::from(place.hops) {
+        let (at, frame) = place.slot(j);
+        words[at] = words::set_bit(words[at], frame);
+    }
 }
 
 // The bank of held frames.
@@ -109,49 +102,25 @@ pub fn held_words(table: Table) -> [u64; BANK]
     requires { AllWithin table }
     ensures { HeldWords result (live_of table) }
 {
-    let live = table.live;
     let mut words = [0u64; BANK];
-    let mut i: usize = 0;
-    while i < live {
-        let place = table.places[i];
-        mark_place(&mut words, place);
-        i += 1;
+    for place in &table.places[..table.live] {
+        mark(&mut words, place);
     }
     words
 }
 
-// Whether a frame of one of so many links is marked in its colour.
-fn meets_any(
-    words: &[u64; BANK],
-    hops: usize,
-    route: [u8; 8],
-    frames: [u8; 8],
-    colours: [u8; 8],
-) -> bool
-    requires { Within hops route frames colours }
-    ensures { result ≡ any_of (marked_in words.now) (slots_at (firsts hops route 0) (firsts hops frames 0) (firsts hops colours 0)) }
+// Whether some of what a session holds is marked.
+fn meets(words: &[u64; BANK], place: &Place) -> bool
+    requires { PlaceWithin place.now }
+    ensures { result ≡ any_of (marked_in words.now) (slots_of (session_of place.now)) }
 {
-    let mut j: usize = 0;
-    while j < hops {
-        let at = words::bank(route[j], colours[j]);
-        if words::has_bit(words[at], frames[j] as u16) {
+    for j in 0..usize::from(place.hops) {
+        let (at, frame) = place.slot(j);
+        if words::has_bit(words[at], frame) {
             return true;
         }
-        j += 1;
     }
     false
-}
-
-// Whether some of what a session holds is marked.
-fn meets(words: &[u64; BANK], place: Place) -> bool
-    requires { PlaceWithin place }
-    ensures { result ≡ any_of (marked_in words.now) (slots_of (session_of place)) }
-{
-    let route = place.route;
-    let held = place.held;
-    let frames = held.frames;
-    let colours = held.colours;
-    meets_any(words, place.hops as usize, route, frames, colours)
 }
 
 // Whether two sessions hold one frame.
@@ -159,30 +128,24 @@ pub fn frame_twice(table: Table) -> bool
     requires { AllWithin table }
     ensures { result ≡ frame_twice (live_of table) }
 {
-    let live = table.live;
     let mut marks = [0u64; BANK];
-    let mut i: usize = 0;
-    while i < live {
-        let place = table.places[i];
+    for place in &table.places[..table.live] {
         if meets(&marks, place) {
             return true;
         }
-        mark_place(&mut marks, place);
-        i += 1;
+        mark(&mut marks, place);
     }
     false
 }
 
-// Whether a number is one of the first n.
-fn among(number: u32, numbers: &[u32; 96], n: usize) -> bool
-    requires { n ≤ 96 }
-    ensures { result ≡ any_of (eqb number) (firsts n numbers.now 0) }
+// Whether a number is one of the list. Each is compared, so that the compiler compares several at
+// a time: kept in the place of `contains`, which ends at the first and takes three times as long.
+fn among(number: u32, numbers: &[u32]) -> bool
+    ensures { result ≡ any_of (eqb number) numbers.now }
 {
     let mut met = false;
-    let mut j: usize = 0;
-    while j < n {
-        met = met | (number == numbers[j]);
-        j += 1;
+    for x in numbers {
+        met |= number == *x;
     }
     met
 }
@@ -192,17 +155,12 @@ pub fn number_twice(table: Table) -> bool
     requires { table.live ≤ 96 }
     ensures { result ≡ number_twice (live_of table) }
 {
-    let live = table.live;
     let mut numbers = [0u32; 96];
-    let mut i: usize = 0;
-    while i < live {
-        let place = table.places[i];
-        let number = place.number;
-        if among(number, &numbers, i) {
+    for (i, place) in table.places[..table.live].iter().enumerate() {
+        if among(place.number, &numbers[..i]) {
             return true;
         }
-        numbers[i] = number;
-        i += 1;
+        numbers[i] = place.number;
     }
     false
 }
@@ -213,11 +171,7 @@ pub fn in_eight(route: &[u8]) -> [u8; 8]
     ensures { result ≡ firsts 8 route.now 0 }
 {
     let mut out = [0u8; 8];
-    let mut j: usize = 0;
-    while j < route.len() {
-        out[j] = route[j];
-        j += 1;
-    }
+    out[..route.len()].copy_from_slice(route);
     out
 }
 
@@ -226,18 +180,11 @@ pub fn cleared(held: Held, n: usize) -> Held
     requires { n ≤ 8 }
     ensures { result ≡ held_places (holding_of n held) }
 {
-    let all = held.frames;
-    let frames = in_eight(&all[..n]);
-    let every = held.cycles;
-    let cycles = in_eight(&every[..n]);
-    let delay = held.delay;
-    let tints = held.colours;
-    let colours = in_eight(&tints[..n]);
     Held {
-        frames,
-        cycles,
-        delay,
-        colours,
+        frames: in_eight(&held.frames[..n]),
+        cycles: in_eight(&held.cycles[..n]),
+        delay: held.delay,
+        colours: in_eight(&held.colours[..n]),
     }
 }
 

@@ -1,18 +1,17 @@
 -- `table::cleared` meets its contract: the eight places of each array are there. Assumes nothing.
-use Prim.Native.Nat.{◌≤◌}
-use lib.ListN.{length}
-use native.Mathlib.Omega.{arith}
+use Rattle.std.proofs.Common.{◌≤◌, length, rules}
 use Rattle.table.proofs.Eight.{part_filled}
 use Rattle.table.proofs.cleared.Goals as goal
 
 pub returns : goal.returns
 returns c =
     let held = c.args.held in
-    let frames : c.args.n ≤ length held.frames = omega (arith, c.well_formed.0.1.1.0.1.0.1, c.requires) in
-    let cycles : c.args.n ≤ length held.cycles = omega (arith, c.well_formed.0.1.1.1.0.1.0.1, c.requires) in
-    let colours : c.args.n ≤ length held.colours = omega (arith, c.well_formed.0.1.1.1.1.1.0.1.0.1, c.requires) in
+    let n = c.args.n in
+    let frames : n ≤ length held.frames = search rules in
+    let cycles : n ≤ length held.cycles = search rules in
+    let colours : n ≤ length held.colours = search rules in
     rw (
-      ← part_filled _ _ _ frames c.in_eight-frames.ensures,
-      ← part_filled _ _ _ cycles c.in_eight-cycles.ensures,
-      ← part_filled _ _ _ colours c.in_eight-colours.ensures,
+      ← part_filled n held.frames _ frames c.in_eight.ensures,
+      ← part_filled n held.cycles _ cycles c.in_eight-2.ensures,
+      ← part_filled n held.colours _ colours c.in_eight-3.ensures,
     )

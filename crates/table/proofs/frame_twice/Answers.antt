@@ -1,20 +1,41 @@
-use mathlib.Core.Path.{◌∙◌}
+use Rattle.std.proofs.Common.{◌≤◌, length, take, refl, sym, ap, ◌∙◌, rules}
+use Rattle.ledger.specs.Lists.{any_two}
+use Rattle.ledger.specs.Sound.{share_slot}
+use Rattle.table.proofs.Live.{in_all, in_taken, place_within}
 use Rattle.table.proofs.Holding.{held_none, held_more, met_shares, frames_rule}
-use Rattle.table.proofs.Twice.{none_yet, two_found, two_missed, two_none}
+use Rattle.table.proofs.Twice.{two_found, two_missed}
 use Rattle.table.proofs.frame_twice.Goals as goal
 
-pub loop-i-init : goal.loop-i-init
-loop-i-init c = (c.requires.each, held_none _, none_yet _ _ _)
+pub loop-place-init : goal.loop-place-init
+loop-place-init c = (held_none, refl)
+
+pub meets-requires : goal.meets-requires
+meets-requires c = place_within c.args.table c.requires _ c.loop-place-test.true
+
+pub mark-requires : goal.mark-requires
+mark-requires c = (search rules, place_within c.args.table c.requires _ c.loop-place-test.true)
 
 pub returns-then-meets : goal.returns-then-meets
-returns-then-meets c = let inv = c.loop-i.invariant in
-    let l = c.loop-i-test.true in
-    two_found _ _ _ _ inv.2 l _ (c.meets.ensures ∙ met_shares _ _ _ inv.1 (inv.0 _ l)) c.if-meets.true ∙ frames_rule _
+returns-then-meets c =
+    let t = c.args.table in
+    let i = c.loop-place.place-index in
+    let l = c.loop-place-test.true in
+    let few : t.live ≤ length t.places = search rules in
+    two_found share_slot _ _ l _ (c.meets.ensures ∙ met_shares (take t.live t.places) i _ c.loop-place.invariant.0 (place_within c.args.table c.requires _ l)) c.if-meets.true
+    ∙ ap (any_two share_slot) (sym (in_taken _ _ few))
+    ∙ frames_rule _
 
-pub loop-i-preserved : goal.loop-i-preserved
-loop-i-preserved c = let inv = c.loop-i.invariant in
-    let l = c.loop-i-test.true in
-    (inv.0, held_more _ _ _ _ inv.1 c.mark_place.ensures, two_missed _ _ _ _ inv.2 l _ (c.meets.ensures ∙ met_shares _ _ _ inv.1 (inv.0 _ l)) c.if-meets.false)
+pub loop-place-preserved : goal.loop-place-preserved
+loop-place-preserved c =
+    let t = c.args.table in
+    let i = c.loop-place.place-index in
+    let inv = c.loop-place.invariant in
+    let l = c.loop-place-test.true in (
+      held_more _ _ _ _ inv.0 l c.mark.ensures,
+      two_missed share_slot _ _ l _ (c.meets.ensures ∙ met_shares (take t.live t.places) i _ inv.0 (place_within c.args.table c.requires _ l)) inv.1 c.if-meets.false,
+    )
 
 pub returns : goal.returns
-returns c = two_none _ _ _ _ c.loop-i.invariant.2 c.loop-i-test.false ∙ frames_rule _
+returns c =
+    let few : c.args.table.live ≤ length c.args.table.places = search rules in
+    sym (ap (any_two share_slot) (sym (in_all _ _ _ few c.loop-place-test.false)) ∙ c.loop-place.invariant.1) ∙ frames_rule _

@@ -1,10 +1,18 @@
-use native.Mathlib.Omega.{arith}
+use Rattle.std.proofs.Common.{◌≤◌, length, rules}
+use Rattle.table.proofs.Live.{in_all, place_within}
 use Rattle.table.proofs.Holding.{held_none, held_more}
 use Rattle.table.proofs.held_words.Goals as goal
 
-pub loop-i-init : goal.loop-i-init
-loop-i-init c = (omega arith, c.requires.each, held_none _)
+pub loop-place-init : goal.loop-place-init
+loop-place-init c = held_none
 
-pub loop-i-preserved : goal.loop-i-preserved
-loop-i-preserved c = let inv = c.loop-i.invariant in
-    (omega (arith, c.loop-i-test.true), inv.1, held_more _ _ _ _ inv.2 c.mark_place.ensures)
+pub mark-requires : goal.mark-requires
+mark-requires c = (search rules, place_within c.args.table c.requires _ c.loop-place-test.true)
+
+pub loop-place-preserved : goal.loop-place-preserved
+loop-place-preserved c = held_more _ _ _ _ c.loop-place.invariant c.loop-place-test.true c.mark.ensures
+
+pub returns : goal.returns
+returns c =
+    let few : c.args.table.live ≤ length c.args.table.places = search rules in
+    rw (← in_all _ _ _ few c.loop-place-test.false) c.loop-place.invariant

@@ -1,3 +1,4 @@
+use native.Mathlib.Omega.{arith}
 use Rattle.table.proofs.Marks.{no_hop_lem, one_hop, all_hops}
 use Rattle.table.proofs.mark.Goals as goal
 
@@ -5,7 +6,8 @@ pub loop-j-init : goal.loop-j-init
 loop-j-init c = no_hop_lem _ _ _ _ _ c.requires.0 c.requires.1
 
 pub loop-j-preserved : goal.loop-j-preserved
-loop-j-preserved c = one_hop _ _ _ _ _ _ _ c.loop-j.invariant c.loop-j-test.true _ c.bank-at.ensures _ c.set_bit.ensures
+loop-j-preserved c = let slot = c.slot-at.ensures in
+    one_hop _ _ _ _ _ _ _ c.loop-j.invariant (omega arith) _ slot.word _ (rw slot.same at c.set_bit.ensures)
 
 pub returns : goal.returns
-returns c = all_hops _ _ _ _ _ _ _ c.loop-j.invariant c.loop-j-test.false
+returns c = all_hops _ _ _ _ _ _ _ c.loop-j.invariant (omega arith)

@@ -1,8 +1,9 @@
 -- `table::with_place` meets its contract. Assumes nothing.
-use native.Mathlib.Omega.{arith}
+use Rattle.std.proofs.Common.{◌<◌, length, rules}
 use Rattle.table.proofs.Live.{in_set}
 use Rattle.table.proofs.with_place.Goals as goal
 
 pub returns : goal.returns
-returns c = let t = c.args.table in
-    in_set _ _ _ (omega (arith, c.well_formed.0.1.1.1.0.1.0.1, c.requires))
+returns c =
+    let few : c.args.table.live < length c.args.table.places = search rules in
+    in_set _ _ _ few
