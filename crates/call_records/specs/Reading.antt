@@ -1,6 +1,6 @@
 -- What the reader's record of a call says. Assumes nothing.
 use Rattle.std.specs.Prelude.{◌≡◌, List, [], ℕ, Result, Ok, Err}
-use Rattle.refusals.specs.Refusals.{Outcome, given, refused, refusal_number}
+use Rattle.refusals.specs.Refusals.{given, refused, refusal_number}
 use Rattle.refusals.specs.declared.Refusal.{Refusal}
 use Rattle.refusals.specs.declared.Refusal.TheVariants.{UnreadableCall}
 use Rattle.ledger.specs.Calls as calls
@@ -15,11 +15,7 @@ call_of (SetUp n route) = calls.SetUp n route.now
 call_of (Quote route) = calls.Quote route.now
 call_of (Release n) = calls.Release n
 
--- what it says of a record: a call or a refusal, and with it the bytes after the record, where a refusal ends the calls
-abbrev pub call_said : Result Call Refusal → Outcome calls.Call
-call_said (Ok call) = given (call_of call)
-call_said (Err x) = refused (refusal_number x)
-
+-- what it says of a record: a call and the bytes after the record, or a refusal, which ends the calls
 abbrev pub said_by : Result Record Refusal → CallSaid
 said_by (Ok r) = record { call = given (call_of r.call); rest = r.rest.now }
 said_by (Err x) = record { call = refused (refusal_number x); rest = [] }

@@ -3,8 +3,9 @@
 
 ghost use Rattle.std.specs.Prelude.{◌≡◌, ◌≤◌, min};
 ghost use Rattle.std.specs.Iterator.{YieldsFirstBy, item_count};
+ghost use Rattle.refusals.specs.Refusals.{answered};
 ghost use Rattle.call_records.specs.Records.{set_up_said, quote_said, release_said, first_call, calls_in};
-ghost use Rattle.call_records.specs.Reading.{call_said, Reads};
+ghost use Rattle.call_records.specs.Reading.{call_of, Reads};
 ghost use Rattle.call_records.specs.Inner.{told, Numbered, Routed};
 
 use refusals::Refusal;
@@ -32,7 +33,7 @@ pub struct Calls<'a>(pub &'a [u8]);
 impl<'a> Iterator for Calls<'a> {
     type Item = Result<Call<'a>, Refusal>;
 
-    ghost next_gives = { YieldsFirstBy call_said (λ s. calls_in s.0.now) };
+    ghost next_gives = { YieldsFirstBy (answered call_of) (λ s. calls_in s.0.now) };
 
     ghost remaining = { item_count (λ s. calls_in s.0.now) };
 

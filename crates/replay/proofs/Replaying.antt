@@ -2,59 +2,55 @@
 use mathlib.Core.Path.{◌≡◌, refl, sym, ap, ◌∙◌}
 use mathlib.Core.Bool.{true}
 use mathlib.Core.List.{List, [], ◌∷◌}
-use Prim.Native.Nat.{ℕ, ◌+◌, ◌-◌, ◌<◌, ◌≤◌, min}
-use native.Mathlib.Omega.{arith}
-use lib.ListN.{length, take, drop}
-use Rattle.places.proofs.Parts.{part_rest}
-use Rattle.refusals.specs.Refusals.{Outcome, given}
+use Prim.Native.Nat.{ℕ, min}
+use lib.ListN.{length, take}
+use Rattle.std.specs.Prelude.{Result, Ok, Err, ⊤}
+use Rattle.std.specs.Borrow.{Bor}
+use Rattle.refusals.specs.Refusals.{Outcome, given, answered}
+use Rattle.refusals.specs.declared.Refusal.{Refusal}
 use Rattle.network.specs.Network.{topology_of}
 use Rattle.network.specs.declared.Network.{Network}
 use Rattle.ledger.specs.Sessions.{View}
 use Rattle.ledger.specs.Sound.{intact}
-use Rattle.ledger.specs.Calls.{Call, left, next}
-use Rattle.ledger.specs.Calls as calls
+use Rattle.ledger.specs.Calls as rules
 use Rattle.ledger.specs.Demand.{fresh}
-use Rattle.call_records.specs.declared.Kind.TheVariants.{SetUp, Quote, Release, Unreadable}
-use Rattle.call_records.specs.declared.Record.{Record}
+use Rattle.call_records.specs.declared.Call.{Call}
+use Rattle.call_records.specs.declared.Call.TheVariants.{SetUp, Quote, Release}
+use Rattle.call_records.specs.Reading.{call_of}
 use Rattle.call_records.specs.Records.{calls_in, counted}
 use Rattle.call_records.specs.Served.{view_after, view_after_all}
-use Rattle.call_records.specs.Reading.{route_in, call_in}
-use Rattle.call_records.specs.Inner.{read_record}
-use Rattle.call_records.proofs.Cases.{says_set_up, says_quote, says_release, says_nothing}
-use Rattle.call_records.proofs.Calls.{none_from, next_within, call_from, counted_part}
+use Rattle.call_records.proofs.Records.{counted_part}
 use Rattle.state.specs.declared.State.{State}
+use Rattle.state.specs.declared.Quoted.{Quoted}
 use Rattle.state.specs.declared.Served.{Served}
-use Rattle.state.specs.declared.Released.{Released}
 use Rattle.state.specs.State.{view_of, fresh_state, Leaves, Serves, Releases}
 use Rattle.state.proofs.Replies.{left_intact, first_view}
 use Rattle.replay.specs.Replayed.{Becomes}
 
 -- ---- the state after one call
-module _ (st : State) (ok : intact (view_of st) ≡ true) where
+module _ (st : State) (ok : intact (view_of st) ≡ true) (call : Call) where
   -- a call that was made
-  call_made : (call : Call) (after : State) → Leaves st call after → (o : Outcome Call) → o ≡ given call → Becomes st.network (view_after (view_of st) o) after
-  call_made call after l o e = record { network = l.network; view = l.view ∙ ap (view_after (view_of st)) (sym e); unbroken = left_intact st call after l ok }
+  call_made : (c : rules.Call) (after : State) → call_of call ≡ c → Leaves st c after → Becomes st.network (view_after (view_of st) (given (call_of call))) after
+  call_made c after is l = rw is (record { network = l.network; view = l.view; unbroken = left_intact st c after l ok })
 
-  -- the very same state, where no call was made or a quote
-  same_made : (o : Outcome Call) → view_after (view_of st) o ≡ view_of st → Becomes st.network (view_after (view_of st) o) st
-  same_made o e = record { network = refl; view = sym e; unbroken = ok }
+  pub set_up_made : (n : ℕ) (route : Bor (List ℕ)) → call ≡ SetUp n route → (a : Served Quoted) → Serves st (rules.SetUp n route.now) a → Becomes st.network (view_after (view_of st) (given (call_of call))) a.state
+  set_up_made n route is a w = call_made (rules.SetUp n route.now) a.state (ap call_of is) w.after
 
-  module _ (r : Record) (s : List ℕ) where
-    pub set_up_made : r.kind ≡ SetUp → (route : List ℕ) → route ≡ route_in r s → (a : Served) → Serves st (calls.SetUp r.number route) a → Becomes st.network (view_after (view_of st) (call_in r s)) a.state
-    set_up_made k route e a w = call_made (calls.SetUp r.number route) a.state w.after (call_in r s) (says_set_up r s k route e)
+  pub release_made : (n : ℕ) → call ≡ Release n → (a : Served ⊤) → Releases st n a → Becomes st.network (view_after (view_of st) (given (call_of call))) a.state
+  release_made n is a w = call_made (rules.Release n) a.state (ap call_of is) w.after
 
-    pub quote_made : r.kind ≡ Quote → Becomes st.network (view_after (view_of st) (call_in r s)) st
-    unfolding left next
-    quote_made k = same_made (call_in r s) (ap (view_after (view_of st)) (says_quote r s k (route_in r s) refl))
+  -- the very same state after a quote
+  pub quote_made : (route : Bor (List ℕ)) → call ≡ Quote route → Becomes st.network (view_after (view_of st) (given (call_of call))) st
+  unfolding rules.left rules.next
+  quote_made route is = rw is (record { network = refl; view = refl; unbroken = ok })
 
-    pub release_made : r.kind ≡ Release → (a : Released) → Releases st r.number a → Becomes st.network (view_after (view_of st) (call_in r s)) a.state
-    release_made k a w = call_made (calls.Release r.number) a.state w.after (call_in r s) (says_release r s k)
-
-    pub nothing_made : r.kind ≡ Unreadable → Becomes st.network (view_after (view_of st) (call_in r s)) st
-    nothing_made k = same_made (call_in r s) (ap (view_after (view_of st)) (says_nothing r s k))
+-- a record that can't be read makes no call
+pub none_made : (st : State) → intact (view_of st) ≡ true → (o : Result Call Refusal) → ((call : Call) → o ≡ Ok call → ⊥) → Becomes st.network (view_after (view_of st) (answered call_of o)) st
+none_made st ok (Ok call) h = absurd (h call refl)
+none_made st ok (Err r) h = record { network = refl; view = refl; unbroken = ok }
 
 -- ---- the calls one after the other
-after_more : (v : View) (o : Outcome Call) (os : List (Outcome Call)) → view_after_all v (o ∷ os) ≡ view_after_all (view_after v o) os
+after_more : (v : View) (o : Outcome rules.Call) (os : List (Outcome rules.Call)) → view_after_all v (o ∷ os) ≡ view_after_all (view_after v o) os
 unfolding view_after_all
 after_more v o os = refl
 
@@ -62,32 +58,23 @@ after_none : (v : View) → view_after_all v [] ≡ v
 unfolding view_after_all
 after_none v = refl
 
--- the calls before `from` are made: those from there on leave what all of them leave
-pub record Running (net : Network) (v : View) (bytes : List ℕ) (st : State) (from : ℕ) : Type 0 where
+-- some calls are made: those that are left leave what all of them leave
+pub record Running (net : Network) (v : View) (st : State) (os : List (Outcome rules.Call)) : Type 0 where
   pub network : st.network ≡ net
-  pub within : from ≤ length bytes
   pub unbroken : intact (view_of st) ≡ true
-  pub whole : v ≡ view_after_all (view_of st) (calls_in (drop from bytes))
+  pub whole : v ≡ view_after_all (view_of st) os
 
-pub none_run : (bytes : List ℕ) (st : State) → intact (view_of st) ≡ true → Running st.network (view_after_all (view_of st) (calls_in bytes)) bytes st 0
-none_run bytes st e = record { network = refl; within = omega arith; unbroken = e; whole = refl }
-
-module _ (net : Network) (v : View) (bytes : List ℕ) (st : State) (from : ℕ) (run : Running net v bytes st from) where
-  pub one_run : (h : from < length bytes) (r : Record) (is : r ≡ read_record (take (length bytes - from) (drop from bytes))) (after : State)
-      → Becomes st.network (view_after (view_of st) (call_in r (take (length bytes - from) (drop from bytes)))) after → Running net v bytes after (from + r.end)
-  one_run h r is after b =
-      let o : Outcome Call = call_in r (drop from bytes) in
-      let os : List (Outcome Call) = calls_in (drop (from + r.end) bytes) in
-      let w : Becomes st.network (view_after (view_of st) o) after = rw (part_rest from bytes) at b in
+module _ {net : Network} {v : View} {st : State} {os : List (Outcome rules.Call)} (run : Running net v st os) where
+  pub one_run : (o : Outcome rules.Call) (rest : List (Outcome rules.Call)) → os ≡ o ∷ rest → (after : State) → Becomes st.network (view_after (view_of st) o) after → Running net v after rest
+  one_run o rest e after w =
       record {
         network = w.network ∙ run.network;
-        within = (next_within bytes from h r is).1;
         unbroken = w.unbroken;
-        whole = run.whole ∙ ap (view_after_all (view_of st)) (call_from bytes from h r is) ∙ after_more (view_of st) o os ∙ ap (λ (x : View). view_after_all x os) (sym w.view);
+        whole = run.whole ∙ ap (view_after_all (view_of st)) e ∙ after_more (view_of st) o rest ∙ ap (λ (x : View). view_after_all x rest) (sym w.view);
       }
 
-  pub all_run : length bytes ≤ from → Becomes net v st
-  all_run h = record { network = run.network; view = sym (run.whole ∙ ap (view_after_all (view_of st)) (none_from bytes from h) ∙ after_none (view_of st)); unbroken = run.unbroken }
+  pub all_run : os ≡ [] → Becomes net v st
+  all_run e = record { network = run.network; view = sym (run.whole ∙ ap (view_after_all (view_of st)) e ∙ after_none (view_of st)); unbroken = run.unbroken }
 
 -- ---- from a network without sessions
 module _ (net : Network) (st : State) (begun : st ≡ fresh_state net) where

@@ -2,7 +2,7 @@
 // A state is known not to be broken from the fresh network on, so the calls are made on it without check 0.
 #![tactic(auto)]
 
-ghost use Rattle.std.specs.Prelude.{◌≡◌, true, length};
+ghost use Rattle.std.specs.Prelude.{◌≡◌, true};
 ghost use Rattle.refusals.specs.Refusals.{given, pass};
 ghost use Rattle.network.specs.Network.{topology_of};
 ghost use Rattle.network.specs.Checks.{network_check};
@@ -10,47 +10,36 @@ ghost use Rattle.ledger.specs.Sound.{intact};
 ghost use Rattle.ledger.specs.Demand.{fresh};
 ghost use Rattle.call_records.specs.Records.{calls_in, counted};
 ghost use Rattle.call_records.specs.Served.{view_after, view_after_all};
-ghost use Rattle.call_records.specs.Reading.{call_in};
-ghost use Rattle.call_records.specs.Inner.{InBytes};
+ghost use Rattle.call_records.specs.Reading.{call_of};
 ghost use Rattle.state.specs.State.{view_of};
 ghost use Rattle.replay.specs.Replayed.{Becomes};
 
-use call_records::{Kind, Record};
+use call_records::{Call, Calls};
 use network::Network;
 use state::State;
 
-// The state after the call of a record at the start of `rest`. A quote changes nothing, and a record that can't be read makes no call.
-fn made(st: State, call: Record, rest: &[u8]) -> State
-    requires { (intact (view_of st) ≡ true) × InBytes call (length rest.now) }
-    ensures { Becomes st.network (view_after (view_of st) (call_in call rest.now)) result }
+// The state after a call. A quote changes nothing.
+fn made(st: State, call: Call<'_>) -> State
+    requires { intact (view_of st) ≡ true }
+    ensures { Becomes st.network (view_after (view_of st) (given (call_of call.entry))) result }
 {
-    let kind = call.kind;
-    match kind {
-        Kind::SetUp => {
-            let route = call_records::route(rest, call);
-            let served = state::set_up(st, call.number, route);
-            served.state
-        }
-        Kind::Quote => st,
-        Kind::Release => {
-            let released = state::release(st, call.number);
-            released.state
-        }
-        Kind::Unreadable => st,
+    match call {
+        Call::SetUp(number, route) => state::set_up(st, number, route).state,
+        Call::Quote(_) => st,
+        Call::Release(number) => state::release(st, number).state,
     }
 }
 
-// The state after all calls: each record starts where the one before it ends.
+// The state after all calls. A record that can't be read makes no call.
 fn run(first: State, calls: &[u8]) -> State
     requires { intact (view_of first) ≡ true }
     ensures { Becomes first.network (view_after_all (view_of first) (calls_in calls.now)) result }
 {
     let mut st = first;
-    let mut from = 0;
-    while from < calls.len() {
-        let call = call_records::read_record(&calls[from..]);
-        st = made(st, call, &calls[from..]);
-        from += call.end;
+    for call in Calls(calls) {
+        if let Ok(call) = call {
+            st = made(st, call);
+        }
     }
     st
 }
@@ -63,6 +52,5 @@ pub fn state_after(network: Network, calls: &[u8]) -> State
     ensures { Becomes network (view_after_all (fresh (topology_of network)) (calls_in (counted calls.now))) result }
 {
     let first = state::fresh_state(network);
-    let n = call_records::counted(calls.len());
-    run(first, &calls[..n])
+    run(first, &calls[..call_records::counted(calls.len())])
 }
