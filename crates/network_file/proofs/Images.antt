@@ -3,13 +3,15 @@ use mathlib.Core.Path.{◌≡◌, refl, sym, ap, ◌∙◌}
 use mathlib.Core.List.{List, [], ◌∷◌, ◌++◌, append_assoc}
 use Prim.Native.Nat.{ℕ, ◌+◌, ◌<◌, ◌≤◌}
 use native.Mathlib.Omega.{arith}
-use lib.ListN.{length, get_or, drop, set, length-append}
+use lib.ListN.{drop_of_length-le, length, take, get_or, drop, set, length-append}
 use Rattle.std.specs.Prelude.{Result, Ok, Err, ⊤}
 use Rattle.places.specs.Put.{put_at}
 use Rattle.places.specs.Places.{firsts}
 use Rattle.places.proofs.Pieces.{Pieces}
 use Rattle.places.proofs.Puts.{Grown, grow, put_length, put_set, put_zero}
-use Rattle.places.proofs.Firsts.{length_firsts, next_first, no_first}
+use Rattle.places.proofs.Firsts.{length_firsts, firsts_take}
+use Rattle.std.proofs.lemmas.List.{drop_more}
+use Rattle.refusals.specs.declared.Refusal.TheVariants.{ShortBuffer}
 use Rattle.refusals.specs.declared.Refusal.{Refusal}
 use Rattle.refusals.specs.Refusals.{given, refused, pass, refusal_number, ruling}
 use Rattle.numbers.specs.Numbers.{bytes_of}
@@ -22,36 +24,34 @@ use Rattle.network.proofs.Checks.{network_good}
 use Rattle.network.proofs.Tests.{count_passed}
 use Rattle.records.specs.declared.Field.{Field}
 use Rattle.records.specs.Writing.{record_of}
-use Rattle.records.specs.Layout.{no_field}
 use Rattle.network_file.specs.Lent.{length_read, Writes}
 use Rattle.network_file.specs.Writing.{link_bytes, links_bytes, image_of, write_network}
 use Rattle.network_file.specs.Inner.{Writable}
 use Rattle.network_file.specs.Fields.{link_layout, values_of}
-use Rattle.network_file.proofs.Records.{layout_back, values_back}
 use Rattle.network_file.proofs.Lent.{short_written, long_written}
 
 -- ---- a link's record
-pub link_bytes_lem : (l : Link) (fields : List Field) (values : List ℕ) → fields ≡ firsts 8 link_layout no_field → values ≡ firsts 8 (values_of l) 0 → record_of (firsts 4 fields no_field) (firsts 4 values 0) ≡ link_bytes l
+pub link_bytes_lem : (l : Link) (fields : List Field) (values : List ℕ) → fields ≡ link_layout → values ≡ values_of l → record_of fields values ≡ link_bytes l
 unfolding link_bytes
-link_bytes_lem l fields values ef ev = rw (ef, ev, layout_back, values_back l)
+link_bytes_lem l fields values ef ev = rw (ef, ev)
 
 -- the bytes of link i, and of the links from i on
 abbrev pub link_at : List Link → ℕ → List ℕ
 link_at links i = link_bytes (get_or links i no_link)
 
-abbrev pub links_from : List Link → ℕ → ℕ → List ℕ
-links_from links count i = links_bytes (drop i (firsts count links no_link))
+abbrev pub links_from : List Link → ℕ → List ℕ
+links_from links i = links_bytes (drop i links)
 
-module _ (links : List Link) (count : ℕ) where
-  more_bytes : (i : ℕ) → i < count → links_from links count i ≡ link_at links i ++ links_from links count (i + 1)
+module _ (links : List Link) where
+  more_bytes : (i : ℕ) → i < length links → links_from links i ≡ link_at links i ++ links_from links (i + 1)
   unfolding links_bytes
-  more_bytes i h = rw (next_first count i links no_link h)
+  more_bytes i h = rw (drop_more links i no_link h)
 
-  end_bytes : (i : ℕ) → count ≤ i → links_from links count i ≡ []
+  end_bytes : (i : ℕ) → length links ≤ i → links_from links i ≡ []
   unfolding links_bytes
-  end_bytes i h = rw (no_first count i links no_link h)
+  end_bytes i h = rw (drop_of_length-le links {i = i} h)
 
-  pub links_pieces : Pieces count (link_at links) (links_from links count)
+  pub links_pieces : Pieces (length links) (link_at links) (links_from links)
   links_pieces = record { more = more_bytes; end = end_bytes }
 
 -- ---- a network that passed its checks
@@ -65,6 +65,9 @@ module _ (n : Network) (passed : network_check (topology_of n) ≡ given pass) w
   pub few : n.count ≤ 32
   unfolding topology_of
   few = rw (length_firsts n.count n.links no_link) at (count_passed (length (topology_of n).links) (network_good (topology_of n) passed).count).1
+
+  pub taken : n.count ≤ length n.links → take n.count n.links ≡ firsts n.count n.links no_link
+  taken h = sym (firsts_take n.count n.links no_link h)
 
   abbrev head : List ℕ
   head = bytes_of 2 n.ticks
@@ -102,17 +105,21 @@ module _ (n : Network) (passed : network_check (topology_of n) ≡ given pass) w
       pub image_put : b3 ≡ image ++ drop (length image) buffer
       image_put = three.holds ∙ ap (λ (x : List ℕ). put_at 0 x buffer) (sym image_is) ∙ put_zero image buffer
 
-  module _ (buffer : List ℕ) (size : ℕ) (es : size ≡ 3 + length records) where
-    pub short : length buffer < size → (r : Refusal) → refusal_number r ≡ 20 → Writes (write_network (topology_of n) (length buffer)) buffer buffer (Err r)
-    unfolding write_network
-    short h r c = rw passed (short_written (length image) image buffer (omega (arith, image_long)) r c)
+  -- the length of its image, from that of its records
+  module _ (buffer : List ℕ) (k : ℕ) (h : n.count ≤ length n.links) (ek : k ≡ length (links_bytes (take n.count n.links))) where
+    size : 3 + k ≡ length image
+    size = ap (λ (m : ℕ). 3 + m) (rw (taken h) at ek) ∙ sym image_long
 
-    pub enough : size ≤ length buffer → Writable n (length buffer)
-    enough h = record { passed = passed; enough = omega (arith, image_long) }
-
-    pub image_written : size ≤ length buffer → (after : List ℕ) → after ≡ image ++ drop (length image) buffer → Writes (write_network (topology_of n) (length buffer)) buffer after (Ok size)
+    pub short : length buffer < 3 + k → Writes (write_network (topology_of n) (length buffer)) buffer buffer (Err ShortBuffer)
     unfolding write_network
-    image_written h after ea = rw passed (long_written (length image) image buffer (omega (arith, image_long)) after size (es ∙ sym image_long) ea)
+    short l = rw passed (short_written (length image) image buffer (omega (arith, size)) ShortBuffer refl)
+
+    pub enough : 3 + k ≤ length buffer → Writable n (length buffer)
+    enough l = record { passed = passed; enough = omega (arith, size) }
+
+    pub image_written : 3 + k ≤ length buffer → (after : List ℕ) → after ≡ image ++ drop (length image) buffer → Writes (write_network (topology_of n) (length buffer)) buffer after (Ok (3 + k))
+    unfolding write_network
+    image_written l after ea = rw passed (long_written (length image) image buffer (omega (arith, size)) after (3 + k) size ea)
 
 -- ---- one that did not
 pub check_refused : (n : Network) (v : Result ⊤ Refusal) → ruling v ≡ network_check (topology_of n) → (r : Refusal) → v ≡ Err r → (buffer : List ℕ) (q : Result ℕ Refusal) → length_read q ≡ refused (refusal_number r) → Writes (write_network (topology_of n) (length buffer)) buffer buffer q

@@ -7,8 +7,6 @@ use native.Mathlib.Omega.{arith}
 use borrow.Author.Tests.{ne_eqb}
 use lib.ListN.{get_or}
 use Rattle.std.specs.Prelude.{Result, Ok, Err, ⊤}
-use Rattle.places.specs.Places.{firsts}
-use Rattle.places.proofs.Firsts.{get_d_firsts}
 use Rattle.refusals.specs.Refusals.{given, refused, refused_or, refusal_number, ruling, answered}
 use Rattle.refusals.specs.declared.Refusal.{Refusal}
 use Rattle.words.proofs.Words.{word_below}
@@ -18,27 +16,20 @@ use Rattle.network.specs.Checks.{link_check}
 use Rattle.records.specs.declared.Record.{Record}
 use Rattle.records.specs.declared.Field.{Field}
 use Rattle.records.specs.Reading.{Said, read_record, said_of}
-use Rattle.records.specs.Layout.{no_field, is_bit, is_layout, Laid, Fits}
+use Rattle.records.specs.Layout.{is_bit, is_layout, Laid, Fits}
 use Rattle.records.proofs.Layouts.{fits_at}
 use Rattle.records.proofs.Maps.{none_stray, stray_none}
 use Rattle.records.proofs.ReadWrite.{Whole, record_only}
-use Rattle.network_file.specs.Fields.{link_layout, values_of, link_of}
+use Rattle.network_file.specs.Fields.{link_layout, link_of}
 use Rattle.network_file.specs.Reading.{read_link, StrayAbove, AboveStray}
 
 pub link_layout_lem : is_layout link_layout ≡ true
 unfolding is_layout is_bit link_layout
 link_layout_lem = refl
 
-pub layout_back : firsts 4 (firsts 8 link_layout no_field) no_field ≡ link_layout
-unfolding firsts link_layout
-layout_back = refl
-
-pub values_back : (l : Link) → firsts 4 (firsts 8 (values_of l) 0) 0 ≡ values_of l
-unfolding firsts values_of
-values_back l = refl
-
-pub link_laid : (fields : List Field) → fields ≡ firsts 8 link_layout no_field → Laid fields 4
-link_laid fields e = record { few = omega arith; layout = rw (e, layout_back) link_layout_lem }
+pub link_laid : (fields : List Field) → fields ≡ link_layout → Laid fields
+unfolding link_layout
+link_laid fields e = rw e (record { few = omega arith; layout = link_layout_lem })
 
 -- 5, "A map byte has a bit above bit" 3, in its own words: no bit is stray exactly where the map byte is below 16
 no_bit : (i : ℕ) → 4 ≤ i → is_bit link_layout i ≡ false
@@ -64,39 +55,31 @@ pub fields_small : (vs : List ℕ) → Fits link_layout vs → (get_or vs 0 0 < 
 unfolding link_layout
 fields_small vs h = (fits_at link_layout vs h 0 (omega arith), fits_at link_layout vs h 1 (omega arith), fits_at link_layout vs h 3 (omega arith))
 
--- the values of a record in their places
-pub link_places : (vs : List ℕ) → link_of (firsts 4 vs 0) ≡ link_of vs
-unfolding link_of
-link_places vs = rw (get_d_firsts 4 0 vs 0 (omega arith), get_d_firsts 4 1 vs 0 (omega arith), get_d_firsts 4 2 vs 0 (omega arith), get_d_firsts 4 3 vs 0 (omega arith))
-
 -- ---- reading
 pub link_said : (T : ℕ) (s : List ℕ) (x : Said) → read_record link_layout s ≡ given x → read_link T s ≡ refused_or (link_check T (link_of x.values)) (given (record { link = link_of x.values; used = x.used }))
 unfolding read_link
 link_said T s x e = rw e
 
-module _ (T : ℕ) (s : List ℕ) (fields : List Field) (ef : fields ≡ firsts 8 link_layout no_field) (q : Result Record Refusal) (t : answered (said_of 4) q ≡ read_record (firsts 4 fields no_field) s) where
-  told : answered (said_of 4) q ≡ read_record link_layout s
-  told = rw (ef, layout_back) at t
+module _ (T : ℕ) (s : List ℕ) (fields : List Field) (ef : fields ≡ link_layout) (q : Result (Record 4) Refusal) (t : answered said_of q ≡ read_record fields s) where
+  told : answered said_of q ≡ read_record link_layout s
+  told = rw ef at t
 
   pub record_refused : (x : Refusal) → q ≡ Err x → refused (refusal_number x) ≡ read_link T s
   unfolding read_link
   record_refused x e = rw (← told, e)
 
-  module _ (r : Record) (e : q ≡ Ok r) where
-    said : read_record link_layout s ≡ given (said_of 4 r)
+  module _ (r : Record 4) (e : q ≡ Ok r) where
+    said : read_record link_layout s ≡ given (said_of r)
     said = sym told ∙ rw e
 
     pub record_small : ((i : ℕ) → get_or s i 0 < 256) → (get_or r.values 0 0 < 256) × (get_or r.values 1 0 < 256) × (get_or r.values 3 0 < 256)
     record_small b =
-        let w : Whole link_layout s (said_of 4 r) = record_only link_layout s (said_of 4 r) link_layout_lem b said in
-        rw (get_d_firsts 4 0 r.values 0 (omega arith), get_d_firsts 4 1 r.values 0 (omega arith), get_d_firsts 4 3 r.values 0 (omega arith)) at (fields_small (said_of 4 r).values w.fit)
+        let w : Whole link_layout s (said_of r) = record_only link_layout s (said_of r) link_layout_lem b said in
+        fields_small r.values w.fit
 
     module _ (l : Link) (el : l ≡ link_of r.values) (v : Result ⊤ Refusal) (ev : ruling v ≡ link_check T l) where
-      same : l ≡ link_of (said_of 4 r).values
-      same = el ∙ sym (link_places r.values)
-
       split : read_link T s ≡ refused_or (ruling v) (given (record { link = l; used = r.used }))
-      split = link_said T s (said_of 4 r) said ∙ rw (← same, ← ev)
+      split = link_said T s (said_of r) said ∙ rw (← el, ← ev)
 
       pub link_refused : (x : Refusal) → v ≡ Err x → refused (refusal_number x) ≡ read_link T s
       link_refused x p = sym (split ∙ rw p)

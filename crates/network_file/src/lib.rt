@@ -5,9 +5,6 @@ ghost use Rattle.std.specs.Prelude.{◌≡◌, [], ◌++◌, ◌+◌, ◌<◌, �
 ghost use Rattle.places.specs.Places.{firsts};
 ghost use Rattle.places.specs.Put.{put_at};
 ghost use Rattle.network.specs.Network.{no_link, topology_of};
-ghost use Rattle.refusals.specs.Refusals.{given, pass};
-ghost use Rattle.network.specs.Checks.{network_check};
-ghost use Rattle.records.specs.Layout.{no_field};
 ghost use Rattle.network_file.specs.Fields.{link_layout, values_of, link_of};
 ghost use Rattle.network_file.specs.Reading.{read_link, read_links, read_network, link_read, Reads, within};
 ghost use Rattle.network_file.specs.Lent.{Writes};
@@ -22,55 +19,47 @@ use refusals::Refusal;
 const FIELDS: usize = 4;
 
 // The layout of a link record: K, Z, closed frames, Y.
-fn link_fields() -> [Field; 8]
-    ensures { result ≡ firsts 8 link_layout no_field }
+fn link_fields() -> [Field; FIELDS]
+    ensures { result ≡ link_layout }
 {
-    let mut fields = [Field {
-        bit: 0,
-        size: 0,
-        absent: 0,
-    }; 8];
-    fields[0] = Field {
-        bit: 0,
-        size: 1,
-        absent: 16,
-    };
-    fields[1] = Field {
-        bit: 1,
-        size: 1,
-        absent: 4,
-    };
-    fields[2] = Field {
-        bit: 2,
-        size: 8,
-        absent: 0,
-    };
-    fields[3] = Field {
-        bit: 3,
-        size: 1,
-        absent: 1,
-    };
-    fields
+    [
+        Field {
+            bit: 0,
+            size: 1,
+            absent: 16,
+        },
+        Field {
+            bit: 1,
+            size: 1,
+            absent: 4,
+        },
+        Field {
+            bit: 2,
+            size: 8,
+            absent: 0,
+        },
+        Field {
+            bit: 3,
+            size: 1,
+            absent: 1,
+        },
+    ]
 }
 
 // The values of a link's fields, in the order of the layout.
-fn values_of(link: Link) -> [u64; 8]
-    ensures { result ≡ firsts 8 (values_of link) 0 }
+fn values_of(link: Link) -> [u64; FIELDS]
+    ensures { result ≡ values_of link }
 {
     [
-        link.frames as u64,
-        link.range as u64,
+        u64::from(link.frames),
+        u64::from(link.range),
         link.closed,
-        link.least as u64,
-        0,
-        0,
-        0,
-        0,
+        u64::from(link.least),
     ]
 }
 
 // The link of a record's values. K, Z and Y are read from a byte each.
-fn link_of(values: [u64; 8]) -> Link
+fn link_of(values: [u64; FIELDS]) -> Link
     requires { (get_or values 0 0 < 256) × (get_or values 1 0 < 256) × (get_or values 3 0 < 256) }
     ensures { result ≡ link_of values }
 {
@@ -87,8 +76,7 @@ fn link_of(values: [u64; 8]) -> Link
 pub fn read_link(ticks: u16, rest: &[u8]) -> Result<(Link, usize), Refusal>
     ensures { link_read result ≡ read_link ticks rest.now }
 {
-    let fields = link_fields();
-    let record = records::read_record(rest, fields, FIELDS)?;
+    let record = records::read_record(rest, &link_fields())?;
     let link = link_of(record.values);
     network::check_link(ticks, link)?;
     Ok((link, record.used))
@@ -145,22 +133,17 @@ pub fn read_network(file: &[u8]) -> Result<Network, Refusal>
 fn link_length(link: Link) -> usize
     ensures { (result ≡ length (link_bytes link)) × (result ≤ 65) }
 {
-    let values = values_of(link);
-    let fields = link_fields();
-    records::record_length(values, fields, FIELDS)
+    records::record_length(&values_of(link), &link_fields())
 }
 
-// The length of the records of the first links. Check 2 guarantees what it requires.
-fn links_length(links: [Link; 32], count: usize) -> usize
-    requires { count ≤ 32 }
-    ensures { (result ≡ length (links_bytes (firsts count links no_link))) × (result ≤ 2080) }
+// The length of the records of some links. Check 2 guarantees what it requires.
+fn links_length(links: &[Link]) -> usize
+    requires { length links.now ≤ 32 }
+    ensures { (result ≡ length (links_bytes links.now)) × (result ≤ 2080) }
 {
     let mut total = 0;
-    let mut i = 0;
-    while i < count {
-        let link = links[i];
-        total += link_length(link);
-        i += 1;
+    for link in links {
+        total += link_length(*link);
     }
     total
 }
@@ -171,22 +154,17 @@ fn write_link(rest: &mut [u8], link: Link) -> usize
     requires { length (link_bytes link) ≤ length rest.old }
     ensures { (result ≡ length (link_bytes link)) × (rest.new ≡ link_bytes link ++ drop result rest.old) }
 {
-    let values = values_of(link);
-    let fields = link_fields();
-    records::write_record(rest, values, fields, FIELDS)
+    records::write_record(rest, &values_of(link), &link_fields())
 }
 
-// The records of the first links, from place 3 of a buffer on.
-fn write_links(buffer: &mut [u8], links: [Link; 32], count: usize)
-    requires { (count ≤ 32) × (3 + length (links_bytes (firsts count links no_link)) ≤ length buffer.old) }
-    ensures { buffer.new ≡ put_at 3 (links_bytes (firsts count links no_link)) buffer.old }
+// The records of some links, from place 3 of a buffer on.
+fn write_links(buffer: &mut [u8], links: &[Link])
+    requires { 3 + length (links_bytes links.now) ≤ length buffer.old }
+    ensures { buffer.new ≡ put_at 3 (links_bytes links.now) buffer.old }
 {
     let mut at = 3;
-    let mut placed = 0;
-    while placed < count {
-        let link = links[placed];
-        at += write_link(&mut buffer[at..], link);
-        placed += 1;
+    for link in links {
+        at += write_link(&mut buffer[at..], *link);
     }
 }
 
@@ -195,24 +173,10 @@ fn write_image(network: Network, buffer: &mut [u8])
     requires { Writable network (length buffer.old) }
     ensures { buffer.new ≡ image_of (topology_of network) ++ drop (length (image_of (topology_of network))) buffer.old }
 {
-    numbers::write_number(buffer, 2, network.ticks as u64);
+    numbers::write_number(buffer, 2, u64::from(network.ticks));
     buffer[2] = network.count as u8;
     let links = network.links;
-    write_links(buffer, links, network.count);
-}
-
-// Check 20, then the image, of a network that passed its checks.
-fn write_passed(network: Network, buffer: &mut [u8]) -> Result<usize, Refusal>
-    requires { network_check (topology_of network) ≡ given pass }
-    ensures { Writes (write_network (topology_of network) (length buffer.old)) buffer.old buffer.new result }
-{
-    let links = network.links;
-    let length = 3 + links_length(links, network.count);
-    if buffer.len() < length {
-        return Err(Refusal::ShortBuffer);
-    }
-    write_image(network, buffer);
-    Ok(length)
+    write_links(buffer, &links[..network.count]);
 }
 
 // A network's file at the start of a buffer, and its length. A refused call leaves the buffer as it is. A buffer of 387 bytes serves for every
@@ -221,5 +185,11 @@ pub fn write_network(network: Network, buffer: &mut [u8]) -> Result<usize, Refus
     ensures { Writes (write_network (topology_of network) (length buffer.old)) buffer.old buffer.new result }
 {
     network::check_network(network)?;
-    write_passed(network, buffer)
+    let links = network.links;
+    let length = 3 + links_length(&links[..network.count]);
+    if buffer.len() < length {
+        return Err(Refusal::ShortBuffer);
+    }
+    write_image(network, buffer);
+    Ok(length)
 }

@@ -4,12 +4,13 @@ use mathlib.Core.Bool.{Bool, true, false, not, ◌&&◌}
 use mathlib.Core.List.{List, [], ◌∷◌}
 use Prim.Native.Nat.{ℕ, zero, suc, ◌+◌, ◌*◌, ◌^◌, ◌<◌, ◌≤◌}
 use native.Mathlib.Nat.{not-suc-le-zero, le_of_suc-le-suc}
+use native.Mathlib.Omega.{arith}
+use mathlib.Core.Logic.{◌⊎◌, inl, inr}
 use borrow.Author.Tests.{ltb-true, leb-true, not-true}
 use lib.ListN.{length, get_or, drop}
+use Rattle.std.proofs.lemmas.List.{drop_more}
 use lib.Dec.{ltb, leb}
 use Rattle.lists.proofs.Count.{and_both}
-use Rattle.places.specs.Places.{firsts}
-use Rattle.places.proofs.Firsts.{next_first}
 use Rattle.records.specs.declared.Field.{Field}
 use Rattle.records.specs.Layout.{no_field, is_bit, is_layout, Laid, Fits, fits_none, fits_more}
 
@@ -44,10 +45,41 @@ layout_drop (suc j) [] e = e
 layout_drop (suc j) (f ∷ fs) e = layout_drop j fs (leads f fs e).others
 
 -- place j of an array of fields that is a layout
-pub laid_at : (fields : List Field) (n j : ℕ) → Laid fields n → j < n → Leads (get_or fields j no_field) (drop (j + 1) (firsts n fields no_field))
-laid_at fields n j l h =
-    let fs : List Field = firsts n fields no_field in
-    leads (get_or fields j no_field) (drop (j + 1) fs) (sym (ap is_layout (next_first n j fields no_field h)) ∙ layout_drop j fs l.layout)
+pub laid_at : (fields : List Field) (j : ℕ) → Laid fields → j < length fields → Leads (get_or fields j no_field) (drop (j + 1) fields)
+laid_at fields j l h =
+    leads (get_or fields j no_field) (drop (j + 1) fields) (sym (ap is_layout (drop_more fields j no_field h)) ∙ layout_drop j fields l.layout)
+
+-- ---- fields still to come, each with its value
+pub record Left (fields : List Field) (values : List ℕ) : Type 0 where
+  pub layout : is_layout fields ≡ true
+  pub many : length values ≡ length fields
+
+-- all fields, as a loop over them begins
+pub record Starts (fs : List Field) (vs : List ℕ) (fields : List Field) (values : List ℕ) : Type 0 where
+  pub laid : Laid fs
+  pub many : length vs ≡ length fs
+  pub same_fields : fields ≡ fs
+  pub same_values : values ≡ vs
+
+-- a field and its value, before the others
+pub record Next (f : Field) (v : ℕ) (fields : List Field) (values : List ℕ) (fields₀ : List Field) (values₀ : List ℕ) : Type 0 where
+  pub same_fields : fields₀ ≡ f ∷ fields
+  pub same_values : values₀ ≡ v ∷ values
+
+pub all_left : (fs : List Field) (vs : List ℕ) (fields : List Field) (values : List ℕ) → Starts fs vs fields values → Left fields values
+all_left fs vs fields values s = rw (s.same_fields, s.same_values) (record { layout = s.laid.layout; many = s.many })
+
+module _ (f : Field) (v : ℕ) (fields : List Field) (values : List ℕ) (fields₀ : List Field) (values₀ : List ℕ) (x : Next f v fields values fields₀ values₀) (l : Left fields₀ values₀) where
+  pub first_left : Leads f fields
+  first_left = leads f fields (rw x.same_fields at l.layout)
+
+  pub one_left : Left fields values
+  one_left = record { layout = first_left.others; many = omega (arith, l.many, ap length x.same_fields, ap length x.same_values) }
+
+-- the loop over them ends with the fields
+pub none_left : {A B : Type 0} {P : A → Type 0} {Q : B → Type 0} (fields : List Field) (values : List ℕ) → Left fields values → ((x : A) × ((length fields ≡ 0) × P x)) ⊎ ((x : B) × ((length values ≡ 0) × Q x)) → length fields ≡ 0
+none_left fields values l (inl x) = x.1.0
+none_left fields values l (inr x) = omega (arith, l.many, x.1.0)
 
 -- a value that fits in its field
 pub fits_at : (fs : List Field) (vs : List ℕ) → Fits fs vs → (j : ℕ) → j < length fs → get_or vs j 0 < 2 ^ (8 * (get_or fs j no_field).size)

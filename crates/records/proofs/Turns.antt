@@ -5,11 +5,12 @@ use mathlib.Core.List.{List, [], ◌∷◌, ◌++◌, append_assoc, append-nil}
 use Prim.Native.Nat.{ℕ, ◌+◌, ◌*◌, ◌-◌, ◌<◌, ◌≤◌}
 use native.Mathlib.Omega.{arith}
 use lib.Seq.{drop-drop}
-use lib.ListN.{length, get_or, drop, take, set, length-append, length-drop}
+use Rattle.std.proofs.lemmas.List.{drop_more}
+use lib.ListN.{drop_of_length-le, length, get_or, drop, take, set, length-append, length-drop}
 use lib.Dec.{eqb}
 use Rattle.places.specs.Places.{firsts}
 use Rattle.places.proofs.Parts.{part_rest}
-use Rattle.places.proofs.Firsts.{next_first, no_first, firsts_more}
+use Rattle.places.proofs.Firsts.{firsts_more, firsts_all}
 use Rattle.numbers.specs.Numbers.{number_in}
 use Rattle.words.specs.Word.{bit_of, without_bit}
 use Rattle.records.specs.Reading.{size_in, needed, value_in, values_in, stray_bits, restated}
@@ -17,7 +18,7 @@ use Rattle.records.specs.declared.Field.{Field}
 use Rattle.records.specs.Layout.{no_field, Laid, stands}
 use Rattle.records.proofs.Sizes.{size_small, needed_none, needed_more}
 use Rattle.records.proofs.Maps.{map_without, stray_rule}
-use Rattle.records.proofs.Layouts.{laid_at}
+use Rattle.records.proofs.Layouts.{laid_at, Left, Starts, Next, all_left, one_left}
 
 -- ---- a field
 pub size_here : (map : ℕ) (f : Field) (b : Bool) → b ≡ bit_of map f.bit → b ≡ true → f.size ≡ size_in map f
@@ -47,65 +48,58 @@ pub restated_absent : (map : ℕ) (f : Field) (v : ℕ) (b : Bool) → b ≡ bit
 unfolding stands
 restated_absent map f v b e h = rw (← e, h)
 
-module _ (fields : List Field) (n : ℕ) where
-  abbrev fs : List Field
-  fs = firsts n fields no_field
-
+module _ (fs : List Field) where
   -- ---- the bytes that the fields need
   pub record Added (map total j : ℕ) : Type 0 where
-    pub within : j ≤ n
+    pub within : j ≤ length fs
     pub sum : total + needed (drop j fs) map ≡ needed fs map
     pub small : total ≤ 8 * j
 
   pub none_added : (map : ℕ) → Added map 0 0
   none_added map = record { within = omega arith; sum = omega arith; small = omega arith }
 
-  more_needed : (map j : ℕ) → j < n → needed (drop j fs) map ≡ size_in map (get_or fields j no_field) + needed (drop (j + 1) fs) map
-  more_needed map j h = ap (λ (l : List Field). needed l map) (next_first n j fields no_field h) ∙ needed_more (get_or fields j no_field) (drop (j + 1) fs) map
+  more_needed : (map j : ℕ) → j < length fs → needed (drop j fs) map ≡ size_in map (get_or fs j no_field) + needed (drop (j + 1) fs) map
+  more_needed map j h = ap (λ (l : List Field). needed l map) (drop_more fs j no_field h) ∙ needed_more (get_or fs j no_field) (drop (j + 1) fs) map
 
-  pub one_added : (map total j r : ℕ) → Laid fields n → Added map total j → j < n → r ≡ size_in map (get_or fields j no_field) → Added map (total + r) (j + 1)
+  pub one_added : (map total j r : ℕ) → Laid fs → Added map total j → j < length fs → r ≡ size_in map (get_or fs j no_field) → Added map (total + r) (j + 1)
   one_added map total j r l a h e = record {
     within = omega arith;
     sum = omega (arith, a.sum, more_needed map j h);
-    small = omega (arith, a.small, size_small map (get_or fields j no_field) (laid_at fields n j l h).small);
+    small = omega (arith, a.small, size_small map (get_or fs j no_field) (laid_at fs j l h).small);
   }
 
-  pub all_added : (map total j : ℕ) → Laid fields n → Added map total j → n ≤ j → (total ≡ needed fs map) × (total ≤ 64)
+  pub all_added : (map total j : ℕ) → Laid fs → Added map total j → length fs ≤ j → (total ≡ needed fs map) × (total ≤ 64)
   all_added map total j l a h =
-      let z : needed (drop j fs) map ≡ 0 = ap (λ (k : List Field). needed k map) (no_first n j fields no_field h) ∙ needed_none map in
+      let z : needed (drop j fs) map ≡ 0 = ap (λ (k : List Field). needed k map) (drop_of_length-le fs {i = j} h) ∙ needed_none map in
       (omega (arith, a.sum), omega (arith, a.small, a.within, l.few))
 
   -- ---- the bits that are no field's
-  pub record Cleared (map left j : ℕ) : Type 0 where
-    pub within : j ≤ n
-    pub same : map_without fs map ≡ map_without (drop j fs) left
+  abbrev pub Cleared : (map left j : ℕ) → Type 0
+  Cleared map left j = map_without fs map ≡ map_without (drop j fs) left
 
-  pub none_cleared : (map : ℕ) → Cleared map map 0
-  none_cleared map = record { within = omega arith; same = refl }
-
-  pub one_cleared : (map left j r : ℕ) → Cleared map left j → j < n → r ≡ without_bit 64 left (get_or fields j no_field).bit → Cleared map r (j + 1)
+  pub one_cleared : (map left j r : ℕ) → Cleared map left j → j < length fs → r ≡ without_bit 64 left (get_or fs j no_field).bit → Cleared map r (j + 1)
   unfolding map_without
-  one_cleared map left j r c h e = record { within = omega arith; same = c.same ∙ rw (next_first n j fields no_field h, e) }
+  one_cleared map left j r c h e = c ∙ rw (drop_more fs j no_field h, e)
 
-  pub all_cleared : (map left j : ℕ) → map < 256 → Cleared map left j → n ≤ j → left ≡ stray_bits fs map
+  pub all_cleared : (map left j : ℕ) → map < 256 → Cleared map left j → length fs ≤ j → left ≡ stray_bits fs map
   unfolding map_without
-  all_cleared map left j l c h = sym (c.same ∙ rw (no_first n j fields no_field h)) ∙ stray_rule fs map l
+  all_cleared map left j l c h = sym (c ∙ rw (drop_of_length-le fs {i = j} h)) ∙ stray_rule fs map l
 
   -- ---- the values
   pub record Taken (map : ℕ) (s values : List ℕ) (at j : ℕ) : Type 0 where
-    pub within : j ≤ n
+    pub within : j ≤ length fs
     pub done : List ℕ
     pub count : length done ≡ j
-    pub stored : values ≡ firsts 8 done 0
+    pub stored : values ≡ firsts (length fs) done 0
     pub rest : values_in fs map (drop 1 s) ≡ done ++ values_in (drop j fs) map (drop at s)
     pub room : at + needed (drop j fs) map ≡ 1 + needed fs map
 
-  pub none_taken : (map : ℕ) (s values : List ℕ) → values ≡ firsts 8 [] 0 → Taken map s values 1 0
+  pub none_taken : (map : ℕ) (s values : List ℕ) → values ≡ firsts (length fs) [] 0 → Taken map s values 1 0
   none_taken map s values e = record { within = omega arith; done = []; count = refl; stored = e; rest = refl; room = refl }
 
-  module _ (map : ℕ) (s values : List ℕ) (at j : ℕ) (l : Laid fields n) (t : Taken map s values at j) (h : j < n) (long : 1 + needed fs map ≤ length s) where
+  module _ (map : ℕ) (s values : List ℕ) (at j : ℕ) (t : Taken map s values at j) (h : j < length fs) (long : 1 + needed fs map ≤ length s) where
     abbrev f : Field
-    f = get_or fields j no_field
+    f = get_or fs j no_field
 
     pub at_room : at + size_in map f ≤ length s
     at_room = omega (arith, t.room, more_needed map j h)
@@ -121,37 +115,39 @@ module _ (fields : List Field) (n : ℕ) where
           within = omega arith;
           done = t.done ++ (v ∷ []);
           count = length-append t.done (v ∷ []) ∙ ap (λ (k : ℕ). k + 1) t.count;
-          stored = rw t.stored (firsts_more 8 j t.done v 0 t.count (omega (arith, l.few)));
-          rest = t.rest ∙ rw (next_first n j fields no_field h, er, ← drop-drop (size_in map f) at s, e, append_assoc);
+          stored = rw t.stored (firsts_more (length fs) j t.done v 0 t.count h);
+          rest = t.rest ∙ rw (drop_more fs j no_field h, er, ← drop-drop (size_in map f) at s, e, append_assoc);
           room = omega (arith, t.room, more_needed map j h);
         }
 
-  pub all_taken : (map : ℕ) (s values : List ℕ) (at j : ℕ) → Taken map s values at j → n ≤ j → values ≡ firsts 8 (values_in fs map (drop 1 s)) 0
+  pub all_taken : (map : ℕ) (s values : List ℕ) (at j : ℕ) → Taken map s values at j → length fs ≤ j → values ≡ values_in fs map (drop 1 s)
   unfolding values_in
   all_taken map s values at j t h =
-      let e : values_in fs map (drop 1 s) ≡ t.done = t.rest ∙ rw (no_first n j fields no_field h, append-nil) in
-      t.stored ∙ ap (λ (d : List ℕ). firsts 8 d 0) (sym e)
+      let e : values_in fs map (drop 1 s) ≡ t.done = t.rest ∙ rw (drop_of_length-le fs {i = j} h, append-nil) in
+      let n : length fs ≡ length t.done = omega (arith, t.count, t.within) in
+      t.stored ∙ ap (λ (k : ℕ). firsts k t.done 0) n ∙ firsts_all t.done 0 ∙ sym e
 
-  -- ---- a field that is written and has its absent value
-  pub record Unstated (map : ℕ) (values : List ℕ) (j : ℕ) : Type 0 where
-    pub within : j ≤ n
-    pub same : restated fs map (firsts n values 0) ≡ restated (drop j fs) map (drop j (firsts n values 0))
+  -- ---- a field that is written and has its absent value: none of the fields before these is
+  module _ (vs : List ℕ) (map : ℕ) where
+    pub record Unstated (fields : List Field) (values : List ℕ) : Type 0 where
+      pub left : Left fields values
+      pub same : restated fs map vs ≡ restated fields map values
 
-  pub none_unstated : (map : ℕ) (values : List ℕ) → Unstated map values 0
-  none_unstated map values = record { within = omega arith; same = refl }
+    pub none_unstated : (fields : List Field) (values : List ℕ) → Starts fs vs fields values → Unstated fields values
+    none_unstated fields values s = record { left = all_left fs vs fields values s; same = rw (s.same_fields, s.same_values) }
 
-  module _ (map : ℕ) (values : List ℕ) (j : ℕ) (u : Unstated map values j) where
-    module _ (h : j < n) (b : Bool) (e : b ≡ (stands map (get_or fields j no_field) && eqb (get_or values j 0) (get_or fields j no_field).absent)) where
-      split : restated fs map (firsts n values 0) ≡ (b || restated (drop (j + 1) fs) map (drop (j + 1) (firsts n values 0)))
+    module _ (f : Field) (v : ℕ) (fields : List Field) (values : List ℕ) (fields₀ : List Field) (values₀ : List ℕ) (x : Next f v fields values fields₀ values₀) (u : Unstated fields₀ values₀) (b : Bool) (e : b ≡ (stands map f && eqb v f.absent)) where
+      split : restated fs map vs ≡ (b || restated fields map values)
       unfolding restated
-      split = u.same ∙ rw (next_first n j fields no_field h, next_first n j values 0 h, ← e)
+      split = u.same ∙ rw (x.same_fields, x.same_values, ← e)
 
-      pub one_restated : b ≡ true → true ≡ restated fs map (firsts n values 0)
+      pub one_restated : b ≡ true → true ≡ restated fs map vs
       one_restated t = sym (split ∙ rw t)
 
-      pub one_unstated : b ≡ false → Unstated map values (j + 1)
-      one_unstated t = record { within = omega arith; same = split ∙ rw t }
+      pub one_unstated : b ≡ false → Unstated fields values
+      one_unstated t = record { left = one_left f v fields values fields₀ values₀ x u.left; same = split ∙ rw t }
 
-    pub all_unstated : n ≤ j → false ≡ restated fs map (firsts n values 0)
+    pub all_unstated : (fields : List Field) (values : List ℕ) → Unstated fields values → length fields ≡ 0 → false ≡ restated fs map vs
     unfolding restated
-    all_unstated h = sym (u.same ∙ rw (no_first n j fields no_field h))
+    all_unstated [] values u e = sym u.same
+    all_unstated (f ∷ fields) values u e = absurd (omega arith)

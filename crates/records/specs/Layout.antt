@@ -1,10 +1,9 @@
 -- A record's layout, for any list of fields: "A record is a bit map byte, then only the fields whose bit stands". Assumes nothing.
-use Rattle.std.specs.Prelude.{◌≡◌, Bool, true, false, not, ◌&&◌, ◌||◌, List, [], ◌∷◌, ℕ, ◌*◌, ◌^◌, ◌<◌, ◌≤◌, eqb, ltb, leb}
-use Rattle.places.specs.Places.{firsts}
+use Rattle.std.specs.Prelude.{◌≡◌, Bool, true, false, not, ◌&&◌, ◌||◌, List, [], ◌∷◌, ℕ, ◌*◌, ◌^◌, ◌<◌, ◌≤◌, eqb, ltb, leb, length}
 use Rattle.words.specs.Word.{bit_of}
 use Rattle.records.specs.declared.Field.{Field}
 
--- what stands in no place of an array of fields
+-- what stands in no place of a list of fields
 abbrev pub no_field : Field
 no_field = record { bit = 0; size = 0; absent = 0 }
 
@@ -18,10 +17,10 @@ unfoldable pub is_layout : List Field → Bool
 is_layout [] = true
 is_layout (f ∷ fs) = (ltb f.bit 8 && not (is_bit fs f.bit)) && (leb f.size 8 && ltb f.absent (2 ^ (8 * f.size))) && is_layout fs
 
--- the first n places of an array of fields are a layout
-pub record Laid (fields : List Field) (n : ℕ) : Type 0 where
-  pub few : n ≤ 8
-  pub layout : is_layout (firsts n fields no_field) ≡ true
+-- an array of fields is a layout
+pub record Laid (fields : List Field) : Type 0 where
+  pub few : length fields ≤ 8
+  pub layout : is_layout fields ≡ true
 
 -- whether a field's bit stands in a map byte
 unfoldable pub stands : ℕ → Field → Bool

@@ -1,14 +1,13 @@
-// Records of any layout: a map byte, then only the fields whose bit stands. A layout is the first n places of an array of fields, so that a
-// field that is added later lengthens the array, and nothing here.
+// Records of any layout: a map byte, then only the fields whose bit stands. A layout is an array of fields, so that a field that is added later
+// lengthens the array, and nothing here.
 #![tactic(auto)]
 
 ghost use Rattle.std.specs.Prelude.{◌≡◌, ◌&&◌, cond, ◌++◌, ◌+◌, ◌<◌, ◌≤◌, eqb, length, drop};
-ghost use Rattle.places.specs.Places.{firsts};
 ghost use Rattle.places.specs.Put.{put_at};
 ghost use Rattle.words.specs.Word.{with_bit};
-ghost use Rattle.records.specs.Layout.{no_field, Laid, stands};
-ghost use Rattle.records.specs.Reading.{size_in, needed, value_in, values_in, stray_bits, restated, read_record, said_of};
 ghost use Rattle.refusals.specs.Refusals.{answered};
+ghost use Rattle.records.specs.Layout.{Laid, stands};
+ghost use Rattle.records.specs.Reading.{size_in, needed, value_in, values_in, stray_bits, restated, read_record, said_of};
 ghost use Rattle.records.specs.Writing.{is_written, map_of, field_of, body_of, record_of};
 
 use refusals::Refusal;
@@ -23,8 +22,8 @@ pub struct Field {
 
 // What a record says: the values of its fields and its length.
 #[derive(Clone, Copy)]
-pub struct Record {
-    pub values: [u64; 8],
+pub struct Record<const N: usize> {
+    pub values: [u64; N],
     pub used: usize,
 }
 
@@ -41,30 +40,25 @@ fn size_in(map: u64, field: Field) -> usize
 }
 
 // The bytes that the bits of a map byte need.
-fn needed(map: u64, fields: [Field; 8], n: usize) -> usize
-    requires { Laid fields n }
-    ensures { (result ≡ needed (firsts n fields no_field) map) × (result ≤ 64) }
+fn needed(map: u64, fields: &[Field]) -> usize
+    requires { Laid fields.now }
+    ensures { (result ≡ needed fields.now map) × (result ≤ 64) }
 {
     let mut total = 0;
-    let mut j = 0;
-    while j < n {
-        let field = fields[j];
-        total += size_in(map, field);
-        j += 1;
+    for field in fields {
+        total += size_in(map, *field);
     }
     total
 }
 
 // The bits of a map byte that are no field's.
-fn stray_bits(map: u64, fields: [Field; 8], n: usize) -> u64
-    requires { Laid fields n × (map < 256) }
-    ensures { result ≡ stray_bits (firsts n fields no_field) map }
+fn stray_bits(map: u64, fields: &[Field]) -> u64
+    requires { Laid fields.now × (map < 256) }
+    ensures { result ≡ stray_bits fields.now map }
 {
     let mut left = map;
-    let mut j = 0;
-    while j < n {
-        left = words::clear_bit(left, fields[j].bit);
-        j += 1;
+    for field in fields {
+        left = words::clear_bit(left, field.bit);
     }
     left
 }
@@ -81,18 +75,15 @@ fn value_in(rest: &[u8], map: u64, field: Field) -> u64
 }
 
 // The values of all fields of a record with this map byte.
-fn values_in(rest: &[u8], map: u64, fields: [Field; 8], n: usize) -> [u64; 8]
-    requires { Laid fields n × (1 + needed (firsts n fields no_field) map ≤ length rest.now) }
-    ensures { result ≡ firsts 8 (values_in (firsts n fields no_field) map (drop 1 rest.now)) 0 }
+fn values_in<const N: usize>(rest: &[u8], map: u64, fields: &[Field; N]) -> [u64; N]
+    requires { Laid fields.now × (1 + needed fields.now map ≤ length rest.now) }
+    ensures { result ≡ values_in fields.now map (drop 1 rest.now) }
 {
-    let mut values = [0u64; 8];
+    let mut values = [0u64; N];
     let mut at = 1;
-    let mut j = 0;
-    while j < n {
-        let field = fields[j];
-        values[j] = value_in(&rest[at..], map, field);
-        at += size_in(map, field);
-        j += 1;
+    for (j, field) in fields.iter().enumerate() {
+        values[j] = value_in(&rest[at..], map, *field);
+        at += size_in(map, *field);
     }
     values
 }
@@ -106,40 +97,37 @@ fn is_restated(map: u64, field: Field, value: u64) -> bool
 }
 
 // Whether some field is written and has its absent value.
-fn restated(map: u64, values: [u64; 8], fields: [Field; 8], n: usize) -> bool
-    requires { Laid fields n }
-    ensures { result ≡ restated (firsts n fields no_field) map (firsts n values 0) }
+fn restated<const N: usize>(map: u64, values: &[u64; N], fields: &[Field; N]) -> bool
+    requires { Laid fields.now }
+    ensures { result ≡ restated fields.now map values.now }
 {
-    let mut i = 0;
-    while i < n {
-        let field = fields[i];
-        if is_restated(map, field, values[i]) {
+    for (field, value) in fields.iter().zip(values) {
+        if is_restated(map, *field, *value) {
             return true;
         }
-        i += 1;
     }
     false
 }
 
 // The record that starts `rest`. The form asked for: "The record reader is handed the file's remaining part and answers fields and length used".
-pub fn read_record(rest: &[u8], fields: [Field; 8], n: usize) -> Result<Record, Refusal>
-    requires { Laid fields n }
-    ensures { answered (said_of n) result ≡ read_record (firsts n fields no_field) rest.now }
+pub fn read_record<const N: usize>(rest: &[u8], fields: &[Field; N]) -> Result<Record<N>, Refusal>
+    requires { Laid fields.now }
+    ensures { answered said_of result ≡ read_record fields.now rest.now }
 {
     if rest.len() == 0 {
         return Err(Refusal::ShortRecord);
     }
-    let map = rest[0] as u64;
-    let used = 1 + needed(map, fields, n);
-    let stray = stray_bits(map, fields, n);
+    let map = u64::from(rest[0]);
+    let used = 1 + needed(map, fields);
+    let stray = stray_bits(map, fields);
     if rest.len() < used {
         return Err(Refusal::ShortRecord);
     }
     if stray != 0 {
         return Err(Refusal::StrayBit);
     }
-    let values = values_in(rest, map, fields, n);
-    if restated(map, values, fields, n) {
+    let values = values_in(rest, map, fields);
+    if restated(map, &values, fields) {
         return Err(Refusal::AbsentWritten);
     }
     Ok(Record { values, used })
@@ -164,16 +152,13 @@ fn map_with(map: u64, field: Field, value: u64) -> u64
 }
 
 // The map byte of a record.
-fn map_of(values: [u64; 8], fields: [Field; 8], n: usize) -> u64
-    requires { Laid fields n }
-    ensures { (result ≡ map_of (firsts n fields no_field) (firsts n values 0)) × (result < 256) }
+fn map_of<const N: usize>(values: &[u64; N], fields: &[Field; N]) -> u64
+    requires { Laid fields.now }
+    ensures { (result ≡ map_of fields.now values.now) × (result < 256) }
 {
     let mut map = 0;
-    let mut j = 0;
-    while j < n {
-        let field = fields[j];
-        map = map_with(map, field, values[j]);
-        j += 1;
+    for (field, value) in fields.iter().zip(values) {
+        map = map_with(map, *field, *value);
     }
     map
 }
@@ -190,16 +175,13 @@ fn field_length(field: Field, value: u64) -> usize
 }
 
 // The length of a record.
-pub fn record_length(values: [u64; 8], fields: [Field; 8], n: usize) -> usize
-    requires { Laid fields n }
-    ensures { (result ≡ length (record_of (firsts n fields no_field) (firsts n values 0))) × (result ≤ 65) }
+pub fn record_length<const N: usize>(values: &[u64; N], fields: &[Field; N]) -> usize
+    requires { Laid fields.now }
+    ensures { (result ≡ length (record_of fields.now values.now)) × (result ≤ 65) }
 {
     let mut total = 1;
-    let mut j = 0;
-    while j < n {
-        let field = fields[j];
-        total += field_length(field, values[j]);
-        j += 1;
+    for (field, value) in fields.iter().zip(values) {
+        total += field_length(*field, *value);
     }
     total
 }
@@ -217,25 +199,26 @@ fn put_field(buffer: &mut [u8], at: usize, field: Field, value: u64) -> usize
 }
 
 // The fields of a record from place 1 of a buffer on, and the place after them.
-fn put_fields(buffer: &mut [u8], values: [u64; 8], fields: [Field; 8], n: usize) -> usize
-    requires { Laid fields n × (1 + length (body_of (firsts n fields no_field) (firsts n values 0)) ≤ length buffer.old) }
-    ensures { (result ≡ 1 + length (body_of (firsts n fields no_field) (firsts n values 0))) × (buffer.new ≡ put_at 1 (body_of (firsts n fields no_field) (firsts n values 0)) buffer.old) }
+fn put_fields<const N: usize>(buffer: &mut [u8], values: &[u64; N], fields: &[Field; N]) -> usize
+    requires { Laid fields.now × (1 + length (body_of fields.now values.now) ≤ length buffer.old) }
+    ensures { (result ≡ 1 + length (body_of fields.now values.now)) × (buffer.new ≡ put_at 1 (body_of fields.now values.now) buffer.old) }
 {
     let mut at = 1;
-    let mut j = 0;
-    while j < n {
-        let field = fields[j];
-        at = put_field(buffer, at, field, values[j]);
-        j += 1;
+    for (field, value) in fields.iter().zip(values) {
+        at = put_field(buffer, at, *field, *value);
     }
     at
 }
 
 // A record at the start of `rest`, and its length. The form asked for: "Each link record is written by a function lent the rest of the image buffer".
-pub fn write_record(rest: &mut [u8], values: [u64; 8], fields: [Field; 8], n: usize) -> usize
-    requires { Laid fields n × (length (record_of (firsts n fields no_field) (firsts n values 0)) ≤ length rest.old) }
-    ensures { (result ≡ length (record_of (firsts n fields no_field) (firsts n values 0))) × (rest.new ≡ record_of (firsts n fields no_field) (firsts n values 0) ++ drop result rest.old) }
+pub fn write_record<const N: usize>(
+    rest: &mut [u8],
+    values: &[u64; N],
+    fields: &[Field; N],
+) -> usize
+    requires { Laid fields.now × (length (record_of fields.now values.now) ≤ length rest.old) }
+    ensures { (result ≡ length (record_of fields.now values.now)) × (rest.new ≡ record_of fields.now values.now ++ drop result rest.old) }
 {
-    rest[0] = map_of(values, fields, n) as u8;
-    put_fields(rest, values, fields, n)
+    rest[0] = map_of(values, fields) as u8;
+    put_fields(rest, values, fields)
 }

@@ -1,12 +1,16 @@
-use Rattle.records.proofs.Pieces.{one_mapped, all_mapped}
-use Rattle.records.proofs.Layouts.{laid_at}
+use native.Mathlib.Omega.{arith}
+use Rattle.records.proofs.Layouts.{first_left, none_left}
+use Rattle.records.proofs.Pieces.{none_mapped, one_mapped, all_mapped}
 use Rattle.records.proofs.map_of.Goals as goal
 
-pub map_with-map-requires : goal.map_with-map-requires
-map_with-map-requires c = (laid_at _ _ _ c.requires c.loop-j-test.true).low
+pub loop-field-init : goal.loop-field-init
+loop-field-init g c = none_mapped c.args.fields.now c.args.values.now _ _ (record { laid = c.requires; many = omega arith; same_fields = rw (c.into_iter-field-iterator.ensures.into_iter_gives, c.zip-field-items.ensures.first) c.iter.ensures.rest; same_values = rw c.into_iter-field-iterator.ensures.into_iter_gives c.zip-field-items.ensures.second.0 })
 
-pub loop-j-preserved : goal.loop-j-preserved
-loop-j-preserved c = one_mapped _ _ _ _ _ _ c.loop-j.invariant c.loop-j-test.true c.map_with-map.ensures
+pub map_with-map-requires : goal.map_with-map-requires
+map_with-map-requires g c = (first_left _ _ _ _ _ _ (record { same_fields = c.in-Some.ensures.steps.0; same_values = c.in-Some.ensures.steps.1 }) c.loop-field.invariant.left).low
+
+pub loop-field-preserved : goal.loop-field-preserved
+loop-field-preserved g c = one_mapped c.args.fields.now c.args.values.now _ _ _ _ _ _ (record { same_fields = c.in-Some.ensures.steps.0; same_values = c.in-Some.ensures.steps.1 }) _ _ c.loop-field.invariant c.map_with-map.ensures
 
 pub returns : goal.returns
-returns c = all_mapped _ _ _ _ _ c.requires c.loop-j.invariant c.loop-j-test.false
+returns g c = all_mapped c.args.fields.now c.args.values.now _ _ _ c.requires.layout c.loop-field.invariant (none_left _ _ c.loop-field.invariant.left c.in-None.ensures.steps)

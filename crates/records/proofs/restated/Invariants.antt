@@ -1,10 +1,6 @@
--- `records::restated` meets its contract. The invariant: no field below i is restated. Assumes nothing.
-use Prim.Native.Nat.{◌-◌}
+-- `records::restated` meets its contract. The invariant: no field before these is restated. Assumes nothing.
 use Rattle.records.proofs.Turns.{Unstated}
 use Rattle.records.proofs.restated.Given as goal
 
-abbrev pub invariant-loop-i : goal.invariant-loop-i
-invariant-loop-i l = Unstated l.fields l.n l.map l.values l.i
-
-abbrev pub decreases-loop-i : goal.decreases-loop-i
-decreases-loop-i l = l.n - l.i
+abbrev pub invariant-loop-field : goal.invariant-loop-field
+invariant-loop-field g l = Unstated l.fields l.values l.map l.field-iterator.a.rest.now l.field-iterator.b.rest.now

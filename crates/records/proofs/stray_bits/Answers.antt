@@ -4,10 +4,10 @@ use Rattle.records.proofs.Turns.{one_cleared, all_cleared}
 use Rattle.records.proofs.stray_bits.Goals as goal
 
 pub clear_bit-left-requires : goal.clear_bit-left-requires
-clear_bit-left-requires c = omega (arith, (laid_at c.args.fields c.args.n c.loop-j.j c.requires.0 c.loop-j-test.true).low)
+clear_bit-left-requires c = omega (arith, (laid_at c.args.fields.now c.loop-field.field-index c.requires.0 c.loop-field-test.true).low)
 
-pub loop-j-preserved : goal.loop-j-preserved
-loop-j-preserved c = one_cleared _ _ _ _ _ _ c.loop-j.invariant c.loop-j-test.true c.clear_bit-left.ensures
+pub loop-field-preserved : goal.loop-field-preserved
+loop-field-preserved c = one_cleared _ _ _ _ _ c.loop-field.invariant c.loop-field-test.true c.clear_bit-left.ensures
 
 pub returns : goal.returns
-returns c = all_cleared _ _ _ _ _ c.requires.1 c.loop-j.invariant c.loop-j-test.false
+returns c = all_cleared _ _ _ _ c.requires.1 c.loop-field.invariant c.loop-field-test.false
