@@ -5,7 +5,7 @@ use mathlib.Core.List.{List}
 use Prim.Native.Nat.{ℕ}
 use native.Mathlib.Omega.{arith}
 use Rattle.std.specs.Prelude.{Result, Ok, Err, IsErr, IsErrAnd, ⊤}
-use Rattle.refusals.specs.Refusals.{refusal_number, refusal_count, Outcome, Ruling, given, pass, refused, refuse_if, ruling}
+use Rattle.refusals.specs.Refusals.{refusal_number, refusal_count, Outcome, given, pass, refused, refuse_if, ruling}
 use Rattle.refusals.specs.declared.Refusal.{Refusal}
 use Rattle.refusals.proofs.Refusals.{uncounted}
 use Rattle.ledger.specs.Sound.{intact, broken_check}
@@ -17,10 +17,6 @@ use Rattle.state.specs.State.{view_of, Quotes, Leaves, Serves, Releases}
 use Rattle.state.proofs.Replies.{same_err, refusal_leaves, stays}
 use Rattle.sessions.specs.declared.Shown.{Shown}
 use Rattle.sessions.specs.Calls.{Tells, shown_of}
-
--- what a test of a state said
-pub tested : (st : State) (b : Bool) → b ≡ not (intact (view_of st)) → (b ≡ true → ◌≡◌ {A = Ruling} (refused 0) (broken_check (view_of st))) × (b ≡ false → ◌≡◌ {A = Ruling} (given pass) (broken_check (view_of st)))
-tested st b e = (λ q. rw (← e, q) refl, λ q. rw (← e, q) refl)
 
 -- a refusal of the rule, passed on
 pub refused_tells : {A B : Type 0} (of : A → B) (o : Outcome A) (r : Refusal) → o ≡ refused (refusal_number r) → (q : Result B Refusal) → q ≡ Err r → Tells of o q

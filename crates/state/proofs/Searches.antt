@@ -80,12 +80,12 @@ module _ (network : Network) (ss : List Session) (route : List ℕ) (passed : ne
         (subst (λ (l : List Hop). Searched network.ticks (length route) l r) hops_back
         (searched network.ticks (length route) eight r (omega (arith, ap length e, length_firsts 8 hops blank_hop, (route_long (topology_of network) route checked).1)) a))
 
--- ---- the hops of a route that passed, by the words of the frames that a state holds
-module _ (st : State) (ok : intact (view_of st) ≡ true) (route : List ℕ) (checked : route_check (topology_of st.network) route ≡ given pass) (held : List ℕ)
-    (w : HeldWords held (live_of st.table)) (eight : List Hop) (e : eight ≡ firsts 8 (hops_from st.network.links held route) blank_hop) where
-  -- they are those over the frames now free
-  pub free_hops : eight ≡ firsts 8 (hops_of (topology_of st.network) (live_of st.table) route) blank_hop
-  free_hops = hops_eight st.network (live_of st.table) route (intact_is (view_of st) ok).network checked held w eight e
+-- ---- the hops of a route that passed on a state that isn't broken
+module _ (st : State) (ok : intact (view_of st) ≡ true) (route : List ℕ) (checked : route_check (topology_of st.network) route ≡ given pass) where
+  -- by the words of the frames that it holds they are those over the frames now free
+  pub free_hops_lem : (held : List ℕ) → HeldWords held (live_of st.table) → (eight : List Hop) → eight ≡ firsts 8 (hops_from st.network.links held route) blank_hop
+      → eight ≡ firsts 8 (hops_of (topology_of st.network) (live_of st.table) route) blank_hop
+  free_hops_lem = hops_eight st.network (live_of st.table) route (intact_is (view_of st) ok).network checked
 
-  pub free_ready : Ready st.network.ticks eight (length route)
-  free_ready = hops_ready st.network (live_of st.table) route (intact_is (view_of st) ok).network checked eight free_hops
+  pub free_ready : (eight : List Hop) → eight ≡ firsts 8 (hops_of (topology_of st.network) (live_of st.table) route) blank_hop → Ready st.network.ticks eight (length route)
+  free_ready = hops_ready st.network (live_of st.table) route (intact_is (view_of st) ok).network checked

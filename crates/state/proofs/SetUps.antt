@@ -8,6 +8,7 @@ use lib.ListN.{length}
 use lib.Dec.{leb}
 use borrow.Author.Tests.{leb-false}
 use Rattle.std.specs.Prelude.{Option, Some, None, Result, Ok, Err, ⊤}
+use Rattle.std.specs.Option.{ok_or}
 use Rattle.places.specs.Places.{firsts}
 use Rattle.places.proofs.Firsts.{length_firsts, firsts_back}
 use Rattle.trellis.specs.Answer.{found, nodes_of}
@@ -33,7 +34,6 @@ use Rattle.search.specs.declared.Schedule.{Schedule}
 use Rattle.search.specs.declared.Finding.{Finding}
 use Rattle.ledger.specs.Held.{Holding, held_over, holding_of, held_places}
 use Rattle.ledger.specs.Sessions.{Session, is_live, hops_of}
-use Rattle.ledger.specs.Inner.{HeldWords}
 use Rattle.ledger.specs.Routes.{route_check}
 use Rattle.ledger.specs.Sound.{intact}
 use Rattle.ledger.specs.Calls.{Call, SetUp, Quote, Reply, schedule, refusal, reply_of, answer_over, full, call_check, granted, reply, enters, leaves, effect}
@@ -42,7 +42,6 @@ use Rattle.ledger.proofs.Held.{frames_joined, places_over}
 use Rattle.ledger.proofs.Answered.{admitted}
 use Rattle.ledger.proofs.Refused.{not_eighteen}
 use Rattle.ledger.proofs.Scheduled.{scheduled, scheduled_back}
-use Rattle.routes.specs.Hops.{hops_from}
 use Rattle.routes.specs.Inner.{FramesLaid}
 use Rattle.routes.proofs.Routes.{route_long}
 use Rattle.routes.proofs.HopCycles.{schedule_laid}
@@ -54,7 +53,7 @@ use Rattle.state.specs.declared.State.{State}
 use Rattle.state.specs.declared.Quoted.{Quoted}
 use Rattle.state.specs.State.{view_of, Quotes, Serves}
 use Rattle.state.specs.Inner.{found_places, found_quoted}
-use Rattle.state.proofs.Searches.{ticks_told, Searched, hops_ready, hops_back, hops_searched, free_hops}
+use Rattle.state.proofs.Searches.{ticks_told, Searched, hops_ready, hops_back, hops_searched}
 use Rattle.state.proofs.Replies.{check_passed, route_refuses, number_refuses, places_refuse, none_refuses, quote_check, refused_reply, granted_reply, refusal_leaves, stays, moves}
 
 -- ---- the checks of a set-up after 0, in turn
@@ -89,6 +88,22 @@ stored_route number route eight held e few =
 module _ (T n : ℕ) (hops : List Hop) (f : Finding) (s : Searched T n hops f) where
   told : (x : Option Schedule) → f.schedule ≡ x → route_answer T hops ≡ reading n x f.count
   told x e = sym s.answer ∙ ap (λ (y : Option Schedule). reading n y f.count) e
+
+  -- what `ok_or` gives of it
+  module _ (r : Refusal) (q : Result Schedule Refusal) (e : q ≡ ok_or f.schedule r) where
+    pub none_or : (x : Refusal) → q ≡ Err x → (f.schedule ≡ None) × (x ≡ r)
+    none_or x w = go f.schedule refl (sym e ∙ w)
+      where
+        go : (o : Option Schedule) → f.schedule ≡ o → ok_or o r ≡ Err x → (f.schedule ≡ None) × (x ≡ r)
+        go None h z = (h, cc)
+        go (Some y) h z = cc
+
+    pub some_or : (x : Schedule) → q ≡ Ok x → f.schedule ≡ Some x
+    some_or x w = go f.schedule refl (sym e ∙ w)
+      where
+        go : (o : Option Schedule) → f.schedule ≡ o → ok_or o r ≡ Ok x → f.schedule ≡ Some x
+        go None h z = cc
+        go (Some y) h z = cc
 
   -- 18, with the count
   module _ (e : f.schedule ≡ None) where
@@ -186,13 +201,9 @@ module _ (st : State) (ok : intact (view_of st) ≡ true) where
     room_left = leb-false 96 st.table.live (full_told st.table (leb 96 st.table.live) refl ∙ (admitted net ss n route passed).room)
 
     -- what the search of its hops in eight places found
-    module _ (held : List ℕ) (w : HeldWords held ss) (eight : List Hop) (eh : eight ≡ firsts 8 (hops_from st.network.links held route) blank_hop) (f : Finding)
-        (finds : Finds st.network.ticks eight (length route) f) where
+    module _ (eight : List Hop) (e8 : eight ≡ firsts 8 (hops_of net ss route) blank_hop) (f : Finding) (finds : Finds st.network.ticks eight (length route) f) where
       checked : network_check net ≡ given pass
       checked = (intact_is (view_of st) ok).network
-
-      e8 : eight ≡ firsts 8 (hops_of net ss route) blank_hop
-      e8 = free_hops st ok route route_passed held w eight eh
 
       s : Searched net.ticks (length route) (hops_of net ss route) f
       s = hops_searched st.network ss route checked route_passed eight e8 f finds

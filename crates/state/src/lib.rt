@@ -7,9 +7,10 @@ ghost use Rattle.places.specs.Places.{firsts};
 ghost use Rattle.refusals.specs.Refusals.{given, pass, ruling};
 ghost use Rattle.network.specs.Network.{topology_of};
 ghost use Rattle.network.specs.Checks.{network_check};
-ghost use Rattle.forwarding.specs.Hops.{no_hop, Ready};
+ghost use Rattle.forwarding.specs.Hops.{no_hop, blank_hop, Ready};
 ghost use Rattle.ledger.specs.Held.{holding_of};
-ghost use Rattle.ledger.specs.Sessions.{is_live};
+ghost use Rattle.ledger.specs.Sessions.{is_live, hops_of};
+ghost use Rattle.ledger.specs.Routes.{route_check};
 ghost use Rattle.ledger.specs.Sound.{intact};
 ghost use Rattle.ledger.specs.Calls.{SetUp, Quote, answer_over, call_check, reply};
 ghost use Rattle.routes.specs.Inner.{FramesLaid};
@@ -96,10 +97,17 @@ fn answer_over(t: u16, hops: [Hop; 8], n: usize) -> Result<Quoted, Refusal>
     ensures { Quotes (answer_over t (firsts n hops no_hop)) result }
 {
     let finding = search::search(t, hops, n);
-    let Some(schedule) = finding.schedule else {
-        return Err(Refusal::NoSchedule(finding.count));
-    };
+    let schedule = finding.schedule.ok_or(Refusal::NoSchedule(finding.count))?;
     Ok(scheduled(hops, n, schedule, finding.count))
+}
+
+// The hops of a route that passed 12 to 15, over the frames now free.
+pub fn free_hops(st: State, route: &[u8]) -> [Hop; 8]
+    requires { (intact (view_of st) ≡ true) × (route_check (topology_of st.network) route.now ≡ given pass) }
+    ensures { result ≡ firsts 8 (hops_of (topology_of st.network) (live_of st.table) route.now) blank_hop }
+{
+    let held = table::held_words(st.table);
+    routes::route_hops(st.network, &held, route)
 }
 
 // Quote: the least-delay schedule over the route in the frames now free.
@@ -108,10 +116,7 @@ pub fn quote(st: State, route: &[u8]) -> Result<Quoted, Refusal>
     ensures { Quotes (reply (view_of st) (Quote route.now)) result }
 {
     routes::check_route(st.network, route)?;
-    let network = st.network;
-    let held = table::held_words(st.table);
-    let hops = routes::route_hops(network, &held, route);
-    answer_over(network.ticks, hops, route.len())
+    answer_over(st.network.ticks, free_hops(st, route), route.len())
 }
 
 // Whether the number is live.
@@ -130,13 +135,14 @@ fn is_full(live: usize) -> bool
 }
 
 // The checks of a set-up after 0: 12 to 17.
-fn check_set_up(network: Network, table: Table, number: u32, route: &[u8]) -> Result<(), Refusal>
-    requires { (network_check (topology_of network) ≡ given pass) × (table.live ≤ 96) }
-    ensures { ruling result ≡ call_check (topology_of network) (live_of table) (SetUp number route.now) }
+fn check_set_up(st: State, number: u32, route: &[u8]) -> Result<(), Refusal>
+    requires { intact (view_of st) ≡ true }
+    ensures { ruling result ≡ call_check (topology_of st.network) (live_of st.table) (SetUp number route.now) }
 {
+    let network = st.network;
     routes::check_route(network, route)?;
-    let live = is_live(table, number);
-    let full = is_full(table.live);
+    let live = is_live(st.table, number);
+    let full = is_full(st.table.live);
     if live {
         return Err(Refusal::NumberLive);
     }
@@ -166,16 +172,14 @@ pub fn set_up(st: State, number: u32, route: &[u8]) -> Served<Quoted>
     requires { intact (view_of st) ≡ true }
     ensures { Serves st (SetUp number route.now) result }
 {
-    let network = st.network;
-    let table = st.table;
-    if let Err(refusal) = check_set_up(network, table, number, route) {
+    if let Err(refusal) = check_set_up(st, number, route) {
         return Served {
             answer: Err(refusal),
             state: st,
         };
     }
-    let held = table::held_words(table);
-    let hops = routes::route_hops(network, &held, route);
+    let network = st.network;
+    let hops = free_hops(st, route);
     let finding = search::search(network.ticks, hops, route.len());
     let Some(schedule) = finding.schedule else {
         return Served {
@@ -187,7 +191,7 @@ pub fn set_up(st: State, number: u32, route: &[u8]) -> Served<Quoted>
     let place = new_place(number, route, quoted.held);
     let after = State {
         network,
-        table: table::with_place(table, place),
+        table: table::with_place(st.table, place),
     };
     Served {
         answer: Ok(quoted),
