@@ -1,4 +1,7 @@
 -- The longest file of a network. Assumes nothing.
+use mathlib.Core.Path.{◌≡◌, refl}
+use Rattle.std.specs.List.{sum_by}
+use Rattle.std.proofs.lemmas.List.Sums.{sum_by-cons}
 use mathlib.Core.List.{List, [], ◌∷◌}
 use Prim.Native.Nat.{◌*◌, ◌≤◌}
 use native.Mathlib.Omega.{arith}
@@ -18,10 +21,16 @@ link_bound : (l : Link) → length (link_bytes l) ≤ 12
 unfolding link_bytes record_of link_layout
 link_bound l = omega (arith, body_bound link_layout (values_of l))
 
-links_bound : (ls : List Link) → length (links_bytes ls) ≤ 12 * length ls
+pub links_bound : (ls : List Link) → length (links_bytes ls) ≤ 12 * length ls
 unfolding links_bytes
 links_bound [] = omega arith
 links_bound (l ∷ ls) = omega (arith, length-append (link_bytes l) (links_bytes ls), link_bound l, links_bound ls)
+
+-- the lengths of the records, summed
+pub links_sum : (ls : List Link) → sum_by (λ l. length (link_bytes l)) ls ≡ length (links_bytes ls)
+unfolding links_bytes
+links_sum [] = refl
+links_sum (l ∷ ls) = omega (arith, sum_by-cons (λ l. length (link_bytes l)) l ls, length-append (link_bytes l) (links_bytes ls), links_sum ls)
 
 -- A BUFFER OF 387 BYTES SERVES FOR EVERY NETWORK
 pub image_bound : ImageBound

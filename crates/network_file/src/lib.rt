@@ -141,11 +141,7 @@ fn links_length(links: &[Link]) -> usize
     requires { length links.now ≤ 32 }
     ensures { (result ≡ length (links_bytes links.now)) × (result ≤ 2080) }
 {
-    let mut total = 0;
-    for link in links {
-        total += link_length(*link);
-    }
-    total
+    links.iter().map(|link| link_length(*link)).sum()
 }
 
 // A link's record at the start of `rest`, and its length. The form asked for: "Each link record is written by a function lent the rest of the image

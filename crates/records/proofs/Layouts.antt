@@ -11,6 +11,8 @@ use lib.ListN.{length, get_or, drop}
 use Rattle.std.proofs.lemmas.List.{drop_more}
 use lib.Dec.{ltb, leb}
 use Rattle.lists.proofs.Count.{and_both}
+use Rattle.std.specs.declared.iter.Zip.{Zip}
+use Rattle.std.proofs.Common.{Iter}
 use Rattle.records.specs.declared.Field.{Field}
 use Rattle.records.specs.Layout.{no_field, is_bit, is_layout, Laid, Fits, fits_none, fits_more}
 
@@ -54,27 +56,29 @@ pub record Left (fields : List Field) (values : List ℕ) : Type 0 where
   pub layout : is_layout fields ≡ true
   pub many : length values ≡ length fields
 
--- all fields, as a loop over them begins
+-- all fields and their values, which a loop over them begins with
 pub record Starts (fs : List Field) (vs : List ℕ) (fields : List Field) (values : List ℕ) : Type 0 where
   pub laid : Laid fs
   pub many : length vs ≡ length fs
   pub same_fields : fields ≡ fs
   pub same_values : values ≡ vs
 
--- a field and its value, before the others
-pub record Next (f : Field) (v : ℕ) (fields : List Field) (values : List ℕ) (fields₀ : List Field) (values₀ : List ℕ) : Type 0 where
-  pub same_fields : fields₀ ≡ f ∷ fields
-  pub same_values : values₀ ≡ v ∷ values
+pub starts : (fs : List Field) (vs : List ℕ) → Laid fs → length vs ≡ length fs → (i : Iter Field) (z w : Zip (Iter Field) (Iter ℕ)) → w ≡ z → z.a ≡ i → i.rest.now ≡ fs → z.b.rest.now ≡ vs → Starts fs vs w.a.rest.now w.b.rest.now
+starts fs vs l n i z w e a f v = rw e (record { laid = l; many = n; same_fields = rw a f; same_values = v })
 
 pub all_left : (fs : List Field) (vs : List ℕ) (fields : List Field) (values : List ℕ) → Starts fs vs fields values → Left fields values
 all_left fs vs fields values s = rw (s.same_fields, s.same_values) (record { layout = s.laid.layout; many = s.many })
 
+-- a field and its value, before the others
+abbrev pub Next : Field → ℕ → List Field → List ℕ → List Field → List ℕ → Type 0
+Next f v fields values fields₀ values₀ = (fields₀ ≡ f ∷ fields) × (values₀ ≡ v ∷ values)
+
 module _ (f : Field) (v : ℕ) (fields : List Field) (values : List ℕ) (fields₀ : List Field) (values₀ : List ℕ) (x : Next f v fields values fields₀ values₀) (l : Left fields₀ values₀) where
   pub first_left : Leads f fields
-  first_left = leads f fields (rw x.same_fields at l.layout)
+  first_left = leads f fields (rw x.0 at l.layout)
 
   pub one_left : Left fields values
-  one_left = record { layout = first_left.others; many = omega (arith, l.many, ap length x.same_fields, ap length x.same_values) }
+  one_left = record { layout = first_left.others; many = omega (arith, l.many, ap length x.0, ap length x.1) }
 
 -- the loop over them ends with the fields
 pub none_left : {A B : Type 0} {P : A → Type 0} {Q : B → Type 0} (fields : List Field) (values : List ℕ) → Left fields values → ((x : A) × ((length fields ≡ 0) × P x)) ⊎ ((x : B) × ((length values ≡ 0) × Q x)) → length fields ≡ 0

@@ -103,11 +103,11 @@ module _ (fs : List Field) (vs : List ℕ) where
   module _ (f : Field) (v : ℕ) (fields : List Field) (values : List ℕ) (fields₀ : List Field) (values₀ : List ℕ) (x : Next f v fields values fields₀ values₀) where
     pub one_mapped : (map r : ℕ) → Mapped map fields₀ values₀ → r ≡ cond (is_written f v) (with_bit 64 map f.bit) map → Mapped r fields values
     unfolding map_with
-    one_mapped map r m e = record { left = one_left f v fields values fields₀ values₀ x m.left; same = m.same ∙ rw (x.same_fields, x.same_values, e) }
+    one_mapped map r m e = record { left = one_left f v fields values fields₀ values₀ x m.left; same = m.same ∙ rw (x.0, x.1, e) }
 
     split : body_of fields₀ values₀ ≡ field_of f v ++ body_of fields values
     unfolding body_of
-    split = rw (x.same_fields, x.same_values)
+    split = rw (x.0, x.1)
 
     split_long : length (body_of fields₀ values₀) ≡ length (field_of f v) + length (body_of fields values)
     split_long = ap length split ∙ length-append (field_of f v) (body_of fields values)
@@ -118,7 +118,7 @@ module _ (fs : List Field) (vs : List ℕ) where
         record {
           left = one_left f v fields values fields₀ values₀ x m.left;
           sum = omega (arith, m.sum, split_long);
-          small = omega (arith, m.small, ap length x.same_fields);
+          small = omega (arith, m.small, ap length x.0);
         }
 
     module _ (before buffer : List ℕ) (at : ℕ) (room : 1 + length (body_of fs vs) ≤ length before) (d : Placed before buffer at fields₀ values₀) where

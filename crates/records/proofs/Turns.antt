@@ -139,7 +139,7 @@ module _ (fs : List Field) where
     module _ (f : Field) (v : ℕ) (fields : List Field) (values : List ℕ) (fields₀ : List Field) (values₀ : List ℕ) (x : Next f v fields values fields₀ values₀) (u : Unstated fields₀ values₀) (b : Bool) (e : b ≡ (stands map f && eqb v f.absent)) where
       split : restated fs map vs ≡ (b || restated fields map values)
       unfolding restated
-      split = u.same ∙ rw (x.same_fields, x.same_values, ← e)
+      split = u.same ∙ rw (x.0, x.1, ← e)
 
       pub one_restated : b ≡ true → true ≡ restated fs map vs
       one_restated t = sym (split ∙ rw t)

@@ -114,7 +114,7 @@ pub fn read_record<const N: usize>(rest: &[u8], fields: &[Field; N]) -> Result<R
     requires { Laid fields.now }
     ensures { answered said_of result ≡ read_record fields.now rest.now }
 {
-    if rest.len() == 0 {
+    if rest.is_empty() {
         return Err(Refusal::ShortRecord);
     }
     let map = u64::from(rest[0]);

@@ -1,11 +1,14 @@
+-- `network_file::links_length` meets its contract. Assumes nothing.
+use mathlib.Core.Path.{◌≡◌, ◌∙◌}
+use borrow.Author.Rules.{rules}
 use native.Mathlib.Omega.{arith}
-use Rattle.places.proofs.Pieces.{one_measured, all_measured}
-use Rattle.network_file.proofs.Images.{links_pieces}
+use lib.ListN.{length}
+use Rattle.std.specs.List.{sum_by}
+use Rattle.network_file.specs.Writing.{link_bytes}
+use Rattle.network_file.proofs.Longest.{links_sum, links_bound}
 use Rattle.network_file.proofs.links_length.Goals as goal
 
-pub loop-link-preserved : goal.loop-link-preserved
-loop-link-preserved c = one_measured _ _ _ (links_pieces _) _ _ _ _ _ c.loop-link.invariant c.loop-link-test.true c.link_length-total.ensures.0 c.link_length-total.ensures.1
-
 pub returns : goal.returns
-returns c = let m = all_measured _ _ _ (links_pieces _) _ _ _ _ c.loop-link.invariant c.loop-link-test.false in
-    (omega (arith, m.0), omega (arith, m.1, c.requires))
+returns c =
+    let sum : c.sum.result ≡ sum_by (λ l. length (link_bytes l)) c.args.links.now = search rules in
+    (sum ∙ links_sum _, omega (arith, sum, links_sum c.args.links.now, links_bound c.args.links.now, c.requires))
