@@ -5,6 +5,7 @@ use mathlib.Core.List.{List}
 use Prim.Native.Nat.{ℕ, ◌≤◌}
 use lib.ListN.{length}
 use Rattle.std.specs.Prelude.{Result, Ok, Err, IsErr, IsErrAnd, ⊤}
+use Rattle.places.specs.Places.{firsts}
 use Rattle.refusals.specs.Refusals.{given, pass, ruling}
 use Rattle.refusals.specs.declared.Refusal.{Refusal}
 use Rattle.refusals.specs.Refusals as outcome
@@ -24,7 +25,6 @@ use Rattle.ledger.proofs.Scheduled.{Scheduled, scheduled, scheduled_back}
 use Rattle.routes.proofs.Routes.{route_long}
 use Rattle.table.specs.declared.Table.{Table}
 use Rattle.table.specs.Table.{live_of}
-use Rattle.table.proofs.Live.{in_none}
 use Rattle.state.specs.declared.State.{State}
 use Rattle.state.specs.declared.Quoted.{Quoted}
 use Rattle.state.specs.State.{view_of, fresh_state, FreshShown, Quotes, quoted_in, Leaves, LeftIntact}
@@ -104,7 +104,8 @@ moves st call f e other t l =
 
 -- A STATE WITHOUT SESSIONS SHOWS A FRESH NETWORK
 pub fresh_shown : FreshShown
-fresh_shown net = ap (λ (ss : List Session). record { network = topology_of net; live = ss }) (in_none _)
+unfolding firsts
+fresh_shown net = refl
 
 -- the state that a list begins with shows a fresh network, and isn't broken
 module _ (net : Network) (st : State) (begun : st ≡ fresh_state net) where

@@ -157,6 +157,7 @@ fn new_place(number: u32, route: &[u8], held: Held) -> Place
     requires { length route.now ≤ 8 }
     ensures { session_of result ≡ record { number = number; route = route.now; held = holding_of (length route.now) held } }
 {
+    // Kept: `as`, since check 12 leaves no length that a TryFrom could refuse.
     let hops = route.len() as u8;
     Place {
         route: table::in_eight(route),
@@ -178,9 +179,8 @@ pub fn set_up(st: State, number: u32, route: &[u8]) -> Served<Quoted>
             state: st,
         };
     }
-    let network = st.network;
     let hops = free_hops(st, route);
-    let finding = search::search(network.ticks, hops, route.len());
+    let finding = search::search(st.network.ticks, hops, route.len());
     let Some(schedule) = finding.schedule else {
         return Served {
             answer: Err(Refusal::NoSchedule(finding.count)),
@@ -190,8 +190,8 @@ pub fn set_up(st: State, number: u32, route: &[u8]) -> Served<Quoted>
     let quoted = scheduled(hops, route.len(), schedule, finding.count);
     let place = new_place(number, route, quoted.held);
     let after = State {
-        network,
         table: table::with_place(st.table, place),
+        ..st
     };
     Served {
         answer: Ok(quoted),
@@ -204,17 +204,15 @@ pub fn release(st: State, number: u32) -> Served<()>
     requires { intact (view_of st) ≡ true }
     ensures { Releases st number result }
 {
-    let table = st.table;
-    if !is_live(table, number) {
+    if !is_live(st.table, number) {
         return Served {
             answer: Err(Refusal::NumberNotLive),
             state: st,
         };
     }
-    let network = st.network;
     let after = State {
-        network,
-        table: table::without(table, number),
+        table: table::without(st.table, number),
+        ..st
     };
     Served {
         answer: Ok(()),
