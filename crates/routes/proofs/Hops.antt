@@ -30,7 +30,7 @@ use Rattle.forwarding.specs.Schedule.{OneColour}
 use Rattle.forwarding.proofs.Transitions.{may_hold_lem, hold_may, hold_only}
 use Rattle.forwarding.proofs.ByHops.{all_ready}
 use Rattle.ledger.specs.Lists.{any_of}
-use Rattle.ledger.specs.Sessions.{Session, slot, held_in, link_at, link_colours, link_turn, free_of, by_colour, free_words, hop_of, hops_of}
+use Rattle.ledger.specs.Sessions.{Session, slot, held_in, link_at, link_colours, free_of, by_colour, free_words, hop_of, hops_of}
 use Rattle.ledger.specs.Inner.{HeldWords}
 use Rattle.ledger.specs.Routes.{unknown, unknown_link, route_check}
 use Rattle.ledger.proofs.Colours.{some_colour, few_colours, few_turns, colour_more, colour_same}
@@ -51,13 +51,6 @@ module _ (k : Link) (l : ℕ) (held : List ℕ) where
   pub one_filled : (free : List ℕ) (c : ℕ) → free ≡ by_colour c (free_in k l held) → c < most_colours → (at w : ℕ) → at ≡ bank_at l c → w ≡ free_word k.frames k.closed (get_or held at 0) → set free c w ≡ by_colour (c + 1) (free_in k l held)
   one_filled free c p h at w ea e = rw p (colour_more (free_in k l held) c w h (e ∙ rw ea))
 
-  pub all_filled : (free : List ℕ) (c n : ℕ) → free ≡ by_colour c (free_in k l held) → n ≡ link_colours k → c ≤ n → n ≤ c → free ≡ free_from k l held
-  all_filled free c n p e h g = p ∙ ap (λ (m : ℕ). by_colour m (free_in k l held)) {x = c} {y = link_colours k} (omega arith)
-
-pub hop_told : (k : Link) (l : ℕ) (held free : List ℕ) (C R : ℕ) → free ≡ free_from k l held → C ≡ link_colours k → R ≡ link_turn k
-    → ◌≡◌ {A = Hop} (record { frames = k.frames; range = k.range; least = k.least; colours = C; turn = R; free = free }) (hop_from k l held)
-hop_told k l held free C R e eC eR = rw (e, eC, eR)
-
 -- ---- the hops before place j are laid
 module _ (links : List Link) (held route : List ℕ) where
   pub none_laid : (none : Hop) → none ≡ blank_hop → replicate 8 none ≡ firsts 8 (hops_from links held (take 0 route)) blank_hop
@@ -71,9 +64,6 @@ module _ (links : List Link) (held route : List ℕ) where
       let t : take (j + 1) route ≡ take j route ++ (get_or route j 0 ∷ []) = rw add-one (take-suc route j 0 h) in
       let o : hop ≡ f (get_or route j 0) = rw (e, ek) in
       rw (p, t, map-append, o) (firsts_more 8 j (map f (take j route)) (f (get_or route j 0)) blank_hop n (omega arith))
-
-  pub all_laid : (hops : List Hop) (j : ℕ) → hops ≡ firsts 8 (hops_from links held (take j route)) blank_hop → length route ≤ j → hops ≡ firsts 8 (hops_from links held route) blank_hop
-  all_laid hops j p h = p ∙ rw (take_all j route h)
 
 -- ---- the words of held frames say the same as the sessions
 -- of the word of held frames only the bits below K count

@@ -1,5 +1,5 @@
 -- The checks of a route one after the other: what each says where those before it passed, and what a route that passed shows. Assumes nothing.
-use mathlib.Core.Path.{◌≡◌, refl, sym, ◌∙◌}
+use mathlib.Core.Path.{◌≡◌, sym, ◌∙◌}
 use mathlib.Core.Bool.{Bool, true, false, ◌||◌}
 use mathlib.Core.List.{List, ◌∷◌}
 use Prim.Native.Nat.{ℕ, ◌+◌, ◌-◌, ◌<◌, ◌≤◌}
@@ -23,9 +23,6 @@ use Rattle.routes.proofs.Links.{route_link, many_links, known_place, stored_fram
 pub record Compared (net : Topology) (route : List ℕ) (j : ℕ) : Type 0 where
   pub begun : 0 < j
   pub same : rates_apart (rates_of net route) ≡ rates_apart (rates_of net (drop (j - 1) route))
-
-pub none_compared : (net : Topology) (route : List ℕ) → Compared net route 1
-none_compared net route = record { begun = omega arith; same = refl }
 
 module _ (network : Network) (route : List ℕ) (u : unknown_link (topology_of network) route ≡ false) (j : ℕ) (p : Compared (topology_of network) route j) where
   from_before : j - 1 < length route → drop (j - 1) route ≡ get_or route (j - 1) 0 ∷ drop j route

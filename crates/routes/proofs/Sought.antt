@@ -41,8 +41,5 @@ module _ {A : Type 0} (d : A) (l : List A) where
       pub here_again : b ≡ true → true ≡ any_two r l
       here_again e = sym (same ∙ rw (next_place l j d h, ← eb, e))
 
-      pub not_again : b ≡ false → any_two r l ≡ any_two r (drop (j + 1) l)
-      not_again e = same ∙ rw (next_place l j d h, ← eb, e)
-
     pub nowhere_again : length l ≤ j → false ≡ any_two r l
     nowhere_again h = sym (same ∙ rw (drop_of_length-le l h))

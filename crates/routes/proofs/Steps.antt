@@ -7,7 +7,7 @@ use native.Mathlib.Decide.{dec_lt}
 use native.Mathlib.Omega.{arith}
 use lib.Dec.{leb, ltb}
 use lib.ListN.{get_or}
-use borrow.Author.Tests.{lt-ltb, le-ltb, ltb-true, le-leb, lt-leb}
+use borrow.Author.Tests.{lt-ltb, ltb-true, le-leb, lt-leb}
 use Rattle.std.specs.Int.{abs_diff}
 use Rattle.lists.proofs.Count.{and_both}
 use Rattle.words.specs.Word.{bit_of}
@@ -20,12 +20,6 @@ use Rattle.routes.specs.Inner.{step_if}
 
 -- ---- a spot that is on a hop and free
 module _ (h : Hop) (x : Spot) where
-  pub no_frame : h.frames ≤ x.frame → false ≡ (is_on h x && is_free h x)
-  no_frame l = rw (le-ltb x.frame h.frames l)
-
-  pub no_colour : x.frame < h.frames → h.colours ≤ x.colour → false ≡ (is_on h x && is_free h x)
-  no_colour m l = rw (lt-ltb x.frame h.frames m, le-ltb x.colour h.colours l)
-
   pub a_frame : x.frame < h.frames → x.colour < h.colours → (b : Bool) → b ≡ bit_of (get_or h.free x.colour 0) x.frame → b ≡ (is_on h x && is_free h x)
   unfolding is_free
   a_frame l m b e = rw (lt-ltb x.frame h.frames l, lt-ltb x.colour h.colours m) e

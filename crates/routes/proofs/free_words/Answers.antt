@@ -1,5 +1,5 @@
 use native.Mathlib.Omega.{arith}
-use Rattle.routes.proofs.Hops.{none_filled, colour_in, one_filled, all_filled}
+use Rattle.routes.proofs.Hops.{none_filled, colour_in, one_filled}
 use Rattle.routes.proofs.free_words.Goals as goal
 
 pub loop-c-init : goal.loop-c-init
@@ -19,6 +19,3 @@ bounds-free-from c = omega (arith, colour_in c.args.link _ _ c.colours_of-c-end.
 
 pub loop-c-preserved : goal.loop-c-preserved
 loop-c-preserved c = rw c.from.ensures (one_filled c.args.link _ _ _ _ c.loop-c.invariant (colour_in c.args.link _ _ c.colours_of-c-end.ensures c.loop-c-test.true) _ _ c.bank-at.ensures c.free_word.ensures)
-
-pub returns : goal.returns
-returns c = all_filled c.args.link _ _ _ _ _ c.loop-c.invariant c.colours_of-c-end.ensures (omega arith) c.loop-c-test.false

@@ -1,15 +1,12 @@
 use mathlib.Core.Path.{◌∙◌}
 use lib.Dec.{eqb}
 use Rattle.ledger.specs.Routes.{link_twice}
-use Rattle.routes.proofs.Sought.{stands_from, here_again, not_again, nowhere_again}
+use Rattle.routes.proofs.Sought.{stands_from, here_again, nowhere_again}
 use Rattle.routes.proofs.link_twice.Goals as goal
 
 pub returns-then-contains : goal.returns-then-contains
 unfolding link_twice
 returns-then-contains c = here_again 0 _ eqb _ c.loop-j.invariant c.loop-j-test.true _ (c.contains.ensures.value ∙ stands_from c.args.route.now _ _) c.if-contains.true
-
-pub loop-j-preserved : goal.loop-j-preserved
-loop-j-preserved c = not_again 0 _ eqb _ c.loop-j.invariant c.loop-j-test.true _ (c.contains.ensures.value ∙ stands_from c.args.route.now _ _) c.if-contains.false
 
 pub returns : goal.returns
 unfolding link_twice

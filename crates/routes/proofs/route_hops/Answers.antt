@@ -5,7 +5,7 @@ use lib.ListN.{get_or}
 use Rattle.network.specs.Network.{no_link}
 use Rattle.routes.proofs.Links.{in_places_lem, at_place, at_frames}
 use Rattle.routes.proofs.Routes.{route_long, passed_place}
-use Rattle.routes.proofs.Hops.{none_laid, one_laid, all_laid}
+use Rattle.routes.proofs.Hops.{none_laid, one_laid}
 use Rattle.routes.proofs.route_hops.Goals as goal
 
 pub loop-j-init : goal.loop-j-init
@@ -28,6 +28,3 @@ bounds-hops-j c = omega (arith, route_long _ _ c.requires.1)
 pub loop-j-preserved : goal.loop-j-preserved
 loop-j-preserved c = one_laid c.args.network.links _ c.args.route.now _ _ c.loop-j.invariant c.loop-j-test.true (route_long _ _ c.requires.1).1 _ _
     (ap (λ (i : ℕ). get_or c.args.network.links i no_link) c.from.ensures) c.hop_of.ensures
-
-pub returns : goal.returns
-returns c = all_laid c.args.network.links _ c.args.route.now _ _ c.loop-j.invariant c.loop-j-test.false
