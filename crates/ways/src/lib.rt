@@ -28,14 +28,12 @@ fn running_sums(row: &[u64; 64], hop: Hop) -> [u64; 65]
     ensures { CycleSums (free_ways (get_or hop.free 0 0) row.now) hop.frames result }
 {
     let mut sums = [0u64; 65];
-    let frames = hop.frames;
     let free = hop.free[0];
     let mut sum: u64 = 0;
-    let mut i: u16 = 0;
-    while i < frames {
-        sum += if_free(free, i, row[i as usize]);
-        i += 1;
-        sums[i as usize] = sum;
+    for i in 0..hop.frames {
+        let at = usize::from(i);
+        sum += if_free(free, i, row[at]);
+        sums[at + 1] = sum;
     }
     sums
 }
@@ -47,11 +45,11 @@ fn window(sums: &[u64; 65], first: u16, count: u16, frames: u16) -> u64
     ensures { (f : ℕ → ℕ) → CycleSums f frames sums.now → result ≡ sum_below count (λ d. f ((first + d) % frames)) }
 {
     let end = first + count;
-    let before = sums[first as usize];
+    let before = sums[usize::from(first)];
     if end <= frames {
-        return sums[end as usize] - before;
+        return sums[usize::from(end)] - before;
     }
-    sums[frames as usize] + sums[(end - frames) as usize] - before
+    sums[usize::from(frames)] + sums[usize::from(end - frames)] - before
 }
 
 // The row of the hop before, from the row of a hop. Callers guarantee checks 7, 8 and 21.
@@ -61,15 +59,12 @@ fn row_before(row: &[u64; 64], before: Hop, hop: Hop) -> [u64; 64]
 {
     let sums = running_sums(row, hop);
     let frames = hop.frames;
-    let many = before.frames;
     let least = forwarding::least_hold(hop);
     let choices = forwarding::choices(hop);
     let mut ways = [0u64; 64];
-    let mut k: u16 = 0;
-    while k < many {
+    for k in 0..before.frames {
         let first = (forwarding::reference_frame(k, before, hop) + least) % frames;
-        ways[k as usize] = window(&sums, first, choices, frames);
-        k += 1;
+        ways[usize::from(k)] = window(&sums, first, choices, frames);
     }
     ways
 }
@@ -81,14 +76,10 @@ pub fn number_over(hops: [Hop; 8], n: usize) -> u64
     ensures { result ≡ route_ways (firsts n hops no_hop) }
 {
     let mut row = [1u64; 64];
-    let mut j = n - 1;
-    while 0 < j {
-        let hop = hops[j];
-        j -= 1;
-        let before = hops[j];
-        row = row_before(&row, before, hop);
+    for j in (1..n).rev() {
+        row = row_before(&row, hops[j - 1], hops[j]);
     }
     let start = hops[0];
     let sums = running_sums(&row, start);
-    sums[start.frames as usize]
+    sums[usize::from(start.frames)]
 }

@@ -37,11 +37,7 @@ pub loop-k-preserved : goal.loop-k-preserved
 loop-k-preserved c = let p = c.requires in
     let a = c.args in
     let l = c.loop-k in
-    let f = free_ways (get_or a.hop.free 0 0) a.row.now in (
-      omega arith,
-      one_before a.before a.hop a.row.now l.k l.ways c.window.result (omega (arith, p.few_before)) l.invariant.1
-          (row_window a.before a.hop a.row.now l.k c.reference_frame.result c.least_hold-least.result
-          c.choices-choices.result c.window.result p c.reference_frame.ensures
-          c.least_hold-least.ensures c.choices-choices.ensures
-          (c.window.ensures f c.running_sums-sums.ensures)),
-    )
+    let f = free_ways (get_or a.hop.free 0 0) a.row.now in
+    rw c.from.ensures (one_before a.before a.hop a.row.now l.k l.ways c.window.result (omega (arith, p.few_before)) l.invariant
+    (row_window a.before a.hop a.row.now l.k c.reference_frame.result c.least_hold-least.result c.choices-choices.result c.window.result p c.reference_frame.ensures c.least_hold-least.ensures
+    c.choices-choices.ensures (c.window.ensures f c.running_sums-sums.ensures)))

@@ -10,10 +10,11 @@ pub overflow_add-sum : goal.overflow_add-sum
 overflow_add-sum c = let l = c.loop-i in
     let a = c.args in
     let f = free_ways (get_or a.hop.free 0 0) a.row.now in
-    record { fits = omega (arith, sum_more f l.i l.sum c.if_free-sum.result l.invariant.4 c.if_free-sum.ensures, sum_small a.hop.frames (get_or a.hop.free 0 0) a.row.now l.invariant.1 l.invariant.2 (l.i + 1) (omega arith)) }
+    let small = sum_small a.hop.frames (get_or a.hop.free 0 0) a.row.now c.requires.0 c.requires.1 (l.i + 1) (omega arith) in
+    record { fits = omega (arith, sum_more f l.i l.sum c.if_free-sum.result l.invariant.1 (rw c.from-at.ensures at c.if_free-sum.ensures), small) }
 
 pub returns : goal.returns
 returns c = let l = c.loop-i in
     let a = c.args in
     let e : l.i ≡ a.hop.frames = omega arith in
-    (rw e at l.invariant.3, sum_small a.hop.frames (get_or a.hop.free 0 0) a.row.now l.invariant.1 l.invariant.2 a.hop.frames (omega arith))
+    (rw e at l.invariant.0, sum_small a.hop.frames (get_or a.hop.free 0 0) a.row.now c.requires.0 c.requires.1 a.hop.frames (omega arith))
