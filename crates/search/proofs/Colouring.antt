@@ -16,7 +16,6 @@ use borrow.Author.Count.{below_more}
 use Rattle.lists.specs.Count.{sum_below, count_below}
 use Rattle.lists.proofs.Count.{sum_bound, count_le}
 use Rattle.lists.proofs.Digits.{digits_back, digits_below, below_first}
-use Rattle.trellis.specs.Trellis.{Stage}
 use Rattle.trellis.specs.Paths.{reached}
 use Rattle.forwarding.specs.declared.Hop.{Hop}
 use Rattle.forwarding.specs.Route.{nodes, stage}
@@ -124,26 +123,25 @@ module _ (g h : Hop) (c : ℕ) (row : List ℕ) where
       omega (arith, near_many g.colours (low_turn h c) (near_span g h c) row g.frames cells lanes many N k l, (near_fits g h c (near_span g h c) refl few m).0)
 
 -- ---- a lane put as colour c
-module _ (c base : ℕ) (cells froms : List ℕ) (next₀ preds₀ : List ℕ) where
-  pub none_put : length next₀ ≡ 256 → length preds₀ ≡ 1792 → LanePut c base cells froms 0 next₀ preds₀ next₀ preds₀
-  none_put x y = record { next_long = x; long = y; earlier = λ m l. refl; here = λ i l. absurd (omega arith); others = λ m d. (refl, refl) }
+module _ (c : ℕ) (cells froms : List ℕ) (next₀ preds₀ : List ℕ) where
+  pub none_put : length next₀ ≡ 256 → length preds₀ ≡ 256 → LanePut c cells froms 0 next₀ preds₀ next₀ preds₀
+  none_put x y = record { next_long = x; long = y; here = λ i l. absurd (omega arith); others = λ m d. (refl, refl) }
 
-  module _ (n : ℕ) (next preds : List ℕ) (s : LanePut c base cells froms n next₀ preds₀ next preds) (few : n < 64) (four : c < 4) (low : base ≤ 1536)
-      (at to : ℕ) (is : at ≡ 64 * c + n) (goes : to ≡ base + (64 * c + n)) where
-    pub one_put : LanePut c base cells froms (n + 1) next₀ preds₀ (set next at (get_or cells n 0)) (set preds to (get_or froms n 0))
+  module _ (n : ℕ) (next preds : List ℕ) (s : LanePut c cells froms n next₀ preds₀ next preds) (few : n < 64) (four : c < 4)
+      (at to : ℕ) (is : at ≡ 64 * c + n) (goes : to ≡ 64 * c + n) where
+    pub one_put : LanePut c cells froms (n + 1) next₀ preds₀ (set next at (get_or cells n 0)) (set preds to (get_or froms n 0))
     one_put = record {
       next_long = length-set next at (get_or cells n 0) ∙ s.next_long;
       long = length-set preds to (get_or froms n 0) ∙ s.long;
-      earlier = λ m l. get_or-set_other preds to m (get_or froms n 0) 0 (λ e. omega arith) ∙ s.earlier m l;
       here = below_more Is n there here_now;
       others = λ m d.
           let other : m ≡ at → ⊥ = λ e. d (omega arith) in
           let o = s.others m d in
-          (get_or-set_other next at m (get_or cells n 0) 0 other ∙ o.0, get_or-set_other preds to (base + m) (get_or froms n 0) 0 (λ e. other (omega arith)) ∙ o.1);
+          (get_or-set_other next at m (get_or cells n 0) 0 other ∙ o.0, get_or-set_other preds to m (get_or froms n 0) 0 (λ e. other (omega arith)) ∙ o.1);
     }
       where
         Is : ℕ → Type 0
-        Is i = (get_or (set next at (get_or cells n 0)) (64 * c + i) 0 ≡ get_or cells i 0) × (get_or (set preds to (get_or froms n 0)) (base + (64 * c + i)) 0 ≡ get_or froms i 0)
+        Is i = (get_or (set next at (get_or cells n 0)) (64 * c + i) 0 ≡ get_or cells i 0) × (get_or (set preds to (get_or froms n 0)) (64 * c + i) 0 ≡ get_or froms i 0)
 
         here_now : Is n
         here_now = (
@@ -154,11 +152,11 @@ module _ (c base : ℕ) (cells froms : List ℕ) (next₀ preds₀ : List ℕ) w
         there : (i : ℕ) → i < n → Is i
         there i l =
             let o = s.here i l in
-            (get_or-set_other next at (64 * c + i) (get_or cells n 0) 0 (λ e. omega arith) ∙ o.0, get_or-set_other preds to (base + (64 * c + i)) (get_or froms n 0) 0 (λ e. omega arith) ∙ o.1)
+            (get_or-set_other next at (64 * c + i) (get_or cells n 0) 0 (λ e. omega arith) ∙ o.0, get_or-set_other preds to (64 * c + i) (get_or froms n 0) 0 (λ e. omega arith) ∙ o.1)
 
 -- ---- A COLOUR OF A HOP
-module _ (t : ℕ) (g h : Hop) (c free : ℕ) (row next₀ preds₀ : List ℕ) (base count₀ : ℕ) (E : Colouring t g h c free row next₀ preds₀ base count₀) where
-  abbrev entering : Entering t g h row preds₀ base
+module _ (t : ℕ) (g h : Hop) (c free : ℕ) (row next₀ preds₀ : List ℕ) (count₀ : ℕ) (E : Colouring t g h c free row next₀ preds₀ count₀) where
+  abbrev entering : Entering t g h row preds₀
   entering = E.entering
 
   pub colour_four : c < 4
@@ -167,10 +165,9 @@ module _ (t : ℕ) (g h : Hop) (c free : ℕ) (row next₀ preds₀ : List ℕ) 
   pub turn_four : h.turn < 4
   turn_four = omega (arith, entering.ready.turns, entering.ready.few_colours)
 
-  pub begins_put : Putting c base next₀ preds₀
+  pub begins_put : Putting c next₀ preds₀
   begins_put = record {
     few_colours = colour_four;
-    within = entering.within;
     next_long = E.begun.next_long;
     long = entering.long;
   }
@@ -189,7 +186,7 @@ module _ (t : ℕ) (g h : Hop) (c free : ℕ) (row next₀ preds₀ : List ℕ) 
       long = l;
     }
 
-    module _ (lane froms : List ℕ) (more : ℕ) (L : LaneSet t g h free cells many lanes lane froms more) (next preds : List ℕ) (P : LanePut c base lane froms 64 next₀ preds₀ next preds) where
+    module _ (lane froms : List ℕ) (more : ℕ) (L : LaneSet t g h free cells many lanes lane froms more) (next preds : List ℕ) (P : LanePut c lane froms 64 next₀ preds₀ next preds) where
       -- a place that is chosen has the frame and the lane
       chosen_node : (k : ℕ) → k < 64 → node_in g.colours (place_from lanes k) ≡ node_from g.colours lanes k
       chosen_node k l =
@@ -201,13 +198,13 @@ module _ (t : ℕ) (g h : Hop) (c free : ℕ) (row next₀ preds₀ : List ℕ) 
       chosen_lane k l = let w = N.lanes_are.each k in omega (arith, w.2)
 
       -- frame i of this colour
-      here : (i : ℕ) → i < h.frames → Landed (stage t g h) (by_node g row) (nodes g) g.colours h.colours base (i * h.colours + c) next preds
+      here : (i : ℕ) → i < h.frames → Landed (stage t g h) (by_node g row) (nodes g) g.colours h.colours (i * h.colours + c) next preds
       here i l =
           let w = L.inside i l in
           let o = P.here i (omega (arith, l, entering.ready.few_frames)) in
           let at : place_of h.colours (i * h.colours + c) ≡ 64 * c + i = place_digits h.colours i c E.colour in
           let cell : get_or next (place_of h.colours (i * h.colours + c)) 0 ≡ get_or lane i 0 = ap (λ (x : ℕ). get_or next x 0) at ∙ o.0 in
-          let stored : get_or preds (base + place_of h.colours (i * h.colours + c)) 0 ≡ place_from lanes w.from = ap (λ (x : ℕ). get_or preds (base + x) 0) at ∙ o.1 ∙ w.stored in
+          let stored : get_or preds (place_of h.colours (i * h.colours + c)) 0 ≡ place_from lanes w.from = ap (λ (x : ℕ). get_or preds x 0) at ∙ o.1 ∙ w.stored in
           record {
             hold = w.hold;
             way =
@@ -220,12 +217,12 @@ module _ (t : ℕ) (g h : Hop) (c free : ℕ) (row next₀ preds₀ : List ℕ) 
           }
 
       -- WHAT IS STORED IS THE BEST WAY INTO EACH NODE of the colour and of those before it
-      pub colour_set : (count : ℕ) → count ≡ count₀ + more → Coloured t g h (c + 1) (by_node g row) base preds₀ next preds count
+      pub colour_set : (count : ℕ) → count ≡ count₀ + more → Coloured t g h (c + 1) (by_node g row) next preds count
       colour_set count e = record {
         inside = λ i l m. elim (ℕ_discrete (i % h.colours) c) [
           | yes q ↦
               let at : i / h.colours * h.colours + c ≡ i = ap (λ (x : ℕ). i / h.colours * h.colours + x) (sym q) ∙ digits_back h.colours i in
-              subst (λ (x : ℕ). Landed (stage t g h) (by_node g row) (nodes g) g.colours h.colours base x next preds) at (here (i / h.colours) (below_first h.frames h.colours i l))
+              subst (λ (x : ℕ). Landed (stage t g h) (by_node g row) (nodes g) g.colours h.colours x next preds) at (here (i / h.colours) (below_first h.frames h.colours i l))
           | no q ↦
               let w = E.begun.inside i l (⊎_elim (λ x. absurd (q x)) (λ x. x) (eq-or-lt_of_le (omega arith))) in
               let away : place_of h.colours i / 64 ≡ i % h.colours = omega (arith, below_first h.frames h.colours i l, entering.ready.few_frames) in
@@ -238,23 +235,19 @@ module _ (t : ℕ) (g h : Hop) (c free : ℕ) (row next₀ preds₀ : List ℕ) 
               }
         ];
         counted = e ∙ rw (add-one c) (ap₂ ◌+◌ E.begun.counted (L.counted ∙ sym (colour_count t g h c row cells lanes many N free E.word E.colour)));
-        earlier = P.earlier;
         next_long = P.next_long;
         long = P.long;
       }
 
 -- ---- A HOP COLOUR BY COLOUR
-module _ (t : ℕ) (g h : Hop) (row old : List ℕ) (base : ℕ) where
-  abbrev st : Stage
-  st = stage t g h
-
-  pub no_colours : (next : List ℕ) → length next ≡ 256 → length old ≡ 1792 → Coloured t g h 0 (by_node g row) base old next old 0
-  no_colours next l m = record { inside = λ i q r. absurd (omega arith); counted = refl; earlier = λ m q. refl; next_long = l; long = m }
+module _ (t : ℕ) (g h : Hop) (row : List ℕ) where
+  pub no_colours : (next preds : List ℕ) → length next ≡ 256 → length preds ≡ 256 → Coloured t g h 0 (by_node g row) next preds 0
+  no_colours next preds l m = record { inside = λ i q r. absurd (omega arith); counted = refl; next_long = l; long = m }
 
   -- the next colour may be entered
-  pub still_colouring : (c free count : ℕ) (next preds : List ℕ) → Entering t g h row old base → c < h.colours → free ≡ get_or h.free c 0
-      → Coloured t g h c (by_node g row) base old next preds count → Colouring t g h c free row next preds base count
-  still_colouring c free count next preds E l e s = record {
+  pub still_colouring : (c free count : ℕ) (next old preds : List ℕ) → Entering t g h row old → c < h.colours → free ≡ get_or h.free c 0
+      → Coloured t g h c (by_node g row) next preds count → Colouring t g h c free row next preds count
+  still_colouring c free count next old preds E l e s = record {
     entering = record {
       cycle = E.cycle;
       some_before = E.some_before;
@@ -262,19 +255,12 @@ module _ (t : ℕ) (g h : Hop) (row old : List ℕ) (base : ℕ) where
       few_colours = E.few_colours;
       ready = E.ready;
       small = E.small;
-      within = E.within;
       long = s.long;
     };
     colour = l;
     word = e;
-    begun = record { inside = s.inside; counted = s.counted; earlier = λ m q. refl; next_long = s.next_long; long = s.long };
+    begun = s;
   }
-
-  -- and leaves what stood before
-  pub one_colour : (c count : ℕ) (preds next' preds' : List ℕ) → ((m : ℕ) → m < base → get_or preds m 0 ≡ get_or old m 0) → Coloured t g h c (by_node g row) base preds next' preds' count
-      → Coloured t g h c (by_node g row) base old next' preds' count
-  one_colour c count preds next' preds' before s =
-      record { inside = s.inside; counted = s.counted; earlier = λ m l. s.earlier m l ∙ before m l; next_long = s.next_long; long = s.long }
 
 -- a colour has at most 256 × 64 transitions, so the colours below c have at most c times as many
 pub colours_few : (t : ℕ) (g h : Hop) (cells : List ℕ) (c : ℕ) → g.frames ≤ 64 → g.colours ≤ 4 → h.frames ≤ 64

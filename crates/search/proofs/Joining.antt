@@ -25,16 +25,15 @@ by_colour_lem g h f =
     ∙ sum_cong (nodes g) (λ m. sum_below h.colours (λ d. sum_below h.frames (λ i. f m (i * h.colours + d)))) (λ m. sum_below (nodes h) (λ i. f m i))
     (λ m l. sum_swap h.colours h.frames (λ d i. f m (i * h.colours + d)) ∙ sym (sum_pairs h.frames h.colours (λ i. f m i)))
 
-module _ (t : ℕ) (g h : Hop) (cells old : List ℕ) (base : ℕ) (r : HopReady t h) where
-  pub all_colours : (next preds row' : List ℕ) (count n : ℕ) → n ≡ 64 * h.colours → Coloured t g h h.colours cells base old next preds count → Kept next n row'
-      → Advanced (stage t g h) cells (nodes g) g.colours h.colours base old (by_node h row') preds count
+module _ (t : ℕ) (g h : Hop) (cells : List ℕ) (r : HopReady t h) where
+  pub all_colours : (next preds row' : List ℕ) (count n : ℕ) → n ≡ 64 * h.colours → Coloured t g h h.colours cells next preds count → Kept next n row'
+      → Advanced (stage t g h) cells (nodes g) g.colours h.colours (by_node h row') preds count
   all_colours next preds row' count n e s k = record {
     inside = λ i l. let w = s.inside i l (below_second h.frames h.colours i l) in
-        (w.hold, ap (λ (x : ℕ). way_of x w.hold (node_in g.colours (get_or preds (base + place_of h.colours i) 0))) (same i l) ∙ w.way);
+        (w.hold, ap (λ (x : ℕ). way_of x w.hold (node_in g.colours (get_or preds (place_of h.colours i) 0))) (same i l) ∙ w.way);
     near = λ i l m. (s.inside i l (below_second h.frames h.colours i l)).near (omega (arith, same i l));
     most = λ i l. omega (arith, same i l, (s.inside i l (below_second h.frames h.colours i l)).most);
     counted = s.counted ∙ by_colour_lem g h (λ m i. one_if (reached (cell_reach (get_or cells m 0)) && (stage t g h).allowed m i));
-    earlier = s.earlier;
     long = s.long;
   }
     where

@@ -72,10 +72,6 @@ pub record Trail (cycle K : ℕ) (keys : List ℕ) (e n : ℕ) (behind : List �
   pub long : length behind ≡ 64
   pub each : (o : ℕ) → o < n → Picked (key_at cycle K keys) K (e + K) (o + 1) (get_or behind o 0)
 
--- what stands before `base` is as it was
-abbrev pub Earlier : ℕ → List ℕ → List ℕ → Type 0
-Earlier base old new = (m : ℕ) → m < base → get_or new m 0 ≡ get_or old m 0
-
 -- the picks of the windows of w frames that end with the first n frames, where the frames before are to stand
 pub record Windows (cycle K : ℕ) (keys : List ℕ) (w n : ℕ) (preds : List ℕ) : Type 0 where
   pub long : length preds ≡ 64
@@ -272,24 +268,22 @@ pub record NearLane (lane : ℕ) (row : List ℕ) (n : ℕ) (cells lanes many ce
 
 -- ---- a lane put into a row and into the predecessors, as colour c
 
-pub record Putting (c base : ℕ) (next preds : List ℕ) : Type 0 where
+pub record Putting (c : ℕ) (next preds : List ℕ) : Type 0 where
   pub few_colours : c < 4
-  pub within : base ≤ 1536
   pub next_long : length next ≡ 256
-  pub long : length preds ≡ 1792
+  pub long : length preds ≡ 256
 
 -- the first n frames are there, and every other colour is as it was
-pub record LanePut (c base : ℕ) (cells froms : List ℕ) (n : ℕ) (next₀ preds₀ next preds : List ℕ) : Type 0 where
+pub record LanePut (c : ℕ) (cells froms : List ℕ) (n : ℕ) (next₀ preds₀ next preds : List ℕ) : Type 0 where
   pub next_long : length next ≡ 256
-  pub long : length preds ≡ 1792
-  pub earlier : Earlier base preds₀ preds
-  pub here : (i : ℕ) → i < n → (get_or next (64 * c + i) 0 ≡ get_or cells i 0) × (get_or preds (base + (64 * c + i)) 0 ≡ get_or froms i 0)
-  pub others : (m : ℕ) → (m / 64 ≡ c → ⊥) → (get_or next m 0 ≡ get_or next₀ m 0) × (get_or preds (base + m) 0 ≡ get_or preds₀ (base + m) 0)
+  pub long : length preds ≡ 256
+  pub here : (i : ℕ) → i < n → (get_or next (64 * c + i) 0 ≡ get_or cells i 0) × (get_or preds (64 * c + i) 0 ≡ get_or froms i 0)
+  pub others : (m : ℕ) → (m / 64 ≡ c → ⊥) → (get_or next m 0 ≡ get_or next₀ m 0) × (get_or preds m 0 ≡ get_or preds₀ m 0)
 
 -- ---- a hop entered
 
 -- what is known where the hop h is entered from the hop g with the row `row`, for a cycle of t ticks
-pub record Entering (t : ℕ) (g h : Hop) (row preds : List ℕ) (base : ℕ) : Type 0 where
+pub record Entering (t : ℕ) (g h : Hop) (row preds : List ℕ) : Type 0 where
   -- check 3: T is at most 960
   pub cycle : t ≤ 960
   -- checks 7 and 23 of the link before, and checks 7, 8, 21, 23 and 24 of the link entered
@@ -299,15 +293,13 @@ pub record Entering (t : ℕ) (g h : Hop) (row preds : List ℕ) (base : ℕ) : 
   pub ready : HopReady t h
   -- check 12: at most six transitions lie behind, of a cycle each at most
   pub small : (m : ℕ) → m < nodes g → Within 5760 (get_or (by_node g row) m 0)
-  -- check 12: hop 7 is the last, and its predecessors are from 1,536 on
-  pub within : base ≤ 1536
-  pub long : length preds ≡ 1792
+  pub long : length preds ≡ 256
 
 -- what is stored of node i of a hop with C colours, after one of K' nodes in C' colours: the best way into it, with some hold
-pub record Landed (st : Stage) (cells : List ℕ) (K' C' C base i : ℕ) (next preds : List ℕ) : Type 0 where
+pub record Landed (st : Stage) (cells : List ℕ) (K' C' C i : ℕ) (next preds : List ℕ) : Type 0 where
   pub hold : ℕ
-  pub way : way_of (get_or next (place_of C i) 0) hold (node_in C' (get_or preds (base + place_of C i) 0)) ≡ best_of (offers st cells i) K'
-  pub near : get_or next (place_of C i) 0 < 32768 → get_or preds (base + place_of C i) 0 / 64 < C'
+  pub way : way_of (get_or next (place_of C i) 0) hold (node_in C' (get_or preds (place_of C i) 0)) ≡ best_of (offers st cells i) K'
+  pub near : get_or next (place_of C i) 0 < 32768 → get_or preds (place_of C i) 0 / 64 < C'
   pub most : get_or next (place_of C i) 0 ≤ 32768
 
 -- the transitions into colour c
@@ -315,19 +307,18 @@ abbrev pub counts_into : Stage → List ℕ → ℕ → ℕ → ℕ → ℕ → 
 counts_into st cells K' K C c = sum_below K' (λ m. count_below K (λ i. reached (cell_reach (get_or cells m 0)) && st.allowed m (i * C + c)))
 
 -- the colours below c of a hop are entered, from a row whose cells by node are `cells`
-pub record Coloured (t : ℕ) (g h : Hop) (c : ℕ) (cells : List ℕ) (base : ℕ) (old next preds : List ℕ) (count : ℕ) : Type 0 where
-  pub inside : (i : ℕ) → i < nodes h → i % h.colours < c → Landed (stage t g h) cells (nodes g) g.colours h.colours base i next preds
+pub record Coloured (t : ℕ) (g h : Hop) (c : ℕ) (cells next preds : List ℕ) (count : ℕ) : Type 0 where
+  pub inside : (i : ℕ) → i < nodes h → i % h.colours < c → Landed (stage t g h) cells (nodes g) g.colours h.colours i next preds
   pub counted : count ≡ sum_below c (λ d. counts_into (stage t g h) cells (nodes g) h.frames h.colours d)
-  pub earlier : Earlier base old preds
   pub next_long : length next ≡ 256
-  pub long : length preds ≡ 1792
+  pub long : length preds ≡ 256
 
 -- what is known where its colour c is entered, whose free word this is
-pub record Colouring (t : ℕ) (g h : Hop) (c free : ℕ) (row next preds : List ℕ) (base count : ℕ) : Type 0 where
-  pub entering : Entering t g h row preds base
+pub record Colouring (t : ℕ) (g h : Hop) (c free : ℕ) (row next preds : List ℕ) (count : ℕ) : Type 0 where
+  pub entering : Entering t g h row preds
   pub colour : c < h.colours
   pub word : free ≡ get_or h.free c 0
-  pub begun : Coloured t g h c (by_node g row) base preds next preds count
+  pub begun : Coloured t g h c (by_node g row) next preds count
 
 -- the first n cells of one row are those of another
 pub record Kept (next : List ℕ) (n : ℕ) (row : List ℕ) : Type 0 where
@@ -335,13 +326,12 @@ pub record Kept (next : List ℕ) (n : ℕ) (row : List ℕ) : Type 0 where
   pub same : (i : ℕ) → i < n → get_or row i 0 ≡ get_or next i 0
 
 -- the cells by node and the predecessors of a hop with C colours, after one of K' nodes in C' colours with the cells `cells`
-pub record Advanced (st : Stage) (cells : List ℕ) (K' C' C base : ℕ) (old next preds : List ℕ) (count : ℕ) : Type 0 where
-  pub inside : (i : ℕ) → i < st.size → (h : ℕ) × (way_of (get_or next i 0) h (node_in C' (get_or preds (base + place_of C i) 0)) ≡ best_of (offers st cells i) K')
-  pub near : (i : ℕ) → i < st.size → get_or next i 0 < 32768 → get_or preds (base + place_of C i) 0 / 64 < C'
+pub record Advanced (st : Stage) (cells : List ℕ) (K' C' C : ℕ) (next preds : List ℕ) (count : ℕ) : Type 0 where
+  pub inside : (i : ℕ) → i < st.size → (h : ℕ) × (way_of (get_or next i 0) h (node_in C' (get_or preds (place_of C i) 0)) ≡ best_of (offers st cells i) K')
+  pub near : (i : ℕ) → i < st.size → get_or next i 0 < 32768 → get_or preds (place_of C i) 0 / 64 < C'
   pub most : (i : ℕ) → i < st.size → get_or next i 0 ≤ 32768
   pub counted : count ≡ counts st cells K'
-  pub earlier : Earlier base old preds
-  pub long : length preds ≡ 1792
+  pub long : length preds ≡ 256
 
 -- ---- a route swept
 
@@ -367,32 +357,45 @@ trellis_to t hops first = ladder (entry (nodes (hop_at hops 0)) (begins first)) 
 abbrev pub Agrees : List ℕ → Trellis → Type 0
 Agrees cells tr = (i : ℕ) → i < width tr → cell_reach (get_or cells i 0) ≡ get_or (row tr) i never
 
--- what is stored before node i of hop j + 1, and the node of hop j that this is
-abbrev pub stored_at : List Hop → List ℕ → ℕ → ℕ → ℕ
-stored_at hops preds j i = get_or preds (256 * j + place_of (hop_at hops (suc j)).colours i) 0
+-- the predecessors of each later hop: of hop j + 1 at j
+abbrev pub Preds : Type 0
+Preds = List (List ℕ)
 
-abbrev pub from_at : List Hop → List ℕ → ℕ → ℕ → ℕ
+-- the place before place p of hop j + 1
+abbrev pub place_before : Preds → ℕ → ℕ → ℕ
+place_before preds j p = get_or (get_or preds j []) p 0
+
+-- what is stored before node i of hop j + 1, and the node of hop j that this is
+abbrev pub stored_at : List Hop → Preds → ℕ → ℕ → ℕ
+stored_at hops preds j i = place_before preds j (place_of (hop_at hops (suc j)).colours i)
+
+abbrev pub from_at : List Hop → Preds → ℕ → ℕ → ℕ
 from_at hops preds j i = node_in (hop_at hops j).colours (stored_at hops preds j i)
 
+-- each later hop has 256 places
+pub record Wide (preds : Preds) : Type 0 where
+  pub long : length preds ≡ 7
+  pub each : (j : ℕ) → j < 7 → length (get_or preds j []) ≡ 256
+
 -- what is known where the hops 0 to `last` are swept from a row on
-pub record Sweeps (t : ℕ) (hops : List Hop) (last : ℕ) (first preds : List ℕ) : Type 0 where
+pub record Sweeps (t : ℕ) (hops : List Hop) (last : ℕ) (first : List ℕ) (preds : Preds) : Type 0 where
   pub ready : Ready t hops (last + 1)
   -- checks 3 and 12: with a cycle for each later hop no delay passes 7 × 960
   pub small : (i : ℕ) → i < nodes (hop_at hops 0) → Within (6720 - 960 * last) (get_or (by_node (hop_at hops 0) first) i 0)
   pub first_long : length first ≡ 256
-  pub long : length preds ≡ 1792
+  pub wide : Wide preds
 
 -- the stored predecessor of node i of hop j + 1 is the one of the trellis that begins with the cells `first`
-pub record FromKnown (t : ℕ) (hops : List Hop) (first preds : List ℕ) (j i : ℕ) : Type 0 where
+pub record FromKnown (t : ℕ) (hops : List Hop) (first : List ℕ) (preds : Preds) (j i : ℕ) : Type 0 where
   pub cell : ℕ
   pub hold : ℕ
   pub way : way_of cell hold (from_at hops preds j i) ≡ into (row (trellis_to t hops first j)) (stage_after t hops j) i
   pub near : cell < 32768 → stored_at hops preds j i / 64 < (hop_at hops j).colours
 
 -- what the sweep over hops 0 to j leaves: the row of hop j, the predecessors of each hop, and the count
-pub record Swept (t : ℕ) (hops : List Hop) (first : List ℕ) (j : ℕ) (cells preds : List ℕ) (count : ℕ) : Type 0 where
+pub record Swept (t : ℕ) (hops : List Hop) (first : List ℕ) (j : ℕ) (cells : List ℕ) (preds : Preds) (count : ℕ) : Type 0 where
   pub cells_long : length cells ≡ 256
-  pub long : length preds ≡ 1792
+  pub wide : Wide preds
   pub most : (i : ℕ) → i < nodes (hop_at hops j) → get_or (by_node (hop_at hops j) cells) i 0 ≤ 32768
   pub rows : Agrees (by_node (hop_at hops j) cells) (trellis_to t hops (by_node (hop_at hops 0) first) j)
   pub froms : (m : ℕ) → m < j → (i : ℕ) → i < nodes (hop_at hops (suc m)) → FromKnown t hops (by_node (hop_at hops 0) first) preds m i
@@ -421,14 +424,14 @@ pub record EndOf (row : List ℕ) (K C key place : ℕ) : Type 0 where
   pub first : key < 32768 → (c i : ℕ) → c < C → i < K → get_or row (64 * c + i) 0 ≡ key → (i ≡ place % 64 → place / 64 ≤ c) × (place % 64 ≤ i)
 
 -- the places back from place p of hop j, the latest first, by the stored predecessors
-abbrev pub chain_of : List ℕ → ℕ → ℕ → List ℕ
+abbrev pub chain_of : Preds → ℕ → ℕ → List ℕ
 chain_of preds zero p = p ∷ []
-chain_of preds (suc j) p = p ∷ chain_of preds j (get_or preds (256 * j + p) 0)
+chain_of preds (suc j) p = p ∷ chain_of preds j (place_before preds j p)
 
 -- each of those places is below 256
-abbrev pub ChainFits : List ℕ → ℕ → ℕ → Type 0
+abbrev pub ChainFits : Preds → ℕ → ℕ → Type 0
 ChainFits preds zero p = p < 256
-ChainFits preds (suc j) p = (p < 256) × ChainFits preds j (get_or preds (256 * j + p) 0)
+ChainFits preds (suc j) p = (p < 256) × ChainFits preds j (place_before preds j p)
 
 -- the frames and the colours at the first n places; unused ones hold 0
 pub record Parts (n : ℕ) (places frames colours : List ℕ) : Type 0 where

@@ -4,7 +4,7 @@
 // A row has a lane of 64 cells for each colour of a hop: the cell of frame i in colour c is at
 // place 64 × c + i. A cell is the least delay to its frame in its colour, or NEVER. Two rows are
 // kept, of the hop before and of the hop entered (W-204). The place before place p of hop j + 1
-// is at 256 × j + p of the predecessors.
+// is at p of the predecessors' row j.
 //
 // A hop is entered colour by colour. Of each frame of the hop before, the best colour from which
 // the colour entered may be reached is chosen first; then a lane is searched over frames alone.
@@ -346,16 +346,14 @@ fn put_lane(
     froms: &[u8; 64],
     c: u16,
     next: &mut [u16; 256],
-    preds: &mut [u8; 1792],
-    base: usize,
+    preds: &mut [u8; 256],
 )
-    requires { Putting c base next.old preds.old }
-    ensures { LanePut c base cells.now froms.now 64 next.old preds.old next.new preds.new }
+    requires { Putting c next.old preds.old }
+    ensures { LanePut c cells.now froms.now 64 next.old preds.old next.new preds.new }
 {
     let first = 64 * c as usize;
-    let start = base + first;
     next[first..first + 64].copy_from_slice(cells);
-    preds[start..start + 64].copy_from_slice(froms);
+    preds[first..first + 64].copy_from_slice(froms);
 }
 
 // Enters a hop in colour c, whose free word this is: its lane and the places before. Answers the
@@ -369,11 +367,10 @@ fn colour(
     free: u64,
     count: u32,
     next: &mut [u16; 256],
-    preds: &mut [u8; 1792],
-    base: usize,
+    preds: &mut [u8; 256],
 ) -> u32
-    requires { Colouring t before hop c free row.now next.old preds.old base count }
-    ensures { Coloured t before hop (c + 1) (by_node before row.now) base preds.old next.new preds.new result }
+    requires { Colouring t before hop c free row.now next.old preds.old count }
+    ensures { Coloured t before hop (c + 1) (by_node before row.now) next.new preds.new result }
 {
     let cells = [NEVER; 64];
     let lanes = [0u8; 64];
@@ -382,29 +379,27 @@ fn colour(
     near_row(row, before, hop, c, &mut near);
     let mut froms = [0u8; 64];
     let more = lane(&mut near, t, before, hop, free, &mut froms);
-    put_lane(&near.cells, &froms, c, next, preds, base);
+    put_lane(&near.cells, &froms, c, next, preds);
     count + more
 }
 
-// Enters a hop colour by colour: its row, and the places before from `base` on. Answers the
-// number of transitions.
+// Enters a hop colour by colour: its row, and the places before. Answers the number of transitions.
 fn advance(
     row: &[u16; 256],
     t: u16,
     before: Hop,
     hop: Hop,
     next: &mut [u16; 256],
-    preds: &mut [u8; 1792],
-    base: usize,
+    preds: &mut [u8; 256],
 ) -> u32
-    requires { Entering t before hop row.now preds.old base × (length next.old ≡ 256) }
-    ensures { Coloured t before hop hop.colours (by_node before row.now) base preds.old next.new preds.new result }
+    requires { Entering t before hop row.now preds.old × (length next.old ≡ 256) }
+    ensures { Coloured t before hop hop.colours (by_node before row.now) next.new preds.new result }
 {
     let free = hop.free;
     let mut count: u32 = 0;
     for c in 0..hop.colours {
         let word = free[c as usize];
-        count = colour(row, t, before, hop, c, word, count, next, preds, base);
+        count = colour(row, t, before, hop, c, word, count, next, preds);
     }
     count
 }
@@ -443,17 +438,21 @@ fn first_row(hop: Hop, cells: &mut [u16; 256])
 
 // The rows of hops 0 to last, from a first row that is handed over; the places before go to
 // `preds`. Answers the transitions considered.
-fn sweep(t: u16, hops: [Hop; 8], last: usize, row: &mut [u16; 256], preds: &mut [u8; 1792]) -> u32
+fn sweep(
+    t: u16,
+    hops: [Hop; 8],
+    last: usize,
+    row: &mut [u16; 256],
+    preds: &mut [[u8; 256]; 7],
+) -> u32
     requires { Sweeps t hops last row.old preds.old }
     ensures { Swept t hops row.old last row.new preds.new result }
 {
     let mut next = [NEVER; 256];
     let mut count: u32 = 0;
     for j in 0..last {
-        let from = hops[j];
-        let base = 256 * j;
         let hop = hops[j + 1];
-        count += advance(row, t, from, hop, &mut next, preds, base);
+        count += advance(row, t, hops[j], hop, &mut next, &mut preds[j]);
         keep(&next, hop.colours, row);
     }
     count
@@ -515,7 +514,7 @@ fn best_end(row: &[u16; 256], frames: u16, colours: u16) -> Choice
 // The places of hops j to 0, from place p of hop j back over the stored predecessors.
 // Check 12: j is below 8. Form: the frames are recovered from the last hop back to the first by
 // recursion, the hop number falling at each call.
-fn recover(preds: &[u8; 1792], j: usize, p: u8, out: &mut [u8; 8])
+fn recover(preds: &[[u8; 256]; 7], j: usize, p: u8, out: &mut [u8; 8])
     requires { (j < 8) × ChainFits preds.now j p × (length out.old ≡ 8) }
     ensures { out.new ≡ reverse (chain_of preds.now j p) ++ drop (j + 1) out.old }
 {
@@ -523,8 +522,7 @@ fn recover(preds: &[u8; 1792], j: usize, p: u8, out: &mut [u8; 8])
     if j == 0 {
         return;
     }
-    let at = 256 * (j - 1) + usize::from(p);
-    recover(preds, j - 1, preds[at], out)
+    recover(preds, j - 1, preds[j - 1][usize::from(p)], out)
 }
 
 // The schedule with this delay, whose frame and colour at each hop are at the first n places; unused ones hold 0. Check 12.
@@ -555,7 +553,7 @@ pub fn search(t: u16, hops: [Hop; 8], n: usize) -> Finding
     let start = hops[0];
     let mut row = [NEVER; 256];
     first_row(start, &mut row);
-    let mut preds = [0u8; 1792];
+    let mut preds = [[0u8; 256]; 7];
     let count = sweep(t, hops, last, &mut row, &mut preds);
     let hop = hops[last];
     let end = best_end(&row, hop.frames, hop.colours);

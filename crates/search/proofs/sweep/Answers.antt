@@ -24,8 +24,7 @@ advance-count-requires c = let a = c.args in
         few_colours = (r.each l.j (omega (arith, less))).few_colours;
         ready = r.each (l.j + 1) (omega (arith, less));
         small = cells_small a.t a.hops a.last a.row.now a.preds.now c.requires l.j l.row l.preds l.count (omega (arith, less)) l.invariant.1;
-        within = omega (arith, r.few_hops);
-        long = l.invariant.1.long;
+        long = l.invariant.1.wide.each l.j (omega (arith, less, r.few_hops));
       },
       l.invariant.2,
     )
@@ -51,7 +50,7 @@ loop-j-preserved c = let a = c.args in
     let row = k.new.row in
     let before = hop_at a.hops l.j in
     let hop = hop_at a.hops (l.j + 1) in
-    let d = all_colours a.t before hop (by_node before l.row) l.preds (256 * l.j) h next preds row v.result (64 * hop.colours) refl v.ensures k.ensures in (
+    let d = all_colours a.t before hop (by_node before l.row) h next preds row v.result (64 * hop.colours) refl v.ensures k.ensures in (
       omega (arith, n, l.invariant.0),
       swept_more a.t a.hops a.last a.row.now a.preds.now c.requires l.j l.row row l.preds preds l.count v.result (omega (arith, less)) l.invariant.1 k.ensures.long d,
       v.ensures.next_long,
