@@ -82,8 +82,6 @@ pub record Gone (T count : ℕ) (records : List ℕ) (links : List Link) (at i :
   pub same : read_links T count records ≡ after done (read_links T (count - i) (drop at records))
 
 module _ (T count : ℕ) (records : List ℕ) where
-  pub none_gone : (links : List Link) → links ≡ firsts 32 [] no_link → Gone T count records links 0 0
-  none_gone links e = record { within = omega arith; place = omega arith; done = []; many = refl; held = e; same = rw sub-zero (sym (after_none (read_links T count records))) }
 
   module _ (links : List Link) (at i : ℕ) (g : Gone T count records links at i) where
     module _ (h : i < count) (x : Result (Link × ℕ) Refusal) (ex : link_read x ≡ read_link T (take (length records - at) (drop at records))) where

@@ -99,9 +99,6 @@ module _ (n : Network) (passed : network_check (topology_of n) ≡ given pass) w
       three : Grown 0 buffer ((head ++ (n.count ∷ [])) ++ records) b3 (length image)
       three = grow 0 buffer (head ++ (n.count ∷ [])) (set b1 2 n.count) 3 two records b3 (length image) (omega (arith, image_long)) e3 image_long
 
-      pub image_keeps : length b3 ≡ length buffer
-      image_keeps = three.long
-
       pub image_put : b3 ≡ image ++ drop (length image) buffer
       image_put = three.holds ∙ ap (λ (x : List ℕ). put_at 0 x buffer) (sym image_is) ∙ put_zero image buffer
 

@@ -26,11 +26,6 @@ unfolding is_written
 is_written_lem f v = refl
 
 module _ (f : Field) (v : ℕ) (b : Bool) (eb : b ≡ is_written f v) where
-  pub map_more : (map : ℕ) → b ≡ true → (r : ℕ) → r ≡ with_bit 64 map f.bit → r ≡ cond (is_written f v) (with_bit 64 map f.bit) map
-  map_more map h r e = rw (← eb, h) e
-
-  pub map_same : (map : ℕ) → b ≡ false → map ≡ cond (is_written f v) (with_bit 64 map f.bit) map
-  map_same map h = rw (← eb, h)
 
   pub some_long : b ≡ true → f.size ≡ length (field_of f v)
   some_long h = sym (length_some f v (sym eb ∙ h))
@@ -155,5 +150,3 @@ module _ (fs : List Field) (vs : List ℕ) where
         let q : length (map ∷ body_of fs vs) ≡ r = omega arith in
         (omega arith, z ∙ rw em (ap (λ (k : ℕ). map_of fs vs ∷ (body_of fs vs ++ drop k rest)) q))
 
-    pub record_long : (b : List ℕ) → b ≡ put_at 1 (body_of fs vs) (set rest 0 map) → length b ≡ length rest
-    record_long b e = ap length e ∙ put_length 1 (body_of fs vs) (set rest 0 map) body_room ∙ length-set rest 0 map

@@ -50,14 +50,6 @@ length_some f v e = ap length (field_some f v e) ∙ length_bytes f.size v
 pub length_none : (f : Field) (v : ℕ) → is_written f v ≡ false → length (field_of f v) ≡ 0
 length_none f v e = ap length (field_none f v e)
 
-pub body_none : (vs : List ℕ) → body_of [] vs ≡ []
-unfolding body_of
-body_none vs = refl
-
-pub body_more : (f : Field) (fs : List Field) (v : ℕ) (vs : List ℕ) → body_of (f ∷ fs) (v ∷ vs) ≡ field_of f v ++ body_of fs vs
-unfolding body_of
-body_more f fs v vs = refl
-
 -- the bytes of all fields of a layout
 abbrev pub all_bytes : List Field → ℕ
 all_bytes [] = 0

@@ -55,9 +55,6 @@ module _ (fs : List Field) where
     pub sum : total + needed (drop j fs) map ≡ needed fs map
     pub small : total ≤ 8 * j
 
-  pub none_added : (map : ℕ) → Added map 0 0
-  none_added map = record { within = omega arith; sum = omega arith; small = omega arith }
-
   more_needed : (map j : ℕ) → j < length fs → needed (drop j fs) map ≡ size_in map (get_or fs j no_field) + needed (drop (j + 1) fs) map
   more_needed map j h = ap (λ (l : List Field). needed l map) (drop_more fs j no_field h) ∙ needed_more (get_or fs j no_field) (drop (j + 1) fs) map
 
