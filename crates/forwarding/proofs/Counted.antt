@@ -257,7 +257,7 @@ transitions_counted T [] = record { pairs = []; once = tt; each = λ x. (λ m. a
 transitions_counted T (h ∷ hs) = route_counted T h hs
 
 pub count_only : CountOnly
-count_only hops n m c d =
+count_only _ n m c d =
     c.number
     ∙ same_members c.pairs d.pairs c.once d.once (λ x l. (d.each x).1 ((c.each x).0 l)) (λ x l. (c.each x).1 ((d.each x).0 l))
     ∙ sym d.number

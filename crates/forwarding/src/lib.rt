@@ -42,14 +42,13 @@ pub struct Hop {
 pub fn no_hop() -> Hop
     ensures { result ≡ blank_hop }
 {
-    let free = [0u64; 4];
     Hop {
         frames: 0,
         range: 0,
         least: 0,
         colours: 0,
         turn: 0,
-        free,
+        free: [0; 4],
     }
 }
 

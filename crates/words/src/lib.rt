@@ -68,7 +68,7 @@ pub fn free_frames(frames: u16, closed: u64, held: u64) -> u32
     requires { (0 < frames) × (frames ≤ 64) }
     ensures { result ≡ count_below frames (free_at closed held) }
 {
-    u64::count_ones(free_word(frames, closed, held))
+    free_word(frames, closed, held).count_ones()
 }
 
 // The frame that lies d frames after frame i of a cycle.
@@ -96,7 +96,7 @@ fn ones_among(word: u64, n: u16) -> u32
     requires { (0 < n) × (n ≤ 64) }
     ensures { result ≡ count_below n (bit_of word) }
 {
-    u64::count_ones(ones_below(n) & word)
+    (ones_below(n) & word).count_ones()
 }
 
 // For each frame of a cycle, the ones of a word in the window of so many frames that begins with it, going round the cycle: each window has the one before it
