@@ -5,11 +5,11 @@ use mathlib.Core.List.{List}
 use Prim.Native.Nat.{ℕ, ◌<◌, ◌≤◌}
 use native.Mathlib.Omega.{arith}
 use lib.ListN.{length, get_or}
-use Rattle.std.specs.Prelude.{Option, Some, None, Ok, Err}
+use Rattle.std.specs.Prelude.{Option, Some, None, Result, Ok, Err, ⊤}
 use Rattle.lists.specs.Count.{count_below}
 use Rattle.places.specs.Places.{firsts}
 use Rattle.places.proofs.Firsts.{length_firsts}
-use Rattle.refusals.specs.Refusals.{refusal_number, given, pass, refused}
+use Rattle.refusals.specs.Refusals.{refusal_number, given, pass, refused, ruling}
 use Rattle.refusals.specs.declared.Refusal.{Refusal}
 use Rattle.words.specs.Word.{free_at, free_word, free_frames}
 use Rattle.words.specs.Bank.{bank_at}
@@ -21,7 +21,7 @@ use Rattle.forwarding.specs.declared.Held.{Held}
 use Rattle.ledger.specs.Held.{holding_of, held_places}
 use Rattle.ledger.specs.Sessions.{link_at, free_of}
 use Rattle.ledger.specs.Inner.{HeldWords}
-use Rattle.ledger.specs.Sound.{intact}
+use Rattle.ledger.specs.Sound.{intact, broken_check}
 use Rattle.ledger.specs.Calls.{lookup, free_count}
 use Rattle.ledger.proofs.Intact.{intact_is}
 use Rattle.ledger.proofs.Shown.{lookup_intact}
@@ -30,15 +30,16 @@ use Rattle.routes.specs.Hops.{free_in}
 use Rattle.routes.proofs.Links.{many_links, stored_link, in_places_lem, frames_bounded}
 use Rattle.routes.proofs.Hops.{word_held}
 use Rattle.table.specs.declared.Place.{Place}
+use Rattle.table.specs.Inner.{AllWithin}
 use Rattle.table.specs.Table.{session_of, no_place, live_of, place_of}
 use Rattle.table.proofs.Live.{in_length}
 use Rattle.table.proofs.Looking.{stands_in, stands_shown, gone_refused}
 use Rattle.state.specs.declared.State.{State}
 use Rattle.state.specs.State.{view_of}
-use Rattle.state.proofs.Within.{place_session, all_within}
+use Rattle.state.proofs.Within.{place_session, few_live, all_within}
 use Rattle.sessions.specs.declared.Shown.{Shown}
 use Rattle.sessions.specs.Calls.{Tells, shown_of}
-use Rattle.sessions.proofs.First.{refused_tells, given_tells}
+use Rattle.sessions.proofs.First.{refused_tells, given_tells, is_intact}
 
 -- what is shown of a stored session
 pub place_shown : (place : Place) (hops : ℕ) → hops ≡ place.hops → (route : List ℕ) (held : Held) → route ≡ firsts 8 (firsts hops place.route 0) 0
@@ -46,7 +47,17 @@ pub place_shown : (place : Place) (hops : ℕ) → hops ≡ place.hops → (rout
     → ◌≡◌ {A = Shown} (record { hops = hops; route = route; held = held }) (shown_of (session_of place))
 place_shown place hops n route held e h = rw (e, h, n, length_firsts place.hops place.route 0)
 
-module _ (st : State) (ok : intact (view_of st) ≡ true) where
+-- a state that passed check 0
+module _ (st : State) (v : Result ⊤ Refusal) (ev : ruling v ≡ broken_check (view_of st)) (u : ⊤) (eu : v ≡ Ok u) where
+  ok : intact (view_of st) ≡ true
+  ok = is_intact st v ev u eu
+
+  pub live_few : st.table.live ≤ 96
+  live_few = few_live st ok
+
+  pub live_within : AllWithin st.table
+  live_within = all_within st ok
+
   passed : network_check (topology_of st.network) ≡ given pass
   passed = (intact_is (view_of st) ok).network
 

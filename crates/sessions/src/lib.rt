@@ -118,8 +118,7 @@ fn shown_place(place: Place) -> Shown
     ensures { result ≡ shown_of (session_of place) }
 {
     let hops = usize::from(place.hops);
-    let links = place.route;
-    let route = table::in_eight(&links[..hops]);
+    let route = table::in_eight(&place.route[..hops]);
     let held = table::cleared(place.held, hops);
     Shown { hops, route, held }
 }

@@ -25,7 +25,7 @@ use search::Schedule;
 use table::{Place, Table};
 
 // The stored state: a network and its live sessions.
-#[derive(Clone, Copy)]
+#[derive(Clone, Copy, PartialEq, Eq)]
 pub struct State {
     pub network: Network,
     pub table: Table,
