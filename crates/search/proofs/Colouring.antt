@@ -19,7 +19,7 @@ use Rattle.lists.proofs.Digits.{digits_back, digits_below, below_first}
 use Rattle.trellis.specs.Paths.{reached}
 use Rattle.forwarding.specs.declared.Hop.{Hop}
 use Rattle.forwarding.specs.Route.{nodes, stage}
-use Rattle.search.specs.Inner.{cell_reach, way_of, Within, place_from, place_of, node_in, node_cells, by_node, node_from, NearRow, NearLane, Offered, low_turn, near_span, Lane, LaneSet, Putting, LanePut, Entering, Landed, counts_into, Coloured, Colouring, Kept}
+use Rattle.search.specs.Inner.{cell_reach, way_of, Within, place_from, place_of, node_in, node_cells, by_node, node_from, NearRow, NearLane, Offered, low_turn, near_span, Lane, LaneSet, Putting, LanePut, Entering, Landed, counts_into, Coloured, Colouring}
 use Rattle.search.proofs.Placing.{digits_cell, node_digits, place_digits}
 use Rattle.search.proofs.Colours.{with_node, way_node, colour_best, colour_near, colour_count}
 use Rattle.search.proofs.Nearing.{near_none, near_more, near_of, near_fits}
@@ -121,38 +121,6 @@ module _ (g h : Hop) (c : ℕ) (row : List ℕ) where
   pub near_four : (k : ℕ) (cells lanes many : List ℕ) → NearRow g.colours (low_turn h c) (near_span g h c) row g.frames cells lanes many → g.colours ≤ 4 → c < 4 → k < g.frames → get_or many k 0 ≤ 4
   near_four k cells lanes many N few m l =
       omega (arith, near_many g.colours (low_turn h c) (near_span g h c) row g.frames cells lanes many N k l, (near_fits g h c (near_span g h c) refl few m).0)
-
--- ---- a lane put as colour c
-module _ (c : ℕ) (cells froms : List ℕ) (next₀ preds₀ : List ℕ) where
-  pub none_put : length next₀ ≡ 256 → length preds₀ ≡ 256 → LanePut c cells froms 0 next₀ preds₀ next₀ preds₀
-  none_put x y = record { next_long = x; long = y; here = λ i l. absurd (omega arith); others = λ m d. (refl, refl) }
-
-  module _ (n : ℕ) (next preds : List ℕ) (s : LanePut c cells froms n next₀ preds₀ next preds) (few : n < 64) (four : c < 4)
-      (at to : ℕ) (is : at ≡ 64 * c + n) (goes : to ≡ 64 * c + n) where
-    pub one_put : LanePut c cells froms (n + 1) next₀ preds₀ (set next at (get_or cells n 0)) (set preds to (get_or froms n 0))
-    one_put = record {
-      next_long = length-set next at (get_or cells n 0) ∙ s.next_long;
-      long = length-set preds to (get_or froms n 0) ∙ s.long;
-      here = below_more Is n there here_now;
-      others = λ m d.
-          let other : m ≡ at → ⊥ = λ e. d (omega arith) in
-          let o = s.others m d in
-          (get_or-set_other next at m (get_or cells n 0) 0 other ∙ o.0, get_or-set_other preds to m (get_or froms n 0) 0 (λ e. other (omega arith)) ∙ o.1);
-    }
-      where
-        Is : ℕ → Type 0
-        Is i = (get_or (set next at (get_or cells n 0)) (64 * c + i) 0 ≡ get_or cells i 0) × (get_or (set preds to (get_or froms n 0)) (64 * c + i) 0 ≡ get_or froms i 0)
-
-        here_now : Is n
-        here_now = (
-          ap (λ (x : ℕ). get_or (set next at (get_or cells n 0)) x 0) (sym is) ∙ get_or-set_same next at (get_or cells n 0) 0 (omega (arith, s.next_long)),
-          ap (λ (x : ℕ). get_or (set preds to (get_or froms n 0)) x 0) (sym goes) ∙ get_or-set_same preds to (get_or froms n 0) 0 (omega (arith, s.long)),
-        )
-
-        there : (i : ℕ) → i < n → Is i
-        there i l =
-            let o = s.here i l in
-            (get_or-set_other next at (64 * c + i) (get_or cells n 0) 0 (λ e. omega arith) ∙ o.0, get_or-set_other preds to (64 * c + i) (get_or froms n 0) 0 (λ e. omega arith) ∙ o.1)
 
 -- ---- A COLOUR OF A HOP
 module _ (t : ℕ) (g h : Hop) (c free : ℕ) (row next₀ preds₀ : List ℕ) (count₀ : ℕ) (E : Colouring t g h c free row next₀ preds₀ count₀) where
@@ -270,13 +238,3 @@ colours_few t g h cells c few four small =
     le_trans (sum_bound (nodes g) 64 (λ m. count_below h.frames (λ i. reached (cell_reach (get_or cells m 0)) && (stage t g h).allowed m (i * h.colours + d)))
     (λ m q. omega (arith, count_le h.frames (λ i. reached (cell_reach (get_or cells m 0)) && (stage t g h).allowed m (i * h.colours + d)))))
     (omega (arith, mul-le-mul {n₁ = g.frames} {m₁ = g.colours} {n₂ = 64} {m₂ = 4} few four)))
-
--- ---- the first cells of a row kept
-pub none_kept : (next row : List ℕ) → length row ≡ 256 → Kept next 0 row
-none_kept next row l = record { long = l; same = λ i m. absurd (omega arith) }
-
-pub one_kept : (next row : List ℕ) (n v : ℕ) → n < 256 → v ≡ get_or next n 0 → Kept next n row → Kept next (n + 1) (set row n v)
-one_kept next row n v l e k = record {
-  long = length-set row n v ∙ k.long;
-  same = below_more (λ i. get_or (set row n v) i 0 ≡ get_or next i 0) n (λ i q. get_or-set_other row n i v 0 (λ x. omega arith) ∙ k.same i q) (get_or-set_same row n v 0 (omega (arith, k.long)) ∙ e);
-}

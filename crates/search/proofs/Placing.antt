@@ -33,10 +33,7 @@ node_digits C k d l =
 pub place_back : (C p : ℕ) → p / 64 < C → place_of C (node_in C p) ≡ p
 place_back C p l = place_digits C (p % 64) (p / 64) l ∙ omega arith
 
--- places are below 256, and below the end of the last lane
+-- places are below the end of the last lane
 module _ (T : ℕ) (h : Hop) (r : HopReady T h) (i : ℕ) (l : i < nodes h) where
-  pub place_few : place_of h.colours i < 256
-  place_few = omega (arith, below_first h.frames h.colours i l, below_second h.frames h.colours i l, r.few_frames, r.few_colours)
-
   pub place_last : (n : ℕ) → n ≡ 64 * h.colours → place_of h.colours i < n
   place_last n e = omega (arith, below_first h.frames h.colours i l, below_second h.frames h.colours i l, r.few_frames)

@@ -1,6 +1,7 @@
 use mathlib.Core.Path.{refl}
 use Prim.Native.Nat.{ℕ, ◌+◌, ◌*◌, ◌<◌}
 use native.Mathlib.Omega.{arith}
+use borrow.Author.Rules.{rules}
 use lib.ListN.{length-replicate}
 use Rattle.forwarding.specs.Inner.{hop_at}
 use Rattle.search.specs.Inner.{by_node}
@@ -24,7 +25,7 @@ advance-count-requires c = let a = c.args in
         few_colours = (r.each l.j (omega (arith, less))).few_colours;
         ready = r.each (l.j + 1) (omega (arith, less));
         small = cells_small a.t a.hops a.last a.row.now a.preds.now c.requires l.j l.row l.preds l.count (omega (arith, less)) l.invariant.1;
-        long = l.invariant.1.wide.each l.j (omega (arith, less, r.few_hops));
+        long = let few : l.j < 7 = omega (arith, less, r.few_hops) in search (rules, l.invariant.1.wide.each);
       },
       l.invariant.2,
     )
