@@ -19,7 +19,7 @@ use Rattle.lists.proofs.Digits.{digits_back, digits_below, below_first}
 use Rattle.trellis.specs.Paths.{reached}
 use Rattle.forwarding.specs.declared.Hop.{Hop}
 use Rattle.forwarding.specs.Route.{nodes, stage}
-use Rattle.search.specs.Inner.{cell_reach, way_of, Within, place_from, place_of, node_in, node_cells, by_node, node_from, NearRow, NearLane, Offered, low_turn, near_span, Lane, LaneSet, Putting, LanePut, Entering, Landed, counts_into, Coloured, Colouring}
+use Rattle.search.specs.Inner.{cell_reach, way_of, Within, place_from, place_of, node_in, node_cells, by_node, node_from, NearRow, NearLane, Offered, low_turn, near_span, Lane, LaneSet, LanePut, Entering, Landed, counts_into, Coloured, Colouring}
 use Rattle.search.proofs.Placing.{digits_cell, node_digits, place_digits}
 use Rattle.search.proofs.Colours.{with_node, way_node, colour_best, colour_near, colour_count}
 use Rattle.search.proofs.Nearing.{near_none, near_more, near_of, near_fits}
@@ -123,7 +123,10 @@ module _ (g h : Hop) (c : ℕ) (row : List ℕ) where
       omega (arith, near_many g.colours (low_turn h c) (near_span g h c) row g.frames cells lanes many N k l, (near_fits g h c (near_span g h c) refl few m).0)
 
 -- ---- A COLOUR OF A HOP
-module _ (t : ℕ) (g h : Hop) (c free : ℕ) (row next₀ preds₀ : List ℕ) (count₀ : ℕ) (E : Colouring t g h c free row next₀ preds₀ count₀) where
+module _ (t : ℕ) (g h : Hop) (c : ℕ) (row next₀ preds₀ : List ℕ) (count₀ : ℕ) (E : Colouring t g h c row next₀ preds₀ count₀) where
+  abbrev free : ℕ
+  free = get_or h.free c 0
+
   abbrev entering : Entering t g h row preds₀
   entering = E.entering
 
@@ -132,13 +135,6 @@ module _ (t : ℕ) (g h : Hop) (c free : ℕ) (row next₀ preds₀ : List ℕ) 
 
   pub turn_four : h.turn < 4
   turn_four = omega (arith, entering.ready.turns, entering.ready.few_colours)
-
-  pub begins_put : Putting c next₀ preds₀
-  begins_put = record {
-    few_colours = colour_four;
-    next_long = E.begun.next_long;
-    long = entering.long;
-  }
 
   module _ (cells lanes many : List ℕ) (N : NearRow g.colours (low_turn h c) (near_span g h c) row g.frames cells lanes many) where
     -- the lane may be entered from the row of the frames
@@ -154,7 +150,7 @@ module _ (t : ℕ) (g h : Hop) (c free : ℕ) (row next₀ preds₀ : List ℕ) 
       long = l;
     }
 
-    module _ (lane froms : List ℕ) (more : ℕ) (L : LaneSet t g h free cells many lanes lane froms more) (next preds : List ℕ) (P : LanePut c lane froms 64 next₀ preds₀ next preds) where
+    module _ (lane froms : List ℕ) (more : ℕ) (L : LaneSet t g h free cells many lanes lane froms more) (next preds : List ℕ) (P : LanePut c lane froms next₀ preds₀ next preds) where
       -- a place that is chosen has the frame and the lane
       chosen_node : (k : ℕ) → k < 64 → node_in g.colours (place_from lanes k) ≡ node_from g.colours lanes k
       chosen_node k l =
@@ -179,8 +175,8 @@ module _ (t : ℕ) (g h : Hop) (c free : ℕ) (row next₀ preds₀ : List ℕ) 
                 ap₂ (λ (x p : ℕ). way_of x w.hold (node_in g.colours p)) cell stored
                 ∙ ap (way_of (get_or lane i 0) w.hold) (chosen_node w.from w.few)
                 ∙ way_node (node_from g.colours lanes) (get_or lane i 0) w.hold w.from ∙ ap (with_node (node_from g.colours lanes)) w.way
-                ∙ sym (colour_best t g h c row cells lanes many N free E.word E.colour i);
-            near = λ r. omega (arith, stored, chosen_lane w.from w.few, colour_near t g h c row cells lanes many N free E.word E.colour i (get_or lane i 0) w.hold w.from w.way (omega (arith, cell)));
+                ∙ sym (colour_best t g h c row cells lanes many N free refl E.colour i);
+            near = λ r. omega (arith, stored, chosen_lane w.from w.few, colour_near t g h c row cells lanes many N free refl E.colour i (get_or lane i 0) w.hold w.from w.way (omega (arith, cell)));
             most = omega (arith, cell, L.most i l);
           }
 
@@ -202,7 +198,7 @@ module _ (t : ℕ) (g h : Hop) (c free : ℕ) (row next₀ preds₀ : List ℕ) 
                 most = omega (arith, o.0, w.most);
               }
         ];
-        counted = e ∙ rw (add-one c) (ap₂ ◌+◌ E.begun.counted (L.counted ∙ sym (colour_count t g h c row cells lanes many N free E.word E.colour)));
+        counted = e ∙ rw (add-one c) (ap₂ ◌+◌ E.begun.counted (L.counted ∙ sym (colour_count t g h c row cells lanes many N free refl E.colour)));
         next_long = P.next_long;
         long = P.long;
       }
@@ -213,9 +209,9 @@ module _ (t : ℕ) (g h : Hop) (row : List ℕ) where
   no_colours next preds l m = record { inside = λ i q r. absurd (omega arith); counted = refl; next_long = l; long = m }
 
   -- the next colour may be entered
-  pub still_colouring : (c free count : ℕ) (next old preds : List ℕ) → Entering t g h row old → c < h.colours → free ≡ get_or h.free c 0
-      → Coloured t g h c (by_node g row) next preds count → Colouring t g h c free row next preds count
-  still_colouring c free count next old preds E l e s = record {
+  pub still_colouring : (c count : ℕ) (next old preds : List ℕ) → Entering t g h row old → c < h.colours
+      → Coloured t g h c (by_node g row) next preds count → Colouring t g h c row next preds count
+  still_colouring c count next old preds E l s = record {
     entering = record {
       cycle = E.cycle;
       some_before = E.some_before;
@@ -226,7 +222,6 @@ module _ (t : ℕ) (g h : Hop) (row : List ℕ) where
       long = s.long;
     };
     colour = l;
-    word = e;
     begun = s;
   }
 

@@ -268,16 +268,11 @@ pub record NearLane (lane : ℕ) (row : List ℕ) (n : ℕ) (cells lanes many ce
 
 -- ---- a lane put into a row and into the predecessors, as colour c
 
-pub record Putting (c : ℕ) (next preds : List ℕ) : Type 0 where
-  pub few_colours : c < 4
+-- its frames are there, and every other colour is as it was
+pub record LanePut (c : ℕ) (cells froms next₀ preds₀ next preds : List ℕ) : Type 0 where
   pub next_long : length next ≡ 256
   pub long : length preds ≡ 256
-
--- the first n frames are there, and every other colour is as it was
-pub record LanePut (c : ℕ) (cells froms : List ℕ) (n : ℕ) (next₀ preds₀ next preds : List ℕ) : Type 0 where
-  pub next_long : length next ≡ 256
-  pub long : length preds ≡ 256
-  pub here : (i : ℕ) → i < n → (get_or next (64 * c + i) 0 ≡ get_or cells i 0) × (get_or preds (64 * c + i) 0 ≡ get_or froms i 0)
+  pub here : (i : ℕ) → i < 64 → (get_or next (64 * c + i) 0 ≡ get_or cells i 0) × (get_or preds (64 * c + i) 0 ≡ get_or froms i 0)
   pub others : (m : ℕ) → (m / 64 ≡ c → ⊥) → (get_or next m 0 ≡ get_or next₀ m 0) × (get_or preds m 0 ≡ get_or preds₀ m 0)
 
 -- ---- a hop entered
@@ -313,11 +308,10 @@ pub record Coloured (t : ℕ) (g h : Hop) (c : ℕ) (cells next preds : List ℕ
   pub next_long : length next ≡ 256
   pub long : length preds ≡ 256
 
--- what is known where its colour c is entered, whose free word this is
-pub record Colouring (t : ℕ) (g h : Hop) (c free : ℕ) (row next preds : List ℕ) (count : ℕ) : Type 0 where
+-- what is known where its colour c is entered
+pub record Colouring (t : ℕ) (g h : Hop) (c : ℕ) (row next preds : List ℕ) (count : ℕ) : Type 0 where
   pub entering : Entering t g h row preds
   pub colour : c < h.colours
-  pub word : free ≡ get_or h.free c 0
   pub begun : Coloured t g h c (by_node g row) next preds count
 
 -- the first n cells of one row are those of another

@@ -22,7 +22,7 @@ ghost use Rattle.forwarding.specs.Hops.{no_hop, Ready};
 ghost use Rattle.forwarding.specs.Route.{nodes, stage};
 ghost use Rattle.forwarding.proofs.Windows.{first_frame};
 ghost use Rattle.search.specs.Reading.{Finds};
-ghost use Rattle.search.specs.Inner.{cell_reach, way_of, cell_if, Keys, Trail, Windows, Entered, Gathers, leadings, Gathering, Settled, Settling, Lane, LaneSet, low_turn, high_turn, near_span, NearRow, NearLane, LanePut, Putting, Coloured, Colouring, Kept, Entering, Advanced, by_node, FirstLane, FirstRow, Sweeps, Swept, lane_offers, end_sooner, EndOf, chain_of, ChainFits, Parts};
+ghost use Rattle.search.specs.Inner.{cell_reach, way_of, cell_if, Keys, Trail, Windows, Entered, Gathers, leadings, Gathering, Settled, Settling, Lane, LaneSet, low_turn, high_turn, near_span, NearRow, NearLane, LanePut, Coloured, Colouring, Kept, Entering, Advanced, by_node, FirstLane, FirstRow, Sweeps, Swept, lane_offers, end_sooner, EndOf, chain_of, ChainFits, Parts};
 
 use forwarding::{Delay, Hold, Hop};
 
@@ -348,28 +348,27 @@ fn put_lane(
     next: &mut [u16; 256],
     preds: &mut [u8; 256],
 )
-    requires { Putting c next.old preds.old }
-    ensures { LanePut c cells.now froms.now 64 next.old preds.old next.new preds.new }
+    requires { (c < 4) × (length next.old ≡ 256) × (length preds.old ≡ 256) }
+    ensures { LanePut c cells.now froms.now next.old preds.old next.new preds.new }
 {
     let first = 64 * c as usize;
     next[first..first + 64].copy_from_slice(cells);
     preds[first..first + 64].copy_from_slice(froms);
 }
 
-// Enters a hop in colour c, whose free word this is: its lane and the places before. Answers the
-// number of transitions into this colour and the colours before it, `count` being that of those.
+// Enters a hop in colour c: its lane and the places before. Answers the number of transitions
+// into this colour and the colours before it, `count` being that of those.
 fn colour(
     row: &[u16; 256],
     t: u16,
     before: Hop,
     hop: Hop,
     c: u16,
-    free: u64,
     count: u32,
     next: &mut [u16; 256],
     preds: &mut [u8; 256],
 ) -> u32
-    requires { Colouring t before hop c free row.now next.old preds.old count }
+    requires { Colouring t before hop c row.now next.old preds.old count }
     ensures { Coloured t before hop (c + 1) (by_node before row.now) next.new preds.new result }
 {
     let cells = [NEVER; 64];
@@ -378,7 +377,8 @@ fn colour(
     let mut near = Near { cells, lanes, many };
     near_row(row, before, hop, c, &mut near);
     let mut froms = [0u8; 64];
-    let more = lane(&mut near, t, before, hop, free, &mut froms);
+    let free = hop.free;
+    let more = lane(&mut near, t, before, hop, free[c as usize], &mut froms);
     put_lane(&near.cells, &froms, c, next, preds);
     count + more
 }
@@ -395,11 +395,9 @@ fn advance(
     requires { Entering t before hop row.now preds.old × (length next.old ≡ 256) }
     ensures { Coloured t before hop hop.colours (by_node before row.now) next.new preds.new result }
 {
-    let free = hop.free;
     let mut count: u32 = 0;
     for c in 0..hop.colours {
-        let word = free[c as usize];
-        count = colour(row, t, before, hop, c, word, count, next, preds);
+        count = colour(row, t, before, hop, c, count, next, preds);
     }
     count
 }
