@@ -13,17 +13,25 @@ use state::Quoted;
 use std::io;
 use streams::show;
 
-// The free frames of a link as a route says them, as a word: those that the braces after its letter name, and all where it has none.
+// The free frames of a link as a route says them, as a word: those that the braces after its letter name, and all where it has none. `bit` is the word
+// of the frame whose digits, from 48 on, are read.
 fn free_frames(text: &[u8], letter: u8) -> u64 {
     let at = streams::find(text, 0, text.len(), letter);
     let named = text[at..].split(|c| *c == b' ').next().unwrap_or(b"");
-    if !named.contains(&b'{') {
-        return u64::MAX;
+    let mut free = u64::MAX;
+    let mut frame: u64 = 0;
+    let mut bit: u64 = 0;
+    for c in named {
+        if c / 16 == 3 {
+            frame = (10 * frame + u64::from(c % 16)) % 64;
+            bit = 1 << frame;
+        } else {
+            free = if *c == b'{' { 0 } else { free | bit };
+            frame = 0;
+            bit = 0;
+        }
     }
-    named
-        .split(|c| !c.is_ascii_digit())
-        .filter_map(|frame| streams::number(frame, 10))
-        .fold(0, |free, frame| free | (1 << (frame % 64)))
+    free
 }
 
 // A link with K, Z and Y, on which all frames are closed but those that a route says are free.
@@ -87,9 +95,9 @@ fn quote(rt: &HostRuntime, text: &[u8]) -> io::Result<()> {
     let mut links = [0u8; 8];
     let mut hops = 0;
     for c in text {
-        if c.is_ascii_uppercase() && hops < 8 {
-            links[hops] = c - b'A';
-            hops += 1;
+        if c.is_ascii_uppercase() {
+            links[hops % 8] = c - b'A';
+            hops = hops % 8 + 1;
         }
     }
     let route = &links[..hops];

@@ -79,7 +79,7 @@ fn route_call(rt: &HostRuntime, st: State, line: &[u8], k: usize, letter: u8) ->
     for (link, word) in links.iter_mut().zip(words) {
         *link = lines::byte(lines::value(word));
     }
-    let n = lines::words(line).saturating_sub(k).min(40);
+    let n = lines::words(line).wrapping_sub(k) % 41;
     let route = &links[..n];
     match letter {
         b'H' => number_of_ways(rt, st, route),

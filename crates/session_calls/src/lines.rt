@@ -1,11 +1,16 @@
 // Words and numbers written in text, with a space between two.
 
-// The value of a word: of a number its value, of another word its first letter.
-pub(super) fn value(word: &[u8]) -> usize {
-    match word.first() {
-        Some(c) if !c.is_ascii_digit() => usize::from(*c),
-        _ => streams::number(word, 10).unwrap_or(0) as usize,
+// A word's value with one character more: of a number its value, of another word its first letter. The remainder changes no number of 64 bits.
+fn more(x: usize, c: u8) -> usize {
+    if c < b':' {
+        return (x % 1844674407370955162 * 10).wrapping_add(usize::from(c % 16));
     }
+    if x == 0 { usize::from(c) } else { x }
+}
+
+// The value of a word.
+pub(super) fn value(word: &[u8]) -> usize {
+    word.iter().fold(0, |x, c| more(x, *c))
 }
 
 // The value of word k of a line, 0 where there is none.

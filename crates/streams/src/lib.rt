@@ -58,11 +58,3 @@ pub fn case(line: &[u8]) -> Option<(&[u8], &[u8])> {
     }
     Some((&line[..at + 1], &line[at + 1..end]))
 }
-
-// The number that a word says in a base.
-pub fn number(word: &[u8], base: u32) -> Option<u64>
-    requires { (2 ≤ base) × (base ≤ 36) }
-{
-    let text = str::from_utf8(word).ok()?;
-    u64::from_str_radix(text, base).ok()
-}
