@@ -3,7 +3,6 @@ use mathlib.Core.Path.{◌≡◌, refl, sym, ap, ◌∙◌}
 use mathlib.Core.Bool.{Bool, true, false, not}
 use mathlib.Core.List.{List, [], ◌∷◌, ◌++◌, append_assoc, append-nil}
 use Prim.Native.Nat.{ℕ, suc, ◌+◌, ◌-◌, ◌<◌, ◌≤◌}
-use native.Mathlib.Nat.{sub-zero}
 use native.Mathlib.Omega.{arith}
 use borrow.Author.Tests.{lt-ltb, le-ltb, eq-eqb, ne_eqb}
 use lib.Seq.{drop-drop}
@@ -82,7 +81,6 @@ pub record Gone (T count : ℕ) (records : List ℕ) (links : List Link) (at i :
   pub same : read_links T count records ≡ after done (read_links T (count - i) (drop at records))
 
 module _ (T count : ℕ) (records : List ℕ) where
-
   module _ (links : List Link) (at i : ℕ) (g : Gone T count records links at i) where
     module _ (h : i < count) (x : Result (Link × ℕ) Refusal) (ex : link_read x ≡ read_link T (take (length records - at) (drop at records))) where
       step : count - i ≡ suc (count - (i + 1))

@@ -27,9 +27,9 @@ pub link_layout_lem : is_layout link_layout ≡ true
 unfolding is_layout is_bit link_layout
 link_layout_lem = refl
 
-pub link_laid : (fields : List Field) → fields ≡ link_layout → Laid fields
+pub link_laid : Laid link_layout
 unfolding link_layout
-link_laid fields e = rw e (record { few = omega arith; layout = link_layout_lem })
+link_laid = record { few = omega arith; layout = link_layout_lem }
 
 -- 5, "A map byte has a bit above bit" 3, in its own words: no bit is stray exactly where the map byte is below 16
 no_bit : (i : ℕ) → 4 ≤ i → is_bit link_layout i ≡ false

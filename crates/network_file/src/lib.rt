@@ -12,38 +12,40 @@ ghost use Rattle.network_file.specs.Writing.{link_bytes, links_bytes, image_of, 
 ghost use Rattle.network_file.specs.Inner.{Writable};
 
 use network::{Link, Network};
-use records::Field;
+use records::{Field, Layout};
 use refusals::Refusal;
 
 // The number of fields of a link record.
 const FIELDS: usize = 4;
 
 // The layout of a link record: K, Z, closed frames, Y.
-fn link_fields() -> [Field; FIELDS]
-    ensures { result ≡ link_layout }
+fn link_layout() -> Layout<FIELDS>
+    ensures { result.fields ≡ link_layout }
 {
-    [
-        Field {
-            bit: 0,
-            size: 1,
-            absent: 16,
-        },
-        Field {
-            bit: 1,
-            size: 1,
-            absent: 4,
-        },
-        Field {
-            bit: 2,
-            size: 8,
-            absent: 0,
-        },
-        Field {
-            bit: 3,
-            size: 1,
-            absent: 1,
-        },
-    ]
+    Layout {
+        fields: [
+            Field {
+                bit: 0,
+                size: 1,
+                absent: 16,
+            },
+            Field {
+                bit: 1,
+                size: 1,
+                absent: 4,
+            },
+            Field {
+                bit: 2,
+                size: 8,
+                absent: 0,
+            },
+            Field {
+                bit: 3,
+                size: 1,
+                absent: 1,
+            },
+        ],
+    }
 }
 
 // The values of a link's fields, in the order of the layout.
@@ -76,7 +78,7 @@ fn link_of(values: [u64; FIELDS]) -> Link
 pub fn read_link(ticks: u16, rest: &[u8]) -> Result<(Link, usize), Refusal>
     ensures { link_read result ≡ read_link ticks rest.now }
 {
-    let record = records::read_record(rest, &link_fields())?;
+    let record = link_layout().read_record(rest)?;
     let link = link_of(record.values);
     network::check_link(ticks, link)?;
     Ok((link, record.used))
@@ -133,7 +135,7 @@ pub fn read_network(file: &[u8]) -> Result<Network, Refusal>
 fn link_length(link: Link) -> usize
     ensures { (result ≡ length (link_bytes link)) × (result ≤ 65) }
 {
-    records::record_length(&values_of(link), &link_fields())
+    link_layout().record_length(&values_of(link))
 }
 
 // The length of the records of some links. Check 2 guarantees what it requires.
@@ -150,7 +152,7 @@ fn write_link(rest: &mut [u8], link: Link) -> usize
     requires { length (link_bytes link) ≤ length rest.old }
     ensures { (result ≡ length (link_bytes link)) × (rest.new ≡ link_bytes link ++ drop result rest.old) }
 {
-    records::write_record(rest, &values_of(link), &link_fields())
+    link_layout().write_record(rest, &values_of(link))
 }
 
 // The records of some links, from place 3 of a buffer on.

@@ -9,7 +9,7 @@ use borrow.Rule.Slice.PartMut.{put_mid}
 use lib.ListN.{length, length-append, drop, take, set, length-set}
 use lib.Dec.{eqb}
 use Rattle.places.specs.Put.{put_at}
-use Rattle.places.proofs.Puts.{Grown, grow, grown_none, put_length, put_nil, put_part, put_set, put_zero}
+use Rattle.places.proofs.Puts.{Grown, grow, grown_none, put_nil, put_part, put_set, put_zero}
 use Rattle.numbers.specs.Numbers.{bytes_of}
 use Rattle.numbers.proofs.Laws.{length_bytes}
 use Rattle.words.specs.Word.{with_bit}
@@ -26,7 +26,6 @@ unfolding is_written
 is_written_lem f v = refl
 
 module _ (f : Field) (v : ℕ) (b : Bool) (eb : b ≡ is_written f v) where
-
   pub some_long : b ≡ true → f.size ≡ length (field_of f v)
   some_long h = sym (length_some f v (sym eb ∙ h))
 
@@ -149,4 +148,3 @@ module _ (fs : List Field) (vs : List ℕ) where
         let z : b ≡ (map ∷ body_of fs vs) ++ drop (length (map ∷ body_of fs vs)) rest = g.holds ∙ put_zero (map ∷ body_of fs vs) rest in
         let q : length (map ∷ body_of fs vs) ≡ r = omega arith in
         (omega arith, z ∙ rw em (ap (λ (k : ℕ). map_of fs vs ∷ (body_of fs vs ++ drop k rest)) q))
-

@@ -20,6 +20,13 @@ pub struct Field {
     pub absent: u64,
 }
 
+// A layout: fields of which each has a bit of the map byte for itself.
+#[derive(Clone, Copy)]
+pub struct Layout<const N: usize> {
+    pub fields: [Field; N],
+    ghost laid: { Laid fields },
+}
+
 // What a record says: the values of its fields and its length.
 #[derive(Clone, Copy)]
 pub struct Record<const N: usize> {
@@ -39,30 +46,6 @@ fn size_in(map: u64, field: Field) -> usize
     }
 }
 
-// The bytes that the bits of a map byte need.
-fn needed(map: u64, fields: &[Field]) -> usize
-    requires { Laid fields.now }
-    ensures { (result ≡ needed fields.now map) × (result ≤ 64) }
-{
-    let mut total = 0;
-    for field in fields {
-        total += size_in(map, *field);
-    }
-    total
-}
-
-// The bits of a map byte that are no field's.
-fn stray_bits(map: u64, fields: &[Field]) -> u64
-    requires { Laid fields.now × (map < 256) }
-    ensures { result ≡ stray_bits fields.now map }
-{
-    let mut left = map;
-    for field in fields {
-        left = words::clear_bit(left, field.bit);
-    }
-    left
-}
-
 // A field's value, from the bytes that start at it.
 fn value_in(rest: &[u8], map: u64, field: Field) -> u64
     requires { (field.bit < 8) × (field.size ≤ 8) × (size_in map field ≤ length rest.now) }
@@ -74,63 +57,12 @@ fn value_in(rest: &[u8], map: u64, field: Field) -> u64
     field.absent
 }
 
-// The values of all fields of a record with this map byte.
-fn values_in<const N: usize>(rest: &[u8], map: u64, fields: &[Field; N]) -> [u64; N]
-    requires { Laid fields.now × (1 + needed fields.now map ≤ length rest.now) }
-    ensures { result ≡ values_in fields.now map (drop 1 rest.now) }
-{
-    let mut values = [0u64; N];
-    let mut at = 1;
-    for (j, field) in fields.iter().enumerate() {
-        values[j] = value_in(&rest[at..], map, *field);
-        at += size_in(map, *field);
-    }
-    values
-}
-
 // Whether a field is written and has its absent value.
 fn is_restated(map: u64, field: Field, value: u64) -> bool
     requires { field.bit < 8 }
     ensures { result ≡ (stands map field && eqb value field.absent) }
 {
     words::has_bit(map, field.bit) && value == field.absent
-}
-
-// Whether some field is written and has its absent value.
-fn restated<const N: usize>(map: u64, values: &[u64; N], fields: &[Field; N]) -> bool
-    requires { Laid fields.now }
-    ensures { result ≡ restated fields.now map values.now }
-{
-    for (field, value) in fields.iter().zip(values) {
-        if is_restated(map, *field, *value) {
-            return true;
-        }
-    }
-    false
-}
-
-// The record that starts `rest`. The form asked for: "The record reader is handed the file's remaining part and answers fields and length used".
-pub fn read_record<const N: usize>(rest: &[u8], fields: &[Field; N]) -> Result<Record<N>, Refusal>
-    requires { Laid fields.now }
-    ensures { answered said_of result ≡ read_record fields.now rest.now }
-{
-    if rest.is_empty() {
-        return Err(Refusal::ShortRecord);
-    }
-    let map = u64::from(rest[0]);
-    let used = 1 + needed(map, fields);
-    let stray = stray_bits(map, fields);
-    if rest.len() < used {
-        return Err(Refusal::ShortRecord);
-    }
-    if stray != 0 {
-        return Err(Refusal::StrayBit);
-    }
-    let values = values_in(rest, map, fields);
-    if restated(map, &values, fields) {
-        return Err(Refusal::AbsentWritten);
-    }
-    Ok(Record { values, used })
 }
 
 // Whether a field is written: one equal to its absent value never is.
@@ -151,18 +83,6 @@ fn map_with(map: u64, field: Field, value: u64) -> u64
     map
 }
 
-// The map byte of a record.
-fn map_of<const N: usize>(values: &[u64; N], fields: &[Field; N]) -> u64
-    requires { Laid fields.now }
-    ensures { (result ≡ map_of fields.now values.now) × (result < 256) }
-{
-    let mut map = 0;
-    for (field, value) in fields.iter().zip(values) {
-        map = map_with(map, *field, *value);
-    }
-    map
-}
-
 // The bytes that a field is written in.
 fn field_length(field: Field, value: u64) -> usize
     ensures { result ≡ length (field_of field value) }
@@ -172,18 +92,6 @@ fn field_length(field: Field, value: u64) -> usize
     } else {
         0
     }
-}
-
-// The length of a record.
-pub fn record_length<const N: usize>(values: &[u64; N], fields: &[Field; N]) -> usize
-    requires { Laid fields.now }
-    ensures { (result ≡ length (record_of fields.now values.now)) × (result ≤ 65) }
-{
-    let mut total = 1;
-    for (field, value) in fields.iter().zip(values) {
-        total += field_length(*field, *value);
-    }
-    total
 }
 
 // A field at a place of a buffer, where it is written, and the place after it.
@@ -198,27 +106,119 @@ fn put_field(buffer: &mut [u8], at: usize, field: Field, value: u64) -> usize
     at
 }
 
-// The fields of a record from place 1 of a buffer on, and the place after them.
-fn put_fields<const N: usize>(buffer: &mut [u8], values: &[u64; N], fields: &[Field; N]) -> usize
-    requires { Laid fields.now × (1 + length (body_of fields.now values.now) ≤ length buffer.old) }
-    ensures { (result ≡ 1 + length (body_of fields.now values.now)) × (buffer.new ≡ put_at 1 (body_of fields.now values.now) buffer.old) }
-{
-    let mut at = 1;
-    for (field, value) in fields.iter().zip(values) {
-        at = put_field(buffer, at, *field, *value);
+impl<const N: usize> Layout<N> {
+    // The bytes that the bits of a map byte need.
+    fn needed(&self, map: u64) -> usize
+        ensures { (result ≡ needed self.now.fields map) × (result ≤ 64) }
+    {
+        let mut total = 0;
+        for field in &self.fields {
+            total += size_in(map, *field);
+        }
+        total
     }
-    at
-}
 
-// A record at the start of `rest`, and its length. The form asked for: "Each link record is written by a function lent the rest of the image buffer".
-pub fn write_record<const N: usize>(
-    rest: &mut [u8],
-    values: &[u64; N],
-    fields: &[Field; N],
-) -> usize
-    requires { Laid fields.now × (length (record_of fields.now values.now) ≤ length rest.old) }
-    ensures { (result ≡ length (record_of fields.now values.now)) × (rest.new ≡ record_of fields.now values.now ++ drop result rest.old) }
-{
-    rest[0] = map_of(values, fields) as u8;
-    put_fields(rest, values, fields)
+    // The bits of a map byte that are no field's.
+    fn stray_bits(&self, map: u64) -> u64
+        requires { map < 256 }
+        ensures { result ≡ stray_bits self.now.fields map }
+    {
+        let mut left = map;
+        for field in &self.fields {
+            left = words::clear_bit(left, field.bit);
+        }
+        left
+    }
+
+    // The values of all fields of a record with this map byte.
+    fn values_in(&self, rest: &[u8], map: u64) -> [u64; N]
+        requires { 1 + needed self.now.fields map ≤ length rest.now }
+        ensures { result ≡ values_in self.now.fields map (drop 1 rest.now) }
+    {
+        let mut values = [0u64; N];
+        let mut at = 1;
+        for (j, field) in self.fields.iter().enumerate() {
+            values[j] = value_in(&rest[at..], map, *field);
+            at += size_in(map, *field);
+        }
+        values
+    }
+
+    // Whether some field is written and has its absent value.
+    fn restated(&self, map: u64, values: &[u64; N]) -> bool
+        ensures { result ≡ restated self.now.fields map values.now }
+    {
+        for (field, value) in self.fields.iter().zip(values) {
+            if is_restated(map, *field, *value) {
+                return true;
+            }
+        }
+        false
+    }
+
+    // The record that starts `rest`. The form asked for: "The record reader is handed the file's remaining part and answers fields and length used".
+    pub fn read_record(&self, rest: &[u8]) -> Result<Record<N>, Refusal>
+        ensures { answered said_of result ≡ read_record self.now.fields rest.now }
+    {
+        if rest.is_empty() {
+            return Err(Refusal::ShortRecord);
+        }
+        let map = u64::from(rest[0]);
+        let used = 1 + self.needed(map);
+        let stray = self.stray_bits(map);
+        if rest.len() < used {
+            return Err(Refusal::ShortRecord);
+        }
+        if stray != 0 {
+            return Err(Refusal::StrayBit);
+        }
+        let values = self.values_in(rest, map);
+        if self.restated(map, &values) {
+            return Err(Refusal::AbsentWritten);
+        }
+        Ok(Record { values, used })
+    }
+
+    // The map byte of a record.
+    fn map_of(&self, values: &[u64; N]) -> u64
+        ensures { (result ≡ map_of self.now.fields values.now) × (result < 256) }
+    {
+        let mut map = 0;
+        for (field, value) in self.fields.iter().zip(values) {
+            map = map_with(map, *field, *value);
+        }
+        map
+    }
+
+    // The length of a record.
+    pub fn record_length(&self, values: &[u64; N]) -> usize
+        ensures { (result ≡ length (record_of self.now.fields values.now)) × (result ≤ 65) }
+    {
+        let mut total = 1;
+        for (field, value) in self.fields.iter().zip(values) {
+            total += field_length(*field, *value);
+        }
+        total
+    }
+
+    // The fields of a record from place 1 of a buffer on, and the place after them.
+    fn put_fields(&self, buffer: &mut [u8], values: &[u64; N]) -> usize
+        requires { 1 + length (body_of self.now.fields values.now) ≤ length buffer.old }
+        ensures { (result ≡ 1 + length (body_of self.now.fields values.now)) × (buffer.new ≡ put_at 1 (body_of self.now.fields values.now) buffer.old) }
+    {
+        let mut at = 1;
+        for (field, value) in self.fields.iter().zip(values) {
+            at = put_field(buffer, at, *field, *value);
+        }
+        at
+    }
+
+    // A record at the start of `rest`, and its length. The form asked for: "Each link record is written by a function lent the rest of the image buffer".
+    pub fn write_record(&self, rest: &mut [u8], values: &[u64; N]) -> usize
+        requires { length (record_of self.now.fields values.now) ≤ length rest.old }
+        ensures { (result ≡ length (record_of self.now.fields values.now)) × (rest.new ≡ record_of self.now.fields values.now ++ drop result rest.old) }
+    {
+        rest[0] = self.map_of(values) as u8;
+        self.put_fields(rest, values)
+    }
 }

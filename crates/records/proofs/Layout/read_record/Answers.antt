@@ -1,8 +1,8 @@
--- `records::read_record` meets its contract. Assumes nothing.
+-- `records::Layout::read_record` meets its contract. Assumes nothing.
 use mathlib.Core.Path.{ap}
 use Prim.Native.Nat.{ℕ, ◌+◌}
 use Rattle.records.proofs.Cases.{none_left, too_short, stray, again, said}
-use Rattle.records.proofs.read_record.Goals as goal
+use Rattle.records.proofs.Layout.read_record.Goals as goal
 
 pub returns-then-is_empty : goal.returns-then-is_empty
 returns-then-is_empty g c = none_left _ _ _ c.is_empty.ensures c.if-is_empty.true
