@@ -32,7 +32,7 @@ fn bad_length(n: usize) -> bool
 fn unknown_link(count: usize, route: &[u8]) -> bool
     ensures { result ≡ list_any (λ l. nat_le count l) route.now }
 {
-    route.iter().any(|link| count <= usize::from(*link))
+    route.iter().any(|&link| count <= usize::from(link))
 }
 
 // Whether check 14 refuses the route: a link stands again after its place.
@@ -143,9 +143,8 @@ pub fn route_hops(network: Network, held: &[u64; BANK], route: &[u8]) -> [Hop; 8
     ensures { result ≡ firsts 8 (hops_from network.links held.now route.now) blank_hop }
 {
     let mut hops = [forwarding::no_hop(); 8];
-    for (j, l) in route.iter().enumerate() {
-        let link = network.links[usize::from(*l)];
-        hops[j] = hop_of(link, *l, held);
+    for (j, &l) in route.iter().enumerate() {
+        hops[j] = hop_of(network.links[usize::from(l)], l, held);
     }
     hops
 }

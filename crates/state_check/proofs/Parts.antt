@@ -20,7 +20,7 @@ use Rattle.state.specs.declared.State.{State}
 use Rattle.state.specs.State.{view_of}
 use Rattle.state_check.proofs.Sessions.{check_fails, check_passes, all_good}
 
-module _ (st : State) (v : Result ⊤ Refusal) (ev : ruling v ≡ network_check (topology_of st.network)) where
+module _ (st : State) (v : Result ⊤ Refusal) (ev : ruling v ≡ network_check (topology_of st.network)) (f : Bool) (ef : f ≡ is_err v) where
   -- the five parts of a sound state, as tests
   parts : (a b c d e : Bool) → good_network (topology_of st.network) ≡ a → few_sessions (live_of st.table) ≡ b → number_twice (live_of st.table) ≡ c
       → all_of (good_session (topology_of st.network)) (live_of st.table) ≡ d → frame_twice (live_of st.table) ≡ e
@@ -31,13 +31,13 @@ module _ (st : State) (v : Result ⊤ Refusal) (ev : ruling v ≡ network_check 
   network_told : (r : _) → ruling v ≡ r → network_check (topology_of st.network) ≡ r
   network_told r e = sym ev ∙ e
 
-  pub network_fails : is_err v ≡ true → true ≡ not (intact (view_of st))
+  pub network_fails : f ≡ true → true ≡ not (intact (view_of st))
   unfolding good_network
-  network_fails e = let r = check_fails v e in sym (parts false _ _ _ _ (rw (network_told (refused r.0) r.1)) refl refl refl refl)
+  network_fails e = let r = check_fails v f ef e in sym (parts false _ _ _ _ (rw (network_told (refused r.0) r.1)) refl refl refl refl)
 
-  module _ (e : is_err v ≡ false) where
+  module _ (e : f ≡ false) where
     pub network_stands : network_check (topology_of st.network) ≡ given pass
-    network_stands = network_told (given pass) (check_passes v e)
+    network_stands = network_told (given pass) (check_passes v f ef e)
 
     good : good_network (topology_of st.network) ≡ true
     unfolding good_network

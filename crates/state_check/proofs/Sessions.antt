@@ -45,13 +45,13 @@ use Rattle.state_check.proofs.Same.{same_places}
 use Rattle.state.proofs.Searches.{ticks_told, hops_eight, hops_ready, hops_back}
 
 -- a check that fails refuses, and one that doesn't passes
-pub check_fails : (q : Result ⊤ Refusal) → is_err q ≡ true → (n : ℕ) × (ruling q ≡ refused n)
-check_fails (Ok x) e = absurd (true≢false (sym e))
-check_fails (Err r) e = (refusal_number r, refl)
+pub check_fails : (q : Result ⊤ Refusal) (b : Bool) → b ≡ is_err q → b ≡ true → (n : ℕ) × (ruling q ≡ refused n)
+check_fails (Ok x) b eb e = absurd (true≢false (sym e ∙ eb))
+check_fails (Err r) b eb e = (refusal_number r, refl)
 
-pub check_passes : (q : Result ⊤ Refusal) → is_err q ≡ false → ruling q ≡ given pass
-check_passes (Ok x) e = refl
-check_passes (Err r) e = absurd (true≢false e)
+pub check_passes : (q : Result ⊤ Refusal) (b : Bool) → b ≡ is_err q → b ≡ false → ruling q ≡ given pass
+check_passes (Ok x) b eb e = refl
+check_passes (Err r) b eb e = absurd (true≢false (sym eb ∙ e))
 
 -- a bank in which nothing is held
 pub none_held : HeldWords (replicate bank_size 0) []
@@ -70,17 +70,17 @@ module _ (network : Network) (place : Place) where
     pub taken_length : place.hops ≡ length (take place.hops place.route)
     taken_length = sym (length-take-le place.hops place.route (omega (arith, few, long)))
 
-    module _ (v : Result ⊤ Refusal) (ev : ruling v ≡ route_check (topology_of network) (take place.hops place.route)) where
+    module _ (v : Result ⊤ Refusal) (ev : ruling v ≡ route_check (topology_of network) (take place.hops place.route)) (f : Bool) (ef : f ≡ is_err v) where
       told : (r : Ruling) → ruling v ≡ r → route_check (topology_of network) (firsts place.hops place.route 0) ≡ r
       told r e = ap (route_check (topology_of network)) (sym same_route) ∙ sym ev ∙ e
 
-      pub route_fails : is_err v ≡ true → false ≡ good_session (topology_of network) (session_of place)
+      pub route_fails : f ≡ true → false ≡ good_session (topology_of network) (session_of place)
       unfolding good_session
-      route_fails e = let r = check_fails v e in rw (told (refused r.0) r.1)
+      route_fails e = let r = check_fails v f ef e in rw (told (refused r.0) r.1)
 
-      module _ (e : is_err v ≡ false) where
+      module _ (e : f ≡ false) where
         pub route_stands : route_check (topology_of network) (take place.hops place.route) ≡ given pass
-        route_stands = sym ev ∙ check_passes v e
+        route_stands = sym ev ∙ check_passes v f ef e
 
         module _ (passed : network_check (topology_of network) ≡ given pass) (laid : List Hop)
             (el : laid ≡ firsts 8 (hops_from network.links (replicate bank_size 0) (take place.hops place.route)) blank_hop) where
@@ -135,7 +135,7 @@ module _ (network : Network) (place : Place) where
             -- where the route stands, a session is good exactly when what it holds is
             by_walk : good_session (topology_of network) (session_of place) ≡ (is_schedule_lem && (same_cycles && eqb place.held.delay.0 its_delay))
             unfolding good_session good_held is_schedule_lem its_delay same_cycles hops
-            by_walk = rw (told (given pass) (check_passes v e), same_held_lem hops (session_of place).held its_delay as_many)
+            by_walk = rw (told (given pass) (check_passes v f ef e), same_held_lem hops (session_of place).held its_delay as_many)
 
             module _ (d : Delay) (q : w ≡ Some d) where
               walked_fits : (is_schedule_lem ≡ true) × (its_delay ≡ d.0)

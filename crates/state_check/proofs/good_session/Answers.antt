@@ -1,6 +1,4 @@
 -- `state_check::good_session` meets its contract. Assumes nothing.
-use mathlib.Core.Path.{◌≡◌, sym, ◌∙◌}
-use lib.ListN.{length}
 use Rattle.std.proofs.Common.{rules}
 use Rattle.state_check.proofs.Sessions.{too_long, route_fails, walk_ready, walked_laid, session_walked, session_unfit}
 use Rattle.state_check.proofs.good_session.Goals as goal
@@ -9,23 +7,17 @@ pub returns-then-hops-gt8 : goal.returns-then-hops-gt8
 returns-then-hops-gt8 c = too_long _ _ c.if-hops-gt8.true
 
 pub returns-then-is_err : goal.returns-then-is_err
-returns-then-is_err c = let long : length c.args.place.route ≡ 8 = search rules in
-    route_fails _ c.args.place c.if-hops-gt8.false long _ c.check_route.ensures (sym c.is_err.ensures.value ∙ c.if-is_err.true)
+returns-then-is_err c = route_fails _ c.args.place c.if-hops-gt8.false (search rules) _ c.check_route.ensures _ c.is_err.ensures.value c.if-is_err.true
 
 pub walk-requires : goal.walk-requires
-walk-requires c = let long : length c.args.place.route ≡ 8 = search rules in
-    walk_ready _ c.args.place c.if-hops-gt8.false long _ c.check_route.ensures (sym c.is_err.ensures.value ∙ c.if-is_err.false) c.requires _ c.route_hops-laid.ensures
+walk-requires c = walk_ready _ c.args.place c.if-hops-gt8.false (search rules) _ c.check_route.ensures _ c.is_err.ensures.value c.if-is_err.false c.requires _ c.route_hops-laid.ensures
 
 pub cycles-cycles-requires : goal.cycles-cycles-requires
-cycles-cycles-requires c = let long : length c.args.place.route ≡ 8 = search rules in
-    walked_laid _ c.args.place c.if-hops-gt8.false long _ c.check_route.ensures (sym c.is_err.ensures.value ∙ c.if-is_err.false) c.requires _ c.route_hops-laid.ensures _ c.walk.ensures _ c.in-Some.is
+cycles-cycles-requires c = walked_laid _ c.args.place c.if-hops-gt8.false (search rules) _ c.check_route.ensures _ c.is_err.ensures.value c.if-is_err.false c.requires _ c.route_hops-laid.ensures _ c.walk.ensures _ c.in-Some.is
 
 pub returns-in-Some : goal.returns-in-Some
-returns-in-Some c = let long : length c.args.place.route ≡ 8 = search rules in
-    let long' : length c.args.place.held.cycles ≡ 8 = search rules in
-    session_walked _ c.args.place c.if-hops-gt8.false long _ c.check_route.ensures (sym c.is_err.ensures.value ∙ c.if-is_err.false) c.requires _ c.route_hops-laid.ensures _ c.walk.ensures _ c.in-Some.is
-    long' _ c.cycles-cycles.ensures _ c.same_held.ensures
+returns-in-Some c = session_walked _ c.args.place c.if-hops-gt8.false (search rules) _ c.check_route.ensures _ c.is_err.ensures.value c.if-is_err.false c.requires _ c.route_hops-laid.ensures _ c.walk.ensures _ c.in-Some.is
+    (search rules) _ c.cycles-cycles.ensures _ c.same_held.ensures
 
 pub returns-in-None : goal.returns-in-None
-returns-in-None c = let long : length c.args.place.route ≡ 8 = search rules in
-    session_unfit _ c.args.place c.if-hops-gt8.false long _ c.check_route.ensures (sym c.is_err.ensures.value ∙ c.if-is_err.false) c.requires _ c.route_hops-laid.ensures _ c.walk.ensures c.in-None.is
+returns-in-None c = session_unfit _ c.args.place c.if-hops-gt8.false (search rules) _ c.check_route.ensures _ c.is_err.ensures.value c.if-is_err.false c.requires _ c.route_hops-laid.ensures _ c.walk.ensures c.in-None.is
