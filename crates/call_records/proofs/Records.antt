@@ -93,3 +93,9 @@ calls_more (b ∷ s) h x e = first_then_rest b s ∙ ap (λ (y : CallSaid). y.ca
 
 pub calls_fewer : (s : List ℕ) → (length s ≡ 0 → ⊥) → (x : CallSaid) → x ≡ first_call s → length (calls_in x.rest) < length (calls_in s)
 calls_fewer s h x e = omega (arith, ap length (calls_more s h x e))
+
+-- a call has a byte at least
+pub calls_few : (s : List ℕ) → length (calls_in s) ≤ length s
+calls_few =
+    by_records (λ (s : List ℕ). length (calls_in s) ≤ length s) (omega (arith, ap length no_calls))
+    (λ (b : ℕ) (s : List ℕ) (h : length (calls_in (first_call (b ∷ s)).rest) ≤ length (first_call (b ∷ s)).rest). omega (arith, h, ap length (first_then_rest b s), rest_less b s))

@@ -34,7 +34,7 @@ use Rattle.ledger.proofs.Kept.{next_intact}
 use Rattle.routes.proofs.Hops.{route_ready, route_all_ready, one_colour}
 use Rattle.call_records.specs.Records.{first_call, calls_in, counted}
 use Rattle.call_records.proofs.Said.{TookBy}
-use Rattle.call_records.proofs.Calls.{first_took, by_records, no_calls, first_then_rest}
+use Rattle.call_records.proofs.Records.{first_took, by_records, no_calls, first_then_rest}
 use Rattle.text.specs.Characters.{question_mark}
 use Rattle.text.specs.Lines.{letter_of, line, live_line}
 use Rattle.text.proofs.Long.{scheduled_long, freed_long, refused_long, blocked_long, live_long, network_long}
@@ -108,7 +108,7 @@ Most s = (place : ℕ) (v : View) → intact v ≡ true → place + length s < 1
 
 -- the line of a record, and the lines of those after it
 module _ (rest : List ℕ) (m place : ℕ) (v : View) (e : intact v ≡ true) (h : place + m < 100000) where
-  one_more : (o : Outcome Call) → TookBy o rest m → Most rest → length (lines_of place v (o ∷ calls_in rest)) ≤ 22 + 11 * m
+  one_more : (o : Outcome Call) → TookBy 2 o rest m → Most rest → length (lines_of place v (o ∷ calls_in rest)) ≤ 22 + 11 * m
   one_more (given call) took most =
       omega (
         arith,

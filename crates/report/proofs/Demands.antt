@@ -13,7 +13,7 @@ use Rattle.ledger.proofs.Whole.{demand3}
 use Rattle.call_records.specs.Records.{first_call, calls_in, counted}
 use Rattle.call_records.specs.Served.{view_after_all}
 use Rattle.call_records.proofs.Said.{TookBy}
-use Rattle.call_records.proofs.Calls.{first_took, by_records, no_calls, first_then_rest}
+use Rattle.call_records.proofs.Records.{first_took, by_records, no_calls, first_then_rest}
 use Rattle.text.specs.Characters.{question_mark}
 use Rattle.text.specs.Lines.{letter_of, line, live_line}
 use Rattle.report.specs.Transcript.{lines_of, transcript}
@@ -25,7 +25,7 @@ Ends [] = Unit {0}
 Ends (given call ∷ os) = Ends os
 Ends (refused n ∷ os) = os ≡ []
 
-one_ends : (o : Outcome Call) (rest : List ℕ) (m : ℕ) → TookBy o rest m → Ends (calls_in rest) → Ends (o ∷ calls_in rest)
+one_ends : (o : Outcome Call) (rest : List ℕ) (m : ℕ) → TookBy 2 o rest m → Ends (calls_in rest) → Ends (o ∷ calls_in rest)
 one_ends (given call) rest m took ends = ends
 one_ends (refused k) rest m took ends = ap calls_in took.1 ∙ no_calls
 

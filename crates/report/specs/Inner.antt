@@ -1,24 +1,28 @@
 -- Words of the contracts of inner functions. They are no part of what is promised: `report` promises in the words of `specs/Reports`. Assumes nothing.
-use Rattle.std.specs.Prelude.{◌≡◌, true, List, ℕ, ◌≤◌}
+use Rattle.std.specs.Prelude.{◌≡◌, true, Result, Ok, Err, List, ◌++◌, ℕ, ◌≤◌, length, drop}
 use Rattle.refusals.specs.Refusals.{Outcome}
-use Rattle.refusals.specs.declared.Verdict.{Verdict}
-use Rattle.refusals.specs.declared.Verdict.TheVariants.{Passed, Refused}
+use Rattle.refusals.specs.declared.Refusal.{Refusal}
 use Rattle.ledger.specs.Sound.{intact}
 use Rattle.ledger.specs.Calls.{Call}
 use Rattle.state.specs.declared.State.{State}
+use Rattle.state.specs.declared.Quoted.{Quoted}
 use Rattle.state.specs.State.{view_of}
 use Rattle.call_records.specs.Served.{view_after}
-use Rattle.text.specs.Inner.{Puts}
+use Rattle.text.specs.declared.Page.{Page}
+use Rattle.text.specs.Inner.{Adds}
 use Rattle.report.specs.Transcript.{line_of}
-use Rattle.report.specs.declared.Turn.{Turn}
 
 -- what an answer over as many links holds stands in its eight places
-abbrev pub InPlaces : Verdict → ℕ → Type 0
-InPlaces Passed hops = hops ≤ 8
-InPlaces (Refused r) hops = Unit {0}
+abbrev pub InPlaces : Result Quoted Refusal → ℕ → Type 0
+InPlaces (Ok q) hops = hops ≤ 8
+InPlaces (Err r) hops = Unit {0}
 
 -- a call's line is put, and the state after it isn't broken
-pub record Turns (st : State) (o : Outcome Call) (place at : ℕ) (before after : List ℕ) (r : Turn) : Type 0 where
-  pub put : Puts at (line_of place (view_of st) o) before after r.at
-  pub view : view_of r.state ≡ view_after (view_of st) o
-  pub unbroken : intact (view_of r.state) ≡ true
+pub record Turns (st : State) (o : Outcome Call) (place : ℕ) (before after : Page) (r : State) : Type 0 where
+  pub put : Adds (line_of place (view_of st) o) before after
+  pub view : view_of r ≡ view_after (view_of st) o
+  pub unbroken : intact (view_of r) ≡ true
+
+-- a buffer with x at its start, every other byte left, and the length of x
+abbrev pub Holds : List ℕ → List ℕ → List ℕ → ℕ → Type 0
+Holds x before after n = (n ≡ length x) × (after ≡ x ++ drop (length x) before)

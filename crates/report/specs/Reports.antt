@@ -1,8 +1,8 @@
 -- What the run of the program frames writes into the buffer that it is lent. Assumes nothing.
-use Rattle.std.specs.Prelude.{List, ℕ, ◌+◌, ◌*◌, ◌≤◌, min, length}
+use Rattle.std.specs.Prelude.{Result, List, ℕ, ◌+◌, ◌*◌, ◌≤◌, min, length}
 use Rattle.refusals.specs.Refusals.{Outcome}
 use Rattle.numbers.specs.Numbers.{IsBytes}
-use Rattle.network_file.specs.declared.Written.{Written}
+use Rattle.refusals.specs.declared.Refusal.{Refusal}
 use Rattle.network_file.specs.Lent.{in_room, Writes}
 use Rattle.report.specs.Transcript.{transcript}
 
@@ -23,6 +23,6 @@ unfoldable pub reported : List ℕ → List ℕ → ℕ → Outcome (List ℕ)
 reported file calls room = in_room (text_bound (length calls)) room (transcript file calls)
 
 -- the run, and that its text is within the bound
-pub record Reports (file calls before after : List ℕ) (r : Written) : Type 0 where
+pub record Reports (file calls before after : List ℕ) (r : Result ℕ Refusal) : Type 0 where
   pub written : Writes (reported file calls (length before)) before after r
   pub within : length (transcript file calls) ≤ text_bound (length calls)

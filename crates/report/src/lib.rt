@@ -2,164 +2,101 @@
 // A state is known not to be broken from the fresh network on, so the calls are made on it without check 0.
 #![tactic(auto)]
 
-ghost use Rattle.std.specs.Prelude.{◌≡◌, true, ◌+◌, ◌≤◌, length};
-ghost use Rattle.refusals.specs.Refusals.{refusal_number, refusal_count, given, refused};
+ghost use Rattle.std.specs.Prelude.{◌≡◌, true, ◌≤◌, length};
+ghost use Rattle.refusals.specs.Refusals.{refusal_number, refusal_count, given};
 ghost use Rattle.ledger.specs.Sound.{intact};
-ghost use Rattle.ledger.specs.Calls.{SetUp, Quote, Release};
 ghost use Rattle.ledger.specs.Calls as rules;
 ghost use Rattle.call_records.specs.Records.{calls_in};
-ghost use Rattle.call_records.specs.Reading.{call_in};
-ghost use Rattle.call_records.specs.Inner.{InBytes};
+ghost use Rattle.call_records.specs.Reading.{call_of};
 ghost use Rattle.state.specs.State.{view_of, quoted_in, released_in};
 ghost use Rattle.text.specs.Characters.{letter_r};
 ghost use Rattle.text.specs.Lines.{line};
-ghost use Rattle.text.specs.Inner.{Puts};
+ghost use Rattle.text.specs.Inner.{HasRoom, Adds};
 ghost use Rattle.report.specs.Transcript.{line_of, lines_of, transcript};
 ghost use Rattle.report.specs.Reports.{text_bound, Reports};
-ghost use Rattle.report.specs.Inner.{InPlaces, Turns};
+ghost use Rattle.report.specs.Inner.{InPlaces, Turns, Holds};
 
-use call_records::{Kind, Record};
-use network_file::Written;
-use refusals::{Refusal, Verdict};
+use call_records::{Call, Calls};
+use refusals::Refusal;
 use state::{Quoted, State};
-
-// After a call: the state, and the place after its line.
-#[derive(Clone, Copy)]
-pub struct Turn {
-    pub state: State,
-    pub at: usize,
-}
+use text::Page;
 
 // The line of a refusal.
-fn put_refusal(out: &mut [u8], at: usize, place: u32, letter: u8, refusal: Refusal) -> usize
-    requires { at + length (line place letter (rules.refusal (refusal_number refusal) (refusal_count refusal))) ≤ length out.old }
-    ensures { Puts at (line place letter (rules.refusal (refusal_number refusal) (refusal_count refusal))) out.old out.new result }
+fn put_refusal(page: &mut Page<'_>, place: u32, letter: u8, refusal: Refusal)
+    requires { HasRoom (line place letter (rules.refusal (refusal_number refusal) (refusal_count refusal))) page.old }
+    ensures { Adds (line place letter (rules.refusal (refusal_number refusal) (refusal_count refusal))) page.old page.new }
 {
-    let number = refusals::number(refusal);
+    let number = u8::from(refusal);
     let count = refusals::count(refusal);
-    text::put_refused(out, at, place, letter, number, count)
+    page.put_refused(place, letter, number, count);
 }
 
 // The line of a set-up or a quote over as many links.
 fn put_answer(
-    out: &mut [u8],
-    at: usize,
+    page: &mut Page<'_>,
     place: u32,
     letter: u8,
-    answer: Quoted,
+    answer: Result<Quoted, Refusal>,
     hops: usize,
-) -> usize
-    requires { InPlaces answer.verdict hops × (at + length (line place letter (quoted_in hops answer)) ≤ length out.old) }
-    ensures { Puts at (line place letter (quoted_in hops answer)) out.old out.new result }
+)
+    requires { InPlaces answer hops × HasRoom (line place letter (quoted_in hops answer)) page.old }
+    ensures { Adds (line place letter (quoted_in hops answer)) page.old page.new }
 {
-    let verdict = answer.verdict;
-    let held = answer.held;
-    match verdict {
-        Verdict::Passed => text::put_scheduled(out, at, place, letter, answer.count, held, hops),
-        Verdict::Refused(refusal) => put_refusal(out, at, place, letter, refusal),
+    match answer {
+        Ok(quoted) => page.put_scheduled(place, letter, quoted.count, quoted.held, hops),
+        Err(refusal) => put_refusal(page, place, letter, refusal),
     }
 }
 
 // The line of a release.
-fn put_verdict(out: &mut [u8], at: usize, place: u32, verdict: Verdict) -> usize
-    requires { at + length (line place letter_r (released_in verdict)) ≤ length out.old }
-    ensures { Puts at (line place letter_r (released_in verdict)) out.old out.new result }
+fn put_release(page: &mut Page<'_>, place: u32, answer: Result<(), Refusal>)
+    requires { HasRoom (line place letter_r (released_in answer)) page.old }
+    ensures { Adds (line place letter_r (released_in answer)) page.old page.new }
 {
-    match verdict {
-        Verdict::Passed => text::put_freed(out, at, place, b'R'),
-        Verdict::Refused(refusal) => put_refusal(out, at, place, b'R', refusal),
+    match answer {
+        Ok(()) => page.put_freed(place, b'R'),
+        Err(refusal) => put_refusal(page, place, b'R', refusal),
     }
 }
 
-// A set-up and its line.
-fn set_up(st: State, number: u32, route: &[u8], place: u32, out: &mut [u8], at: usize) -> Turn
-    requires { (intact (view_of st) ≡ true) × (at + length (line_of place (view_of st) (given (SetUp number route.now))) ≤ length out.old) }
-    ensures { Turns st (given (SetUp number route.now)) place at out.old out.new result }
+// A call and its line.
+fn serve(page: &mut Page<'_>, place: u32, st: State, call: Call<'_>) -> State
+    requires { (intact (view_of st) ≡ true) × HasRoom (line_of place (view_of st) (given (call_of call))) page.old }
+    ensures { Turns st (given (call_of call.entry)) place page.old page.new result }
 {
-    let served = state::set_up(st, number, route);
-    let answer = served.answer;
-    let next = put_answer(out, at, place, b'S', answer, route.len());
-    let after = served.state;
-    Turn {
-        state: after,
-        at: next,
+    match call {
+        Call::SetUp(number, route) => {
+            let served = state::set_up(st, number, route);
+            put_answer(page, place, b'S', served.answer, route.len());
+            served.state
+        }
+        Call::Quote(route) => {
+            let answer = state::quote(st, route);
+            put_answer(page, place, b'Q', answer, route.len());
+            st
+        }
+        Call::Release(number) => {
+            let served = state::release(st, number);
+            put_release(page, place, served.answer);
+            served.state
+        }
     }
 }
 
-// A quote and its line.
-fn quote(st: State, route: &[u8], place: u32, out: &mut [u8], at: usize) -> Turn
-    requires { (intact (view_of st) ≡ true) × (at + length (line_of place (view_of st) (given (Quote route.now))) ≤ length out.old) }
-    ensures { Turns st (given (Quote route.now)) place at out.old out.new result }
-{
-    let answer = state::quote(st, route);
-    let next = put_answer(out, at, place, b'Q', answer, route.len());
-    Turn {
-        state: st,
-        at: next,
-    }
-}
-
-// A release and its line.
-fn release(st: State, number: u32, place: u32, out: &mut [u8], at: usize) -> Turn
-    requires { (intact (view_of st) ≡ true) × (at + length (line_of place (view_of st) (given (Release number))) ≤ length out.old) }
-    ensures { Turns st (given (Release number)) place at out.old out.new result }
-{
-    let released = state::release(st, number);
-    let verdict = released.verdict;
-    let next = put_verdict(out, at, place, verdict);
-    let after = released.state;
-    Turn {
-        state: after,
-        at: next,
-    }
-}
-
-// The line of a record that can't be read: refusal 11.
-fn unreadable(st: State, place: u32, out: &mut [u8], at: usize) -> Turn
-    requires { (intact (view_of st) ≡ true) × (at + length (line_of place (view_of st) (refused 11)) ≤ length out.old) }
-    ensures { Turns st (refused 11) place at out.old out.new result }
-{
-    let next = put_refusal(out, at, place, b'?', Refusal::UnreadableCall);
-    Turn {
-        state: st,
-        at: next,
-    }
-}
-
-// The call of a record at the start of `rest`, and its line.
-fn serve(st: State, call: Record, rest: &[u8], place: u32, out: &mut [u8], at: usize) -> Turn
-    requires { (intact (view_of st) ≡ true) × InBytes call (length rest.now) × (at + length (line_of place (view_of st) (call_in call rest.now)) ≤ length out.old) }
-    ensures { Turns st (call_in call rest.now) place at out.old out.new result }
-{
-    let route = call_records::route(rest, call);
-    let kind = call.kind;
-    match kind {
-        Kind::SetUp => set_up(st, call.number, route, place, out, at),
-        Kind::Quote => quote(st, route, place, out, at),
-        Kind::Release => release(st, call.number, place, out, at),
-        Kind::Unreadable => unreadable(st, place, out, at),
-    }
-}
-
-// The calls on a state, a line for each, and the last line.
-fn run(first: State, calls: &[u8], out: &mut [u8]) -> usize
-    requires { (intact (view_of first) ≡ true) × (length calls.now ≤ 65536) × (length (lines_of 1 (view_of first) (calls_in calls.now)) ≤ length out.old) }
-    ensures { Puts 0 (lines_of 1 (view_of first) (calls_in calls.now)) out.old out.new result }
+// The calls on a state, a line for each, and the last line. A record that can't be read makes no call.
+fn run(page: &mut Page<'_>, first: State, calls: &[u8])
+    requires { (intact (view_of first) ≡ true) × (length calls.now ≤ 65536) × HasRoom (lines_of 1 (view_of first) (calls_in calls.now)) page.old }
+    ensures { Adds (lines_of 1 (view_of first) (calls_in calls.now)) page.old page.new }
 {
     let mut st = first;
-    let mut from = 0;
-    let mut at = 0;
-    let mut place: u32 = 1;
-    while from < calls.len() {
-        let call = call_records::read_record(&calls[from..]);
-        let turn = serve(st, call, &calls[from..], place, out, at);
-        st = turn.state;
-        at = turn.at;
-        from += call.end;
-        place += 1;
+    for (i, call) in Calls(calls).enumerate() {
+        let place = i as u32 + 1;
+        match call {
+            Ok(call) => st = serve(page, place, st, call),
+            Err(refusal) => page.put_refused(place, b'?', u8::from(refusal), 0),
+        }
     }
-    let live = st.table.live;
-    text::put_live(out, at, live as u32)
+    page.put_live(st.table.live as u32);
 }
 
 // As many bytes serve for every text on so many call bytes.
@@ -169,30 +106,38 @@ fn text_bound(n: usize) -> usize
     22 + 11 * call_records::counted(n)
 }
 
-// The text, at the start of a buffer that has room for it.
+// The text on a page that has room for it.
+fn put_text(page: &mut Page<'_>, file: &[u8], calls: &[u8])
+    requires { HasRoom (transcript file.now calls.now) page.old }
+    ensures { Adds (transcript file.now calls.now) page.old page.new }
+{
+    match network_file::read_network(file) {
+        Ok(network) => {
+            let first = state::fresh_state(network);
+            let n = call_records::counted(calls.len());
+            run(page, first, &calls[..n])
+        }
+        Err(refusal) => page.put_network(u8::from(refusal)),
+    }
+}
+
+// The text, at the start of a buffer that has room for it, and its length.
 fn write_text(file: &[u8], calls: &[u8], out: &mut [u8]) -> usize
     requires { length (transcript file.now calls.now) ≤ length out.old }
-    ensures { Puts 0 (transcript file.now calls.now) out.old out.new result }
+    ensures { Holds (transcript file.now calls.now) out.old out.new result }
 {
-    let loaded = network_file::read_network(file);
-    let verdict = loaded.verdict;
-    match verdict {
-        Verdict::Refused(refusal) => text::put_network(out, 0, refusals::number(refusal)),
-        Verdict::Passed => {
-            let network = loaded.network;
-            let first = state::fresh_state(network);
-            run(first, &calls[..call_records::counted(calls.len())], out)
-        }
-    }
+    let mut page = Page::new(out);
+    put_text(&mut page, file, calls);
+    page.len()
 }
 
 // The run of the program frames: the text at the start of a buffer, and its length. A buffer below 22 bytes and 11 for each call byte that counts, which serve
 // for every text (`text_bound_lem`), is refused with 20 before any call is made, and left as it is.
-pub fn report(file: &[u8], calls: &[u8], out: &mut [u8]) -> Written
+pub fn report(file: &[u8], calls: &[u8], out: &mut [u8]) -> Result<usize, Refusal>
     ensures { Reports file.now calls.now out.old out.new result }
 {
     if out.len() < text_bound(calls.len()) {
-        return Written::Refused(Refusal::ShortBuffer);
+        return Err(Refusal::ShortBuffer);
     }
-    Written::Length(write_text(file, calls, out))
+    Ok(write_text(file, calls, out))
 }
