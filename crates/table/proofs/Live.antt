@@ -1,5 +1,5 @@
 -- The sessions in the first places of a table. Assumes nothing.
-use mathlib.Core.Path.{◌≡◌, refl, sym, ap, ◌∙◌}
+use mathlib.Core.Path.{◌≡◌, sym, ap, ◌∙◌}
 use mathlib.Core.List.{List, [], ◌∷◌, ◌++◌, map, map-append}
 use Prim.Native.Nat.{ℕ, ◌+◌, ◌<◌, ◌≤◌}
 use native.Mathlib.Omega.{arith}
@@ -21,11 +21,6 @@ sessions xs = map session_of xs
 -- one place more
 pub one_more : (xs : List Place) (i : ℕ) → i < length xs → sessions (take (i + 1) xs) ≡ sessions (take i xs) ++ (session_of (get_or xs i no_place) ∷ [])
 one_more xs i h = map_more session_of xs i no_place h
-
--- no place
-pub in_none : (places : List Place) → in_places 0 places ≡ []
-unfolding firsts
-in_none places = refl
 
 module _ (n : ℕ) (places : List Place) where
   pub in_length : length (in_places n places) ≡ n
