@@ -4,8 +4,11 @@
 ghost use Rattle.std.specs.Prelude.{◌≡◌};
 ghost use Rattle.refusals.specs.Refusals.{refusal_number, refusal_count};
 
+use std::error::Error;
+use std::fmt;
+
 // A refusal ("Refusal list"): a variant for each number, from 0 on.
-#[derive(Clone, Copy, PartialEq, Eq)]
+#[derive(Clone, Copy, Debug, PartialEq, Eq)]
 pub enum Refusal {
     // 0. The stored state handed to a call is broken.
     BrokenState,
@@ -84,6 +87,19 @@ impl From<Refusal> for u8 {
         }
     }
 }
+
+// A refusal as a line shows it: its number, and of 18 the count ("A refusal returns its number, 18 also the count").
+impl fmt::Display for Refusal {
+    fn fmt<W: fmt::Write>(&self, f: &mut fmt::Formatter<W>) -> fmt::Result {
+        write!(f, "{}", u8::from(*self))?;
+        if let Refusal::NoSchedule(count) = self {
+            write!(f, " {count}")?;
+        }
+        Ok(())
+    }
+}
+
+impl Error for Refusal {}
 
 // A refusal's count, which only 18 has.
 pub fn count(refusal: Refusal) -> u32
