@@ -3,7 +3,7 @@
 // place. A field's first letter says which it is: C a cycle, c closed frames, w a hop's colour.
 ghost use Rattle.std.specs.Prelude.{◌<◌, ◌≤◌};
 
-use super::{calls, lines, same, show};
+use super::{calls, lines, show};
 use forwarding::Held;
 use network::Network;
 use state::State;
@@ -94,7 +94,7 @@ fn with_change(st: State, line: &[u8], k: usize) -> State
 pub(super) fn put(rt: &HostRuntime, st: State, line: &[u8]) -> io::Result<State> {
     let next = with_change(st, line, 1);
     print!(rt; " live {}", next.table.live)?;
-    show::kept(rt, same::state(st, next))?;
+    show::kept(rt, st == next)?;
     Ok(next)
 }
 
@@ -109,6 +109,6 @@ pub(super) fn case(rt: &HostRuntime, st: State, line: &[u8]) -> io::Result<State
     let fourth = calls::number_call(rt, third, b'L', 5)?;
     let fifth = calls::number_call(rt, fourth, b'F', 0)?;
     let sixth = calls::number_of_ways(rt, fifth, &route)?;
-    show::kept(rt, same::state(built, sixth) && !same::state(built, st))?;
+    show::kept(rt, built == sixth && built != st)?;
     Ok(st)
 }

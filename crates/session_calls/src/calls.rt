@@ -1,7 +1,7 @@
 // The calls that the lines of the file stdin tell: a line is shown, and after it what its call answers.
 ghost use Rattle.std.specs.Prelude.{◌<◌, ◌≤◌};
 
-use super::{broken, lines, same, show};
+use super::{broken, lines, show};
 use network::{Link, Network};
 use state::{Served, State};
 use std::io;
@@ -48,11 +48,20 @@ fn fresh(rt: &HostRuntime, line: &[u8], many: usize) -> io::Result<State>
     Ok(begun.state)
 }
 
+// Whether a call left what it must leave, places that are not in use too: the whole state where it was refused, the network where it was accepted.
+fn left(accepted: bool, one: State, other: State) -> bool {
+    if accepted {
+        one.network == other.network
+    } else {
+        one == other
+    }
+}
+
 // A set-up.
 pub(super) fn set_up(rt: &HostRuntime, st: State, number: u32, route: &[u8]) -> io::Result<State> {
     let served = sessions::set_up(st, number, route);
     show::answer(rt, served.answer, route.len())?;
-    show::after(rt, same::after(served.answer.is_ok(), st, served.state))?;
+    show::after(rt, left(served.answer.is_ok(), st, served.state))?;
     Ok(served.state)
 }
 
@@ -60,7 +69,7 @@ pub(super) fn set_up(rt: &HostRuntime, st: State, number: u32, route: &[u8]) -> 
 pub(super) fn quote(rt: &HostRuntime, st: State, route: &[u8]) -> io::Result<State> {
     let served = sessions::quote(st, route);
     show::answer(rt, served.answer, route.len())?;
-    show::after(rt, same::state(st, served.state))?;
+    show::after(rt, served.state == st)?;
     Ok(served.state)
 }
 
@@ -68,7 +77,7 @@ pub(super) fn quote(rt: &HostRuntime, st: State, route: &[u8]) -> io::Result<Sta
 pub(super) fn number_of_ways(rt: &HostRuntime, st: State, route: &[u8]) -> io::Result<State> {
     let served = sessions::number_of_ways(st, route);
     show::counted(rt, served.answer)?;
-    show::after(rt, same::state(st, served.state))?;
+    show::after(rt, served.state == st)?;
     Ok(served.state)
 }
 
@@ -94,19 +103,19 @@ pub(super) fn number_call(rt: &HostRuntime, st: State, letter: u8, x: usize) -> 
         b'R' => {
             let served = sessions::release(st, lines::session_number(x));
             show::passed(rt, served.answer)?;
-            show::after(rt, same::after(served.answer.is_ok(), st, served.state))?;
+            show::after(rt, left(served.answer.is_ok(), st, served.state))?;
             Ok(served.state)
         }
         b'L' | b'E' => {
             let served = sessions::lookup(st, lines::session_number(x));
             show::session(rt, served.answer, letter)?;
-            show::after(rt, same::state(st, served.state))?;
+            show::after(rt, served.state == st)?;
             Ok(served.state)
         }
         b'F' => {
             let served = sessions::free_frames(st, lines::byte(x));
             show::counted(rt, served.answer.map(u64::from))?;
-            show::after(rt, same::state(st, served.state))?;
+            show::after(rt, served.state == st)?;
             Ok(served.state)
         }
         _ => Ok(st),
@@ -131,7 +140,7 @@ fn many<F: Fn(State, u32) -> Served<()>>(
         let served = call(next, number);
         let passed = served.answer.is_ok();
         accepted += u64::from(passed);
-        same &= same::after(passed, next, served.state);
+        same &= left(passed, next, served.state);
         next = served.state;
     }
     print!(rt; " ok {accepted}")?;

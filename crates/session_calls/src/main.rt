@@ -6,7 +6,6 @@
 mod broken;
 mod calls;
 mod lines;
-mod same;
 mod show;
 
 ghost use Rattle.std.specs.Prelude.{◌≡◌, length};
