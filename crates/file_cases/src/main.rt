@@ -11,11 +11,11 @@ mod reading;
 mod values;
 
 use std::io;
-use streams::show;
+use std::io::Write;
 
 // A case: its name, and what becomes of its numbers.
 fn case(rt: &HostRuntime, name: &[u8], numbers: &[u8]) -> io::Result<()> {
-    show::text(rt, name)?;
+    io::writer(rt).write_all(name)?;
     match name.first() {
         Some(b'r') => reading::read(rt, numbers)?,
         Some(b'v') => values::value(rt, numbers)?,

@@ -2,7 +2,6 @@
 use super::{image, lines};
 use network::{Link, Network};
 use std::io;
-use streams::show;
 
 // K, Z, closed frames and Y of each link, with a stroke between two.
 fn show_links(rt: &HostRuntime, links: [Link; 32], count: usize) -> io::Result<()> {
@@ -35,6 +34,6 @@ pub(super) fn read(rt: &HostRuntime, text: &[u8]) -> io::Result<()> {
     let file = &bytes[..n];
     match network_file::read_network(file) {
         Ok(network) => show_network(rt, network, file),
-        Err(refusal) => show::no(rt, refusal),
+        Err(refusal) => print!(rt; " no {refusal}"),
     }
 }

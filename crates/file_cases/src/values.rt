@@ -5,7 +5,6 @@ use super::{image, lines};
 use network::{Link, Network};
 use refusals::Refusal;
 use std::io;
-use streams::show;
 
 // The first bytes of an image that are shown.
 const SHOWN: usize = 16;
@@ -52,7 +51,7 @@ fn show_written(
             length
         }
         Err(refusal) => {
-            show::no(rt, refusal)?;
+            print!(rt; " no {refusal}")?;
             print!(rt; ", buffer ")?;
             0
         }
@@ -67,7 +66,7 @@ fn check_and_write(rt: &HostRuntime, network: Network, room: usize) -> io::Resul
     print!(rt; " check")?;
     match network::check_network(network) {
         Ok(()) => print!(rt; " passed")?,
-        Err(refusal) => show::no(rt, refusal)?,
+        Err(refusal) => print!(rt; " no {refusal}")?,
     }
     print!(rt; ", write")?;
     let mut buffer = [image::FILL; image::ROOM];

@@ -11,7 +11,7 @@ use network::{Link, Network};
 use refusals::Refusal;
 use state::Quoted;
 use std::io;
-use streams::show;
+use std::io::Write;
 
 // The free frames of a link as a route says them, as a word: those that the braces after its letter name, and all where it has none. `bit` is the word
 // of the frame whose digits, from 48 on, are read.
@@ -63,6 +63,14 @@ fn network(text: &[u8]) -> Network {
     }
 }
 
+// Frames or cycles, one for each hop, a space before each.
+fn show_places(rt: &HostRuntime, places: &[u8]) -> io::Result<()> {
+    for place in places {
+        print!(rt; " {place}")?;
+    }
+    Ok(())
+}
+
 // The answer to a quote over a route of n hops.
 fn show_answer(rt: &HostRuntime, answer: Result<Quoted, Refusal>, n: usize) -> io::Result<()>
     requires { n ≤ 8 }
@@ -73,11 +81,11 @@ fn show_answer(rt: &HostRuntime, answer: Result<Quoted, Refusal>, n: usize) -> i
             let frames = held.frames;
             let cycles = held.cycles;
             print!(rt; " ok {} {}", held.delay.0, quoted.count)?;
-            show::numbers(rt, &frames[..n])?;
+            show_places(rt, &frames[..n])?;
             print!(rt; " /")?;
-            show::numbers(rt, &cycles[..n])
+            show_places(rt, &cycles[..n])
         }
-        Err(refusal) => show::no(rt, refusal),
+        Err(refusal) => print!(rt; " no {refusal}"),
     }
 }
 
@@ -86,7 +94,7 @@ fn show_ways(rt: &HostRuntime, answer: Result<u64, Refusal>) -> io::Result<()> {
     print!(rt; " ways")?;
     match answer {
         Ok(ways) => print!(rt; " {ways}"),
-        Err(refusal) => show::no(rt, refusal),
+        Err(refusal) => print!(rt; " no {refusal}"),
     }
 }
 
@@ -114,7 +122,7 @@ fn main(rt: HostRuntime) -> io::Result<()> {
     let n = streams::read_full(&mut rt.stdin(), &mut buffer);
     for line in buffer[..n].split(|b| *b == b'\n') {
         if let Some((name, route)) = streams::case(line) {
-            show::text(&rt, name)?;
+            io::writer(&rt).write_all(name)?;
             quote(&rt, route)?;
             println!(rt)?;
         }

@@ -4,13 +4,13 @@ use refusals::Refusal;
 use sessions::Shown;
 use state::Quoted;
 use std::io;
-use streams::show;
+use std::io::Write;
 
 // Shows a line up to its comment or its colon, and gives its words: those from the colon on, if it has one.
 pub(super) fn said<'a>(rt: &HostRuntime, line: &'a [u8]) -> io::Result<&'a [u8]> {
     let end = streams::find(line, 0, line.len(), b';');
     let colon = streams::find(line, 0, end, b':');
-    show::text(rt, &line[..colon])?;
+    io::writer(rt).write_all(&line[..colon])?;
     if colon < end {
         print!(rt; ":")?;
         return Ok(&line[colon..end]);
@@ -30,7 +30,7 @@ pub(super) fn end(rt: &HostRuntime, line: &[u8]) -> io::Result<()> {
 pub(super) fn passed(rt: &HostRuntime, answer: Result<(), Refusal>) -> io::Result<()> {
     match answer {
         Ok(()) => print!(rt; " ok"),
-        Err(refusal) => show::no(rt, refusal),
+        Err(refusal) => print!(rt; " no {refusal}"),
     }
 }
 
@@ -38,7 +38,7 @@ pub(super) fn passed(rt: &HostRuntime, answer: Result<(), Refusal>) -> io::Resul
 pub(super) fn counted(rt: &HostRuntime, answer: Result<u64, Refusal>) -> io::Result<()> {
     match answer {
         Ok(count) => print!(rt; " ok {count}"),
-        Err(refusal) => show::no(rt, refusal),
+        Err(refusal) => print!(rt; " no {refusal}"),
     }
 }
 
@@ -71,7 +71,7 @@ pub(super) fn answer(
             print!(rt; " ok {} {}", quoted.held.delay.0, quoted.count)?;
             hops(rt, quoted.held, n)
         }
-        Err(refusal) => show::no(rt, refusal),
+        Err(refusal) => print!(rt; " no {refusal}"),
     }
 }
 
@@ -90,7 +90,7 @@ pub(super) fn session(
             hops(rt, shown.held, n)?;
             print!(rt; " / {}", shown.held.delay.0)
         }
-        Err(refusal) => show::no(rt, refusal),
+        Err(refusal) => print!(rt; " no {refusal}"),
     }
 }
 

@@ -3,9 +3,8 @@
 
 ghost use Rattle.std.specs.Prelude.{◌≡◌, ◌≢◌, ℕ, ◌<◌, ◌≤◌, length, take, slice_index};
 ghost use Rattle.streams.specs.Counts.{IsPrefixLen};
+ghost use Rattle.streams.specs.Cases.{IsCase};
 ghost use Rattle.std.specs.Io.KnownBytes.{Consumes};
-
-pub mod show;
 
 use std::io::Read;
 
@@ -50,7 +49,9 @@ pub fn find(text: &[u8], from: usize, to: usize, byte: u8) -> usize
 
 // A line of a test program's cases: its name up to the colon, and what stands from there to the
 // comment. Where no colon is before the comment, the line is no case.
-pub fn case(line: &[u8]) -> Option<(&[u8], &[u8])> {
+pub fn case(line: &[u8]) -> Option<(&[u8], &[u8])>
+    ensures { IsCase line.now result }
+{
     let end = find(line, 0, line.len(), b';');
     let at = find(line, 0, end, b':');
     if at == end {
