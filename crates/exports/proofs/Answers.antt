@@ -2,19 +2,17 @@
 use mathlib.Core.Path.{◌≡◌, refl, sym, ap, subst, ◌∙◌}
 use mathlib.Core.Bool.{true}
 use mathlib.Core.List.{List, [], ◌∷◌}
-use Prim.Native.Nat.{ℕ, ◌+◌}
-use lib.ListN.{length}
+use Prim.Native.Nat.{ℕ}
+use Rattle.std.specs.Prelude.{Result, Ok, Err}
 use Rattle.refusals.specs.declared.Refusal.{Refusal}
-use Rattle.refusals.specs.declared.Verdict.TheVariants.{Passed, Refused}
-use Rattle.refusals.specs.Refusals.{Outcome, given, refused, on_given, given_or, refusal_number}
+use Rattle.refusals.specs.Refusals.{Outcome, given, refused, on_given, given_or, refusal_number, answered}
 use Rattle.numbers.specs.Numbers.{IsBytes}
 use Rattle.network.specs.Network.{Topology, topology_of}
-use Rattle.network_file.specs.declared.Loaded.{Loaded}
-use Rattle.network_file.specs.declared.Written.{Written}
+use Rattle.network.specs.declared.Network.{Network}
 use Rattle.network_file.specs.Reading.{read_network, Reads}
 use Rattle.network_file.specs.Lent.{length_read, Writes}
 use Rattle.network_file.specs.Writing.{write_network}
-use Rattle.network_file.proofs.RoundTrip.{refused_says, passed_says, read_passes, read_stands}
+use Rattle.network_file.proofs.RoundTrip.{Says, refused_says, passed_says, read_passes, read_stands}
 use Rattle.ledger.specs.Sessions.{View}
 use Rattle.ledger.specs.Sound.{intact}
 use Rattle.ledger.specs.Calls.{Call}
@@ -25,35 +23,31 @@ use Rattle.call_records.specs.Records.{calls_in, counted}
 use Rattle.call_records.specs.Served.{view_after, view_after_all}
 use Rattle.report.specs.Transcribed.{Transcribed}
 use Rattle.report.proofs.Demands.{transcript_demand3}
-use Rattle.exports.specs.Exported.{as_number, Exports, state_after, AfterIntact, AfterDemand3, written_again}
+use Rattle.exports.specs.Exported.{state_after, AfterIntact, AfterDemand3, written_again}
 
--- what a writer wrote, and what was refused before anything was written
-pub written_number : (o : Outcome (List ℕ)) (before after : List ℕ) (r : Written) → Writes o before after r → (k : ℕ) → k ≡ as_number (length_read r) → Exports o before after k
-written_number o before after r w k e = record { answer = e ∙ ap as_number w.answer; buffer = w.buffer }
-
-pub refused_number : (o : Outcome (List ℕ)) (before : List ℕ) (n : ℕ) → o ≡ refused n → (k : ℕ) → k ≡ 1000000 + n → Exports o before before k
-refused_number o before n e k q = rw e record { answer = q; buffer = refl }
+-- what is refused before anything is written
+pub nothing_written : (o : Outcome (List ℕ)) (before : List ℕ) (n : ℕ) → o ≡ refused n → (r : Result ℕ Refusal) → length_read r ≡ refused n → Writes o before before r
+nothing_written o before n e r q = rw e record { answer = q; buffer = refl }
 
 -- ---- what a file says
-module _ (file : List ℕ) (l : Loaded) (reads : Reads (read_network file) l) where
-  pub file_refused : {A : Type 0} (r : Refusal) → l.verdict ≡ Refused r → (f : Topology → Outcome A) → on_given (read_network file) f ≡ refused (refusal_number r)
+module _ (file : List ℕ) (l : Result Network Refusal) (reads : Reads (read_network file) l) where
+  pub file_refused : {A : Type 0} (r : Refusal) → l ≡ Err r → (f : Topology → Outcome A) → on_given (read_network file) f ≡ refused (refusal_number r)
   file_refused r e f = ap (λ (o : Outcome Topology). on_given o f) (refused_says file l reads r e)
 
-  pub file_passed : {A : Type 0} → IsBytes file → l.verdict ≡ Passed → (f : Topology → Outcome A) → on_given (read_network file) f ≡ f (topology_of l.network)
-  file_passed b e f =
-      let t = passed_says file l reads e in
-      ap (λ (o : Outcome Topology). on_given o f) t.1 ∙ ap f (sym (read_stands file t.0 l b t.1 reads))
+  pub file_passed : {A : Type 0} → IsBytes file → (n : Network) → l ≡ Ok n → (f : Topology → Outcome A) → on_given (read_network file) f ≡ f (topology_of n)
+  file_passed b n e f =
+      let t : Says file n = passed_says file l reads n e in
+      let s : answered topology_of l ≡ given t.network = read_stands file t.network l b t.is reads in
+      ap (λ (o : Outcome Topology). on_given o f) (t.is ∙ sym s ∙ ap (answered topology_of) e)
 
   -- written again
-  pub image_refused : (r : Refusal) → l.verdict ≡ Refused r → (before : List ℕ) (k : ℕ) → k ≡ 1000000 + refusal_number r → Exports (written_again file (length before)) before before k
+  pub again_refused : (r : Refusal) → l ≡ Err r → (room : ℕ) → written_again file room ≡ refused (refusal_number r)
   unfolding written_again
-  image_refused r e before k q = refused_number (written_again file (length before)) before (refusal_number r) (file_refused r e (λ t. write_network t (length before))) k q
+  again_refused r e room = file_refused r e (λ t. write_network t room)
 
-  pub image_written : IsBytes file → l.verdict ≡ Passed → (before after : List ℕ) (w : Written) → Writes (write_network (topology_of l.network) (length before)) before after w
-      → (k : ℕ) → k ≡ as_number (length_read w) → Exports (written_again file (length before)) before after k
+  pub again_is : IsBytes file → (n : Network) → l ≡ Ok n → (room : ℕ) → written_again file room ≡ write_network (topology_of n) room
   unfolding written_again
-  image_written b e before after w writes k q =
-      written_number (written_again file (length before)) before after w (rw (file_passed b e (λ t. write_network t (length before))) writes) k q
+  again_is b n e room = file_passed b n e (λ t. write_network t room)
 
 -- ---- the state after call records isn't broken
 after_intact_by : (v : View) (o : Outcome Call) → intact v ≡ true → intact (view_after v o) ≡ true

@@ -1,6 +1,5 @@
 pub mod Answers
-pub mod Shows
+pub mod After
 pub mod Sizes
 pub mod Numbers
 pub mod Values
-pub mod Ways

@@ -39,7 +39,7 @@ use Rattle.report.proofs.Numbers.{plain_other, file_number, network_number, look
 use Rattle.report.proofs.Whole.{bound_most}
 use Rattle.exports.specs.Exported.{state_after, session_numbers, lookup_after, free_after, ways_after, written_again, links_from, written_of, AnswersSized, ValuesSized}
 use Rattle.exports.proofs.Answers.{after_intact}
-use Rattle.exports.proofs.Shows.{few_hops}
+use Rattle.exports.proofs.After.{few_hops}
 
 -- what is written where there is room, and that there is none
 room_gives : (b : Bool) (x y : List ℕ) → refused_or (refuse_if b 20) (given x) ≡ given y → x ≡ y

@@ -12,15 +12,15 @@ use lib.Dec.{eqb}
 use borrow.Author.Tests.{lt-ltb}
 use Rattle.places.specs.Places.{firsts}
 use Rattle.places.proofs.Firsts.{firsts_filled, firsts_more, firsts_back}
-use Rattle.refusals.specs.Refusals.{refused}
+use Rattle.std.specs.Prelude.{Result, Err}
+use Rattle.refusals.specs.declared.Refusal.{Refusal}
+use Rattle.refusals.specs.declared.Refusal.TheVariants.{LinkCount}
 use Rattle.network.specs.declared.Link.{Link}
 use Rattle.network.specs.Network.{no_link, topology_of}
 use Rattle.network.specs.Checks.{bad_count, network_check}
-use Rattle.network_file.specs.declared.Written.{Written}
-use Rattle.network_file.specs.Lent.{length_read, Writes}
+use Rattle.network_file.specs.Lent.{Writes}
 use Rattle.network_file.specs.Writing.{write_network}
-use Rattle.exports.specs.Exported.{as_number, Exports, links_from, written_of}
-use Rattle.exports.proofs.Answers.{written_number}
+use Rattle.exports.specs.Exported.{links_from, written_of}
 
 pub count_from : (ks zs cs ys : List ℕ) → length (links_from ks zs cs ys) ≡ min (length ks) (min (length zs) (min (length cs) (length ys)))
 unfolding links_from
@@ -66,14 +66,13 @@ module _ (ks zs cs ys : List ℕ) (count : ℕ) (is : count ≡ min (length ks) 
     all_filled h = f.held ∙ ap (λ (l : List Link). firsts 32 l no_link) (take_all i (links_from ks zs cs ys) (omega (arith, many)))
 
   -- too many links are refused with 2, and others are written
-  pub too_many : 32 < count → (T room : ℕ) → written_of T ks zs cs ys room ≡ refused 2
+  pub too_many : 32 < count → (T : ℕ) (buffer : List ℕ) → Writes (written_of T ks zs cs ys (length buffer)) buffer buffer (Err LinkCount)
   unfolding written_of write_network network_check bad_count
-  too_many h T room = rw (many, lt-ltb 32 count h, or-true (eqb count 0))
+  too_many h T buffer = rw (many, lt-ltb 32 count h, or-true (eqb count 0)) record { answer = refl; buffer = refl }
 
-  pub values_number : count ≤ 32 → (T : ℕ) (links : List Link) → links ≡ firsts 32 (links_from ks zs cs ys) no_link → (before after : List ℕ) (w : Written)
-      → Writes (write_network (topology_of (record { ticks = T; count = count; links = links })) (length before)) before after w → (k : ℕ) → k ≡ as_number (length_read w)
-      → Exports (written_of T ks zs cs ys (length before)) before after k
+  pub values_written : count ≤ 32 → (T : ℕ) (links : List Link) → links ≡ firsts 32 (links_from ks zs cs ys) no_link → (before after : List ℕ) (q : Result ℕ Refusal)
+      → Writes (write_network (topology_of (record { ticks = T; count = count; links = links })) (length before)) before after q → Writes (written_of T ks zs cs ys (length before)) before after q
   unfolding written_of topology_of
-  values_number few T links e before after w writes k q =
+  values_written few T links e before after q w =
       let back : firsts count links no_link ≡ links_from ks zs cs ys = rw (e, ← many) (firsts_back 32 (links_from ks zs cs ys) no_link (omega (arith, many))) in
-      written_number (written_of T ks zs cs ys (length before)) before after w (rw back at writes) k q
+      rw back at w

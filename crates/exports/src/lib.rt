@@ -2,38 +2,30 @@
 // what is proved already. Each answers a length or a count, or 1,000,000 and the number of the refusal; a refused call leaves every lent buffer as it is.
 #![tactic(auto)]
 
-ghost use Rattle.std.specs.Prelude.{◌≡◌, ◌++◌, ◌+◌, ◌≤◌, min, length, drop};
+ghost use Rattle.std.specs.Prelude.{◌≡◌, [], ◌∷◌, ◌+◌, ◌≤◌, min, length};
 ghost use Rattle.places.specs.Places.{firsts};
 ghost use Rattle.places.specs.Put.{put_at};
-ghost use Rattle.refusals.specs.Refusals.{refusal_number};
+ghost use Rattle.refusals.specs.Refusals.{answered};
 ghost use Rattle.network.specs.Network.{no_link};
-ghost use Rattle.network_file.specs.Lent.{length_read};
+ghost use Rattle.state.specs.State.{view_of};
+ghost use Rattle.network_file.specs.Lent.{in_room, length_read, Writes};
 ghost use Rattle.report.specs.Transcript.{transcript};
 ghost use Rattle.report.specs.Reports.{text_bound, reported};
-ghost use Rattle.report.specs.Inner.{InPlaces};
-ghost use Rattle.exports.specs.Exported.{as_number, Exports, lookup_after, free_after, ways_after, written_again, links_from, written_of};
-ghost use Rattle.exports.specs.Inner.{place_numbers, shown_numbers, count_read, ways_read, ways_numbers};
+ghost use Rattle.exports.specs.Exported.{as_number, Exports, state_after, lookup_after, free_after, ways_after, written_again, links_from, written_of};
+ghost use Rattle.exports.specs.Inner.{place_numbers};
 
-use forwarding::Held;
 use network::{Link, Network};
-use network_file::Written;
-use refusals::{Refusal, Verdict};
-use sessions::{Counted, Numbered, Shown};
+use refusals::Refusal;
+use sessions::Shown;
+use state::State;
 
-// A refusal as one number.
-fn refused(refusal: Refusal) -> u64
-    ensures { result ≡ 1000000 + refusal_number refusal }
+// An answer as one number.
+fn as_number(answer: Result<usize, Refusal>) -> u64
+    ensures { result ≡ as_number (length_read answer) }
 {
-    1000000 + refusals::number(refusal) as u64
-}
-
-// An answer of a writer as one number.
-fn as_number(written: Written) -> u64
-    ensures { result ≡ as_number (length_read written) }
-{
-    match written {
-        Written::Length(n) => n as u64,
-        Written::Refused(refusal) => refused(refusal),
+    match answer {
+        Ok(n) => n as u64,
+        Err(refusal) => 1000000 + u64::from(u8::from(refusal)),
     }
 }
 
@@ -41,23 +33,22 @@ fn as_number(written: Written) -> u64
 pub fn frames_report(file: &[u8], calls: &[u8], out: &mut [u8]) -> u64
     ensures { Exports (reported file.now calls.now (length out.old)) out.old out.new result × (length (transcript file.now calls.now) ≤ text_bound (length calls.now)) }
 {
-    let written = report::report(file, calls, out);
-    as_number(written)
+    as_number(report::report(file, calls, out))
+}
+
+// The image of the network that a file says.
+fn image(file: &[u8], out: &mut [u8]) -> Result<usize, Refusal>
+    ensures { Writes (written_again file.now (length out.old)) out.old out.new result }
+{
+    let network = network_file::read_network(file)?;
+    network_file::write_network(network, out)
 }
 
 // A network file read, and the network written again: the image's length, or the refusal.
 pub fn frames_image(file: &[u8], out: &mut [u8]) -> u64
     ensures { Exports (written_again file.now (length out.old)) out.old out.new result }
 {
-    let loaded = network_file::read_network(file);
-    let verdict = loaded.verdict;
-    match verdict {
-        Verdict::Refused(refusal) => refused(refusal),
-        Verdict::Passed => {
-            let network = loaded.network;
-            as_number(network_file::write_network(network, out))
-        }
-    }
+    as_number(image(file, out))
 }
 
 // The first of eight places as numbers of 16 bits, from a place of a buffer on.
@@ -65,136 +56,92 @@ fn put_places(out: &mut [u16], at: usize, bytes: [u8; 8], hops: usize)
     requires { (hops ≤ 8) × (at + hops ≤ length out.old) }
     ensures { out.new ≡ put_at at (firsts hops bytes 0) out.old }
 {
-    let mut i: usize = 0;
-    while i < hops {
-        out[at + i] = places::short(bytes[i]);
-        i += 1;
+    for i in 0..hops {
+        out[at + i] = u16::from(bytes[i]);
     }
 }
 
-// What a lookup shows in its eight places, at the start of a buffer that has room for it.
-fn put_session(out: &mut [u16], hops: usize, route: [u8; 8], held: Held)
-    requires { (hops ≤ 8) × (length (place_numbers hops route held) ≤ length out.old) }
-    ensures { out.new ≡ place_numbers hops route held ++ drop (length (place_numbers hops route held)) out.old }
+// What a lookup shows, at the start of a buffer: how many numbers, or 20 where the buffer is shorter.
+fn put_session(out: &mut [u16], shown: Shown) -> Result<usize, Refusal>
+    requires { shown.hops ≤ 8 }
+    ensures { Writes (in_room (length (place_numbers shown)) (length out.old) (place_numbers shown)) out.old out.new result }
 {
-    let frames = held.frames;
-    let cycles = held.cycles;
+    let hops = shown.hops;
+    let held = shown.held;
+    let length = 2 + 3 * hops;
+    if out.len() < length {
+        return Err(Refusal::ShortBuffer);
+    }
     out[0] = hops as u16;
     out[1] = held.delay.0;
-    put_places(out, 2, route, hops);
-    put_places(out, 2 + hops, frames, hops);
-    put_places(out, 2 + 2 * hops, cycles, hops);
+    put_places(out, 2, shown.route, hops);
+    put_places(out, 2 + hops, held.frames, hops);
+    put_places(out, 2 + 2 * hops, held.cycles, hops);
+    Ok(length)
 }
 
-// What a lookup shows: how many numbers, or the refusal, 20 where the buffer is shorter.
-fn show(shown: Shown, out: &mut [u16]) -> u64
-    requires { InPlaces shown.verdict shown.hops }
-    ensures { Exports (shown_numbers shown.verdict shown.hops shown.route shown.held (length out.old)) out.old out.new result }
+// The state after call records, from the network that a file says.
+fn state_after(file: &[u8], calls: &[u8]) -> Result<State, Refusal>
+    ensures { answered view_of result ≡ state_after file.now calls.now }
 {
-    let verdict = shown.verdict;
-    match verdict {
-        Verdict::Refused(refusal) => refused(refusal),
-        Verdict::Passed => {
-            let hops = shown.hops;
-            let length = 2 + 3 * hops;
-            if out.len() < length {
-                return refused(Refusal::ShortBuffer);
-            }
-            let route = shown.route;
-            let held = shown.held;
-            put_session(out, hops, route, held);
-            length as u64
-        }
-    }
+    let network = network_file::read_network(file)?;
+    Ok(replay::state_after(network, calls))
+}
+
+// What a lookup shows on that state.
+fn lookup(file: &[u8], calls: &[u8], number: u32, out: &mut [u16]) -> Result<usize, Refusal>
+    ensures { Writes (lookup_after file.now calls.now number (length out.old)) out.old out.new result }
+{
+    let looked = sessions::lookup(state_after(file, calls)?, number);
+    put_session(out, looked.answer?)
 }
 
 // Lookup on the state after call records: how many hops the live session with the number has, its delay, and the link, the frame and the cycle of each hop.
 pub fn frames_lookup(file: &[u8], calls: &[u8], number: u32, out: &mut [u16]) -> u64
     ensures { Exports (lookup_after file.now calls.now number (length out.old)) out.old out.new result }
 {
-    let loaded = network_file::read_network(file);
-    let verdict = loaded.verdict;
-    match verdict {
-        Verdict::Refused(refusal) => refused(refusal),
-        Verdict::Passed => {
-            let network = loaded.network;
-            let looked = sessions::lookup(replay::state_after(network, calls), number);
-            let shown = looked.shown;
-            show(shown, out)
-        }
-    }
+    as_number(lookup(file, calls, number, out))
 }
 
-// A number of free frames as one number.
-fn count_number(counted: Counted) -> u64
-    ensures { result ≡ as_number (count_read counted) }
+// The number of free frames of a link on that state.
+fn free_frames(file: &[u8], calls: &[u8], link: u8) -> Result<usize, Refusal>
+    ensures { length_read result ≡ free_after file.now calls.now link }
 {
-    let verdict = counted.verdict;
-    match verdict {
-        Verdict::Refused(refusal) => refused(refusal),
-        Verdict::Passed => counted.count as u64,
-    }
+    let counted = sessions::free_frames(state_after(file, calls)?, link);
+    Ok(counted.answer? as usize)
 }
 
 // Free frames of a link on the state after call records.
 pub fn frames_free_frames(file: &[u8], calls: &[u8], link: u8) -> u64
     ensures { result ≡ as_number (free_after file.now calls.now link) }
 {
-    let loaded = network_file::read_network(file);
-    let verdict = loaded.verdict;
-    match verdict {
-        Verdict::Refused(refusal) => refused(refusal),
-        Verdict::Passed => {
-            let network = loaded.network;
-            let tallied = sessions::free_frames(replay::state_after(network, calls), link);
-            let counted = tallied.counted;
-            count_number(counted)
-        }
-    }
+    as_number(free_frames(file, calls, link))
 }
 
-// A number of ways, as the one number at the start of a buffer: that it is one, or the refusal, 20 where the buffer has no place.
-fn put_ways(numbered: Numbered, out: &mut [u64]) -> u64
-    ensures { Exports (ways_numbers (ways_read numbered) (length out.old)) out.old out.new result }
+// A number at the start of a buffer: how many it is, 1, or 20 where the buffer has no place.
+fn put_number(out: &mut [u64], number: u64) -> Result<usize, Refusal>
+    ensures { Writes (in_room 1 (length out.old) (number ∷ [])) out.old out.new result }
 {
-    let verdict = numbered.verdict;
-    match verdict {
-        Verdict::Refused(refusal) => refused(refusal),
-        Verdict::Passed => {
-            if out.len() < 1 {
-                return refused(Refusal::ShortBuffer);
-            }
-            out[0] = numbered.ways;
-            1
-        }
+    if out.len() < 1 {
+        return Err(Refusal::ShortBuffer);
     }
+    out[0] = number;
+    Ok(1)
+}
+
+// The number of ways through a route on that state.
+fn ways(file: &[u8], calls: &[u8], route: &[u8], out: &mut [u64]) -> Result<usize, Refusal>
+    ensures { Writes (ways_after file.now calls.now route.now (length out.old)) out.old out.new result }
+{
+    let numbered = sessions::number_of_ways(state_after(file, calls)?, route);
+    put_number(out, numbered.answer?)
 }
 
 // The number of ways through a route, given as its link numbers, on the state after call records. It is put into a buffer, since it can be larger than an answer that is a refusal.
 pub fn frames_ways(file: &[u8], calls: &[u8], route: &[u8], out: &mut [u64]) -> u64
     ensures { Exports (ways_after file.now calls.now route.now (length out.old)) out.old out.new result }
 {
-    let loaded = network_file::read_network(file);
-    let verdict = loaded.verdict;
-    match verdict {
-        Verdict::Refused(refusal) => refused(refusal),
-        Verdict::Passed => {
-            let network = loaded.network;
-            let surveyed = sessions::number_of_ways(replay::state_after(network, calls), route);
-            let numbered = surveyed.numbered;
-            put_ways(numbered, out)
-        }
-    }
-}
-
-// The smaller of two lengths.
-fn shorter(a: usize, b: usize) -> usize
-    ensures { result ≡ min a b }
-{
-    if a < b {
-        return a;
-    }
-    b
+    as_number(ways(file, calls, route, out))
 }
 
 // The links of a network given as values.
@@ -209,17 +156,41 @@ fn links_of(
     ensures { result ≡ firsts 32 (links_from frames.now range.now closed.now least.now) no_link }
 {
     let mut links = [network::no_link(); 32];
-    let mut i = 0;
-    while i < count {
+    for i in 0..count {
         links[i] = Link {
             frames: frames[i],
             range: range[i],
             least: least[i],
             closed: closed[i],
         };
-        i += 1;
     }
     links
+}
+
+// The file of a network given as values.
+fn write(
+    ticks: u16,
+    frames: &[u16],
+    range: &[u16],
+    closed: &[u64],
+    least: &[u16],
+    out: &mut [u8],
+) -> Result<usize, Refusal>
+    ensures { Writes (written_of ticks frames.now range.now closed.now least.now (length out.old)) out.old out.new result }
+{
+    let count = frames
+        .len()
+        .min(range.len().min(closed.len().min(least.len())));
+    if 32 < count {
+        return Err(Refusal::LinkCount);
+    }
+    let links = links_of(frames, range, closed, least, count);
+    let network = Network {
+        ticks,
+        count,
+        links,
+    };
+    network_file::write_network(network, out)
 }
 
 // The file of a network given as values: T, and for each link its K, its Z, the word of its closed frames and its Y. There are as many links as the shortest slice has numbers.
@@ -233,18 +204,5 @@ pub fn frames_write(
 ) -> u64
     ensures { Exports (written_of ticks frames.now range.now closed.now least.now (length out.old)) out.old out.new result }
 {
-    let count = shorter(
-        frames.len(),
-        shorter(range.len(), shorter(closed.len(), least.len())),
-    );
-    if 32 < count {
-        return refused(Refusal::LinkCount);
-    }
-    let links = links_of(frames, range, closed, least, count);
-    let network = Network {
-        ticks,
-        count,
-        links,
-    };
-    as_number(network_file::write_network(network, out))
+    as_number(write(ticks, frames, range, closed, least, out))
 }
