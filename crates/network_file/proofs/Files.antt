@@ -26,7 +26,7 @@ use Rattle.network.specs.Network.{no_link}
 use Rattle.network.proofs.Tests.{count_passed}
 use Rattle.records.specs.Reading.{Said, read_record}
 use Rattle.records.proofs.ReadWrite.{Whole, record_only}
-use Rattle.network_file.specs.Reading.{Linked, read_link, read_links, within, read_network, link_read, Reads}
+use Rattle.network_file.specs.Reading.{Linked, read_link, read_links, within, read_network, Reads}
 use Rattle.network_file.specs.Fields.{link_layout, link_of}
 use Rattle.network_file.proofs.Records.{link_layout_lem}
 
@@ -82,24 +82,22 @@ pub record Gone (T count : ℕ) (records : List ℕ) (links : List Link) (at i :
 
 module _ (T count : ℕ) (records : List ℕ) where
   module _ (links : List Link) (at i : ℕ) (g : Gone T count records links at i) where
-    module _ (h : i < count) (x : Result (Link × ℕ) Refusal) (ex : link_read x ≡ read_link T (take (length records - at) (drop at records))) where
+    module _ (h : i < count) where
       step : count - i ≡ suc (count - (i + 1))
       step = omega arith
 
-      here : read_link T (drop at records) ≡ link_read x
-      here = sym (ex ∙ ap (read_link T) (part_rest at records))
-
-      pub one_refused : (r : Refusal) → x ≡ Err r → Reads (within T (read_links T count records)) (Err r)
+      pub one_refused : (r : Refusal) → refused (refusal_number r) ≡ read_link T (take (length records - at) (drop at records)) → Reads (within T (read_links T count records)) (Err r)
       unfolding read_links
       one_refused r e =
-          let z : read_links T count records ≡ refused (refusal_number r) = g.same ∙ rw (step, here, e) in
+          let z : read_links T count records ≡ refused (refusal_number r) = g.same ∙ rw (step, ← part_rest at records, ← e) in
           rw z
 
-      module _ (l : Link) (u : ℕ) (e : x ≡ Ok (l, u)) (b : (j : ℕ) → get_or records j 0 < 256) where
+      module _ (l : Link) (u : ℕ) (e : given (record { link = l; used = u }) ≡ read_link T (take (length records - at) (drop at records))) (b : (j : ℕ) → get_or records j 0 < 256) where
+        here : read_link T (drop at records) ≡ given (record { link = l; used = u })
+        here = sym (rw part_rest at e)
+
         pub used_room : at + u ≤ length records
-        used_room =
-            let z : read_link T (drop at records) ≡ given (record { link = l; used = u }) = here ∙ ap link_read e in
-            omega (arith, g.place, link_room T (drop at records) (record { link = l; used = u }) (bytes_drop at records b) z, length-drop at records)
+        used_room = omega (arith, g.place, link_room T (drop at records) (record { link = l; used = u }) (bytes_drop at records b) here, length-drop at records)
 
         pub one_gone : count ≤ 32 → Gone T count records (set links i l) (at + u) (i + 1)
         unfolding read_links
@@ -109,7 +107,7 @@ module _ (T count : ℕ) (records : List ℕ) where
           done = g.done ++ (l ∷ []);
           many = length-append g.done (l ∷ []) ∙ ap (λ (m : ℕ). m + 1) g.many;
           held = rw g.held (firsts_more 32 i g.done l no_link g.many (omega arith));
-          same = g.same ∙ rw (step, here, e, drop-drop) (after_more g.done l (read_links T (count - (i + 1)) (drop (at + u) records)));
+          same = g.same ∙ rw (step, here, drop-drop) (after_more g.done l (read_links T (count - (i + 1)) (drop (at + u) records)));
         }
 
     module _ (h : count ≤ i) where

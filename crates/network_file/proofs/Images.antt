@@ -4,16 +4,15 @@ use mathlib.Core.List.{List, [], ◌∷◌, ◌++◌, append_assoc}
 use Prim.Native.Nat.{ℕ, ◌+◌, ◌<◌, ◌≤◌}
 use native.Mathlib.Omega.{arith}
 use lib.ListN.{drop_of_length-le, length, take, get_or, drop, set, length-append}
-use Rattle.std.specs.Prelude.{Result, Ok, Err, ⊤}
+use Rattle.std.specs.Prelude.{Result, Ok, Err}
 use Rattle.places.specs.Put.{put_at}
-use Rattle.places.specs.Places.{firsts}
 use Rattle.places.proofs.Pieces.{Pieces}
 use Rattle.places.proofs.Puts.{Grown, grow, put_length, put_set, put_zero}
 use Rattle.places.proofs.Firsts.{length_firsts, firsts_take}
 use Rattle.std.proofs.lemmas.List.{drop_more}
 use Rattle.refusals.specs.declared.Refusal.TheVariants.{ShortBuffer}
 use Rattle.refusals.specs.declared.Refusal.{Refusal}
-use Rattle.refusals.specs.Refusals.{given, refused, pass, refusal_number, ruling}
+use Rattle.refusals.specs.Refusals.{given, refused, pass}
 use Rattle.numbers.specs.Numbers.{bytes_of}
 use Rattle.numbers.proofs.Laws.{length_bytes}
 use Rattle.network.specs.declared.Link.{Link}
@@ -26,7 +25,6 @@ use Rattle.records.specs.declared.Field.{Field}
 use Rattle.records.specs.Writing.{record_of}
 use Rattle.network_file.specs.Lent.{length_read, Writes}
 use Rattle.network_file.specs.Writing.{link_bytes, links_bytes, image_of, write_network}
-use Rattle.network_file.specs.Inner.{Writable}
 use Rattle.network_file.specs.Fields.{link_layout, values_of}
 use Rattle.network_file.proofs.Lent.{short_written, long_written}
 
@@ -55,73 +53,60 @@ module _ (links : List Link) where
   links_pieces = record { more = more_bytes; end = end_bytes }
 
 -- ---- a network that passed its checks
-module _ (n : Network) (passed : network_check (topology_of n) ≡ given pass) where
+pub few : (n : Network) → network_check (topology_of n) ≡ given pass → n.count ≤ 32
+unfolding topology_of
+few n passed = rw (length_firsts n.count n.links no_link) at (count_passed (length (topology_of n).links) (network_good (topology_of n) passed).count).1
+
+-- its links, as a part of its places, and the length k of their records
+module _ (n : Network) (passed : network_check (topology_of n) ≡ given pass) (within : n.count ≤ length n.links) (k : ℕ) (ek : k ≡ length (links_bytes (take n.count n.links))) where
   abbrev records : List ℕ
-  records = links_bytes (firsts n.count n.links no_link)
+  records = links_bytes (take n.count n.links)
 
   abbrev image : List ℕ
   image = image_of (topology_of n)
-
-  pub few : n.count ≤ 32
-  unfolding topology_of
-  few = rw (length_firsts n.count n.links no_link) at (count_passed (length (topology_of n).links) (network_good (topology_of n) passed).count).1
-
-  pub taken : n.count ≤ length n.links → take n.count n.links ≡ firsts n.count n.links no_link
-  taken h = sym (firsts_take n.count n.links no_link h)
 
   abbrev head : List ℕ
   head = bytes_of 2 n.ticks
 
   image_is : image ≡ (head ++ (n.count ∷ [])) ++ records
   unfolding image_of topology_of
-  image_is = rw (length_firsts n.count n.links no_link) (sym (append_assoc head (n.count ∷ []) records))
+  image_is = rw (length_firsts n.count n.links no_link, firsts_take n.count n.links no_link within) (sym (append_assoc head (n.count ∷ []) records))
 
-  pub image_long : length image ≡ 3 + length records
+  image_long : length image ≡ 3 + length records
   image_long = ap length image_is ∙ rw (length-append, length-append, length_bytes)
 
-  module _ (buffer : List ℕ) (room : length image ≤ length buffer) (b1 : List ℕ) (e1 : b1 ≡ head ++ drop 2 buffer) where
+  size : 3 + k ≡ length image
+  size = ap (λ (m : ℕ). 3 + m) ek ∙ sym image_long
+
+  pub short : (buffer : List ℕ) → length buffer < 3 + k → Writes (write_network (topology_of n) (length buffer)) buffer buffer (Err ShortBuffer)
+  unfolding write_network
+  short buffer l = rw passed (short_written (length image) image buffer (omega (arith, size)) ShortBuffer refl)
+
+  -- the head, the number of links, the records
+  module _ (buffer : List ℕ) (room : 3 + k ≤ length buffer) (b1 : List ℕ) (e1 : b1 ≡ head ++ drop 2 buffer) where
     one : Grown 0 buffer head b1 2
     one =
         let n2 : length head ≡ 2 = length_bytes 2 n.ticks in
         let e : b1 ≡ put_at 0 head buffer = e1 ∙ rw put_zero (rw n2) in
-        record { next = omega arith; room = omega (arith, image_long); long = ap length e ∙ put_length 0 head buffer (omega (arith, image_long)); holds = e }
+        record { next = omega arith; room = omega arith; long = ap length e ∙ put_length 0 head buffer (omega arith); holds = e }
 
     pub two_room : 2 < length b1
-    two_room = omega (arith, one.long, image_long)
+    two_room = omega (arith, one.long)
 
     two : Grown 0 buffer (head ++ (n.count ∷ [])) (set b1 2 n.count) 3
-    two = grow 0 buffer head b1 2 one (n.count ∷ []) (set b1 2 n.count) 3 (omega (arith, image_long)) (put_set 2 n.count b1 two_room) refl
+    two = grow 0 buffer head b1 2 one (n.count ∷ []) (set b1 2 n.count) 3 (omega arith) (put_set 2 n.count b1 two_room) refl
 
     pub three_room : 3 + length records ≤ length (set b1 2 n.count)
-    three_room = omega (arith, two.long, image_long)
+    three_room = omega (arith, two.long)
 
-    module _ (b3 : List ℕ) (e3 : b3 ≡ put_at 3 records (set b1 2 n.count)) where
-      three : Grown 0 buffer ((head ++ (n.count ∷ [])) ++ records) b3 (length image)
-      three = grow 0 buffer (head ++ (n.count ∷ [])) (set b1 2 n.count) 3 two records b3 (length image) (omega (arith, image_long)) e3 image_long
-
-      pub image_put : b3 ≡ image ++ drop (length image) buffer
-      image_put = three.holds ∙ ap (λ (x : List ℕ). put_at 0 x buffer) (sym image_is) ∙ put_zero image buffer
-
-  -- the length of its image, from that of its records
-  module _ (buffer : List ℕ) (k : ℕ) (h : n.count ≤ length n.links) (ek : k ≡ length (links_bytes (take n.count n.links))) where
-    size : 3 + k ≡ length image
-    size = ap (λ (m : ℕ). 3 + m) (rw (taken h) at ek) ∙ sym image_long
-
-    pub short : length buffer < 3 + k → Writes (write_network (topology_of n) (length buffer)) buffer buffer (Err ShortBuffer)
+    pub image_written : (b3 : List ℕ) → b3 ≡ put_at 3 records (set b1 2 n.count) → Writes (write_network (topology_of n) (length buffer)) buffer b3 (Ok (3 + k))
     unfolding write_network
-    short l = rw passed (short_written (length image) image buffer (omega (arith, size)) ShortBuffer refl)
-
-    pub enough : 3 + k ≤ length buffer → Writable n (length buffer)
-    enough l = record { passed = passed; enough = omega (arith, size) }
-
-    pub image_written : 3 + k ≤ length buffer → (after : List ℕ) → after ≡ image ++ drop (length image) buffer → Writes (write_network (topology_of n) (length buffer)) buffer after (Ok (3 + k))
-    unfolding write_network
-    image_written l after ea = rw passed (long_written (length image) image buffer (omega (arith, size)) after (3 + k) size ea)
+    image_written b3 e3 =
+        let three : Grown 0 buffer ((head ++ (n.count ∷ [])) ++ records) b3 (length image) = grow 0 buffer (head ++ (n.count ∷ [])) (set b1 2 n.count) 3 two records b3 (length image) (omega (arith, ek)) e3 image_long in
+        let put : b3 ≡ image ++ drop (length image) buffer = three.holds ∙ ap (λ (x : List ℕ). put_at 0 x buffer) (sym image_is) ∙ put_zero image buffer in
+        rw passed (long_written (length image) image buffer (omega (arith, size)) b3 (3 + k) size put)
 
 -- ---- one that did not
-pub check_refused : (n : Network) (v : Result ⊤ Refusal) → ruling v ≡ network_check (topology_of n) → (r : Refusal) → v ≡ Err r → (buffer : List ℕ) (q : Result ℕ Refusal) → length_read q ≡ refused (refusal_number r) → Writes (write_network (topology_of n) (length buffer)) buffer buffer q
+pub check_refused : (n : Network) (m : ℕ) → refused m ≡ network_check (topology_of n) → (buffer : List ℕ) (q : Result ℕ Refusal) → length_read q ≡ refused m → Writes (write_network (topology_of n) (length buffer)) buffer buffer q
 unfolding write_network
-check_refused n v ev r e buffer q a = rw (← ev, e) record { answer = a; buffer = refl }
-
-pub check_passed : (n : Network) (v : Result ⊤ Refusal) → ruling v ≡ network_check (topology_of n) → (x : ⊤) → v ≡ Ok x → network_check (topology_of n) ≡ given pass
-check_passed n v ev x e = sym ev ∙ rw e
+check_refused n m e buffer q a = rw (← e) record { answer = a; buffer = refl }

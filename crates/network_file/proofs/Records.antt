@@ -6,9 +6,7 @@ use Prim.Native.Nat.{ℕ, zero, suc, ◌<◌, ◌≤◌}
 use native.Mathlib.Omega.{arith}
 use borrow.Author.Tests.{ne_eqb}
 use lib.ListN.{get_or}
-use Rattle.std.specs.Prelude.{Result, Ok, Err, ⊤}
-use Rattle.refusals.specs.Refusals.{given, refused, refused_or, refusal_number, ruling, answered}
-use Rattle.refusals.specs.declared.Refusal.{Refusal}
+use Rattle.refusals.specs.Refusals.{given, refused, pass, refused_or}
 use Rattle.words.proofs.Words.{word_below}
 use Rattle.words.proofs.Bits.{bit_high}
 use Rattle.network.specs.declared.Link.{Link}
@@ -60,29 +58,26 @@ pub link_said : (T : ℕ) (s : List ℕ) (x : Said) → read_record link_layout 
 unfolding read_link
 link_said T s x e = rw e
 
-module _ (T : ℕ) (s : List ℕ) (fields : List Field) (ef : fields ≡ link_layout) (q : Result (Record 4) Refusal) (t : answered said_of q ≡ read_record fields s) where
-  told : answered said_of q ≡ read_record link_layout s
-  told = rw ef at t
-
-  pub record_refused : (x : Refusal) → q ≡ Err x → refused (refusal_number x) ≡ read_link T s
+module _ (T : ℕ) (s : List ℕ) (fields : List Field) (ef : fields ≡ link_layout) where
+  pub record_refused : (m : ℕ) → refused m ≡ read_record fields s → refused m ≡ read_link T s
   unfolding read_link
-  record_refused x e = rw (← told, e)
+  record_refused m e = rw (← ef, ← e)
 
-  module _ (r : Record 4) (e : q ≡ Ok r) where
+  module _ (r : Record 4) (e : given (said_of r) ≡ read_record fields s) where
     said : read_record link_layout s ≡ given (said_of r)
-    said = sym told ∙ rw e
+    said = sym (rw ef at e)
 
     pub record_small : ((i : ℕ) → get_or s i 0 < 256) → (get_or r.values 0 0 < 256) × (get_or r.values 1 0 < 256) × (get_or r.values 3 0 < 256)
     record_small b =
         let w : Whole link_layout s (said_of r) = record_only link_layout s (said_of r) link_layout_lem b said in
         fields_small r.values w.fit
 
-    module _ (l : Link) (el : l ≡ link_of r.values) (v : Result ⊤ Refusal) (ev : ruling v ≡ link_check T l) where
-      split : read_link T s ≡ refused_or (ruling v) (given (record { link = l; used = r.used }))
-      split = link_said T s (said_of r) said ∙ rw (← el, ← ev)
+    module _ (l : Link) (el : l ≡ link_of r.values) where
+      split : read_link T s ≡ refused_or (link_check T l) (given (record { link = l; used = r.used }))
+      split = link_said T s (said_of r) said ∙ rw el
 
-      pub link_refused : (x : Refusal) → v ≡ Err x → refused (refusal_number x) ≡ read_link T s
-      link_refused x p = sym (split ∙ rw p)
+      pub link_refused : (m : ℕ) → refused m ≡ link_check T l → refused m ≡ read_link T s
+      link_refused m p = sym (split ∙ rw (← p))
 
-      pub link_read_lem : (x : ⊤) → v ≡ Ok x → given (record { link = l; used = r.used }) ≡ read_link T s
-      link_read_lem x p = sym (split ∙ rw p)
+      pub link_read_lem : given pass ≡ link_check T l → given (record { link = l; used = r.used }) ≡ read_link T s
+      link_read_lem p = sym (split ∙ rw (← p))

@@ -4,4 +4,3 @@ pub mod Lent
 pub mod Writing
 pub mod OneFile
 pub mod Example
-pub mod Inner

@@ -9,7 +9,6 @@ ghost use Rattle.network_file.specs.Fields.{link_layout, values_of, link_of};
 ghost use Rattle.network_file.specs.Reading.{read_link, read_links, read_network, link_read, Reads, within};
 ghost use Rattle.network_file.specs.Lent.{Writes};
 ghost use Rattle.network_file.specs.Writing.{link_bytes, links_bytes, image_of, write_network};
-ghost use Rattle.network_file.specs.Inner.{Writable};
 
 use network::{Link, Network};
 use records::{Field, Layout};
@@ -166,28 +165,20 @@ fn write_links(buffer: &mut [u8], links: &[Link])
     }
 }
 
-// The image of a network that passed its checks, at the start of a buffer that has room for it.
-fn write_image(network: Network, buffer: &mut [u8])
-    requires { Writable network (length buffer.old) }
-    ensures { buffer.new ≡ image_of (topology_of network) ++ drop (length (image_of (topology_of network))) buffer.old }
-{
-    numbers::write_number(buffer, 2, u64::from(network.ticks));
-    buffer[2] = network.count as u8;
-    let links = network.links;
-    write_links(buffer, &links[..network.count]);
-}
-
 // A network's file at the start of a buffer, and its length. A refused call leaves the buffer as it is. A buffer of 387 bytes serves for every
 // network (`image_bound`).
 pub fn write_network(network: Network, buffer: &mut [u8]) -> Result<usize, Refusal>
     ensures { Writes (write_network (topology_of network) (length buffer.old)) buffer.old buffer.new result }
 {
     network::check_network(network)?;
-    let links = network.links;
-    let length = 3 + links_length(&links[..network.count]);
+    let places = network.links;
+    let links = &places[..network.count];
+    let length = 3 + links_length(links);
     if buffer.len() < length {
         return Err(Refusal::ShortBuffer);
     }
-    write_image(network, buffer);
+    numbers::write_number(buffer, 2, u64::from(network.ticks));
+    buffer[2] = network.count as u8;
+    write_links(buffer, links);
     Ok(length)
 }
