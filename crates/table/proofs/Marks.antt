@@ -5,7 +5,7 @@ use mathlib.Core.List.{List, [], ◌∷◌, ◌++◌}
 use Prim.Native.Nat.{ℕ, zero, suc, ◌+◌, ◌<◌, ◌≤◌}
 use native.Mathlib.Numerals.{add-one}
 use native.Mathlib.Omega.{arith}
-use lib.ListN.{length, get_or, drop, set, length-set}
+use lib.ListN.{length, get_or, drop, set}
 use lib.Dec.{eqb}
 use Rattle.places.specs.Places.{firsts}
 use Rattle.places.proofs.Firsts.{length_firsts, next_first, no_first, firsts_snoc}
@@ -67,70 +67,46 @@ module _ (route frames colours : List ℕ) where
       rw (← add-one n, any_more p n, any_more q n, any_same p q n (λ j h. e j (omega (arith, h))), e n (omega arith))
 
 -- ---- marking: the words have the frames of the first j hops
-module _ (hops : ℕ) (route frames colours : List ℕ) (old : List ℕ) where
-  pub record Marking (j : ℕ) (words : List ℕ) : Type 0 where
-    pub within : j ≤ hops
-    pub arrays : Within hops route frames colours
-    pub long : length words ≡ bank_size
-    pub marked : Marked (first_slots route frames colours j) old words
-
-  pub no_hop_lem : length old ≡ bank_size → Within hops route frames colours → Marking 0 old
+module _ (hops : ℕ) (route frames colours : List ℕ) (within : Within hops route frames colours) (old : List ℕ) where
+  pub no_hop_lem : Marked (first_slots route frames colours 0) old old
   unfolding firsts
-  no_hop_lem e w₀ =
-      record {
-        within = omega arith;
-        arrays = w₀;
-        long = e;
-        marked = λ p w. words_same bank_size old p (λ a i. p a i || false) (λ a i h g. sym (or-false (p a i))) w;
-      }
+  no_hop_lem = λ p w. words_same bank_size old p (λ a i. p a i || false) (λ a i h g. sym (or-false (p a i))) w
 
-  pub bank_in : Within hops route frames colours → (j : ℕ) → j < hops → (at : ℕ) → at ≡ bank_at (get_or route j 0) (get_or colours j 0) → at < bank_size
-  bank_in w j h at e = rw e (banks.bank_in (get_or route j 0) (get_or colours j 0) (w.link j h) (w.colour j h))
-
-  pub one_hop : (j : ℕ) (words : List ℕ) → Marking j words → j < hops → (at : ℕ) → at ≡ bank_at (get_or route j 0) (get_or colours j 0)
-      → (w : ℕ) → w ≡ with_bit 64 (get_or words at 0) (get_or frames j 0) → Marking (j + 1) (set words at w)
+  pub one_hop : (j : ℕ) (words : List ℕ) → Marked (first_slots route frames colours j) old words → j < hops → (at : ℕ) → at ≡ bank_at (get_or route j 0) (get_or colours j 0)
+      → (w : ℕ) → w ≡ with_bit 64 (get_or words at 0) (get_or frames j 0) → Marked (first_slots route frames colours (j + 1)) old (set words at w)
   one_hop j words m h at ea w e =
-      subst (λ (x : ℕ). Marking (j + 1) (set words at x)) (sym e)
-      record {
-        within = omega arith;
-        arrays = m.arrays;
-        long = length-set words at (with_bit 64 (get_or words at 0) (get_or frames j 0)) ∙ m.long;
-        marked = λ p u.
-            words_same bank_size _ (λ a i. (p a i || before a i) || (eqb at a && eqb (get_or frames j 0) i)) _ (λ a i ha hi. joined (p a i) a i)
-            (words_put bank_size words (λ a i. p a i || before a i) (m.marked p u) at (get_or frames j 0) (bank_in m.arrays j h at ea));
-      }
+      subst (λ (x : ℕ). Marked (first_slots route frames colours (j + 1)) old (set words at x)) (sym e)
+      (λ p u.
+      words_same bank_size _ (λ a i. (p a i || before a i) || (eqb at a && eqb (get_or frames j 0) i)) _ (λ a i ha hi. joined (p a i) a i)
+      (words_put bank_size words (λ a i. p a i || before a i) (m p u) at (get_or frames j 0) inside))
     where
       before : ℕ → ℕ → Bool
       before a i = any_of (same_slot (slot (bank_link a) i (bank_colour a))) (first_slots route frames colours j)
+
+      inside : at < bank_size
+      inside = rw ea (banks.bank_in (get_or route j 0) (get_or colours j 0) (within.link j h) (within.colour j h))
 
       joined : (b : Bool) (a i : ℕ)
           → ((b || before a i) || (eqb at a && eqb (get_or frames j 0) i)) ≡ (b || any_of (same_slot (slot (bank_link a) i (bank_colour a))) (first_slots route frames colours (j + 1)))
       joined b a i =
           ap (λ (x : ℕ). (b || before a i) || (eqb x a && eqb (get_or frames j 0) i)) ea
-          ∙ ap (λ (x : Bool). (b || before a i) || x) (bank_same (get_or route j 0) (get_or frames j 0) (get_or colours j 0) a i (m.arrays.colour j h))
+          ∙ ap (λ (x : Bool). (b || before a i) || x) (bank_same (get_or route j 0) (get_or frames j 0) (get_or colours j 0) a i (within.colour j h))
           ∙ or_assoc b (before a i) (same_slot (slot (bank_link a) i (bank_colour a)) (slot_at route frames colours j))
           ∙ ap (λ (c : Bool). b || c) (sym (any_more route frames colours (same_slot (slot (bank_link a) i (bank_colour a))) j))
 
-  pub all_hops : (j : ℕ) (words : List ℕ) → Marking j words → hops ≤ j → Marked (first_slots route frames colours hops) old words
-  all_hops j words m h = subst (λ (n : ℕ). Marked (first_slots route frames colours n) old words) {x = j} {y = hops} (omega (arith, m.within)) m.marked
-
--- ---- meeting: whether the frame of some hop passes a test, from hop j on
+-- ---- meeting: whether the frame of some hop passes a test, none of the first j does
 module _ (p : Slot → Bool) (n : ℕ) (route frames colours : List ℕ) where
   abbrev after : ℕ → Bool
   after j = any_of p (slots_at (drop j (firsts n route 0)) (drop j (firsts n frames 0)) (drop j (firsts n colours 0)))
 
-  pub record Unmet (j : ℕ) : Type 0 where
-    pub within : j ≤ n
-    pub same : any_of p (first_slots route frames colours n) ≡ after j
-
-  pub unmet_yet : Unmet 0
-  unmet_yet = record { within = omega arith; same = refl }
+  abbrev pub Unmet : ℕ → Type 0
+  Unmet j = any_of p (first_slots route frames colours n) ≡ after j
 
   module _ (j : ℕ) (u : Unmet j) where
     module _ (h : j < n) (b : Bool) (eb : b ≡ p (slot_at route frames colours j)) where
       split : (c : Bool) → b ≡ c → any_of p (first_slots route frames colours n) ≡ (c || after (j + 1))
       split c ec =
-          u.same
+          u
           ∙ rw (next_first n j route 0 h, next_first n j frames 0 h, next_first n j colours 0 h)
           (ap (λ (x : Bool). x || after (j + 1)) (sym eb ∙ ec))
 
@@ -138,10 +114,10 @@ module _ (p : Slot → Bool) (n : ℕ) (route frames colours : List ℕ) where
       met e = sym (split true e)
 
       pub unmet : b ≡ false → Unmet (j + 1)
-      unmet e = record { within = omega arith; same = split false e }
+      unmet e = split false e
 
     pub unmet_all : n ≤ j → false ≡ any_of p (first_slots route frames colours n)
-    unmet_all h = sym (u.same ∙ ap (λ (ls : List ℕ). any_of p (slots_at ls (drop j (firsts n frames 0)) (drop j (firsts n colours 0)))) (no_first n j route 0 h))
+    unmet_all h = sym (u ∙ ap (λ (ls : List ℕ). any_of p (slots_at ls (drop j (firsts n frames 0)) (drop j (firsts n colours 0)))) (no_first n j route 0 h))
 
 -- a marked frame, by the place of its word
 pub marked_told : (words : List ℕ) (l i c at : ℕ) (b : Bool) → at ≡ bank_at l c → b ≡ bit_of (get_or words at 0) i → b ≡ bit_of (get_or words (bank_at l c) 0) i

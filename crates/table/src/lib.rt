@@ -6,7 +6,6 @@
 
 ghost use Rattle.std.specs.Prelude.{◌≡◌, [], ◌∷◌, ◌++◌, ◌<◌, ◌≤◌, length, eqb};
 ghost use Rattle.places.specs.Places.{firsts};
-ghost use Rattle.words.specs.Bank.{bank_size};
 ghost use Rattle.ledger.specs.Lists.{any_of, keep};
 ghost use Rattle.ledger.specs.Held.{no_holding, holding_of, held_places};
 ghost use Rattle.ledger.specs.Sessions.{slots_at, slots_of};
@@ -88,7 +87,7 @@ impl Place {
 
 // Marks what a session holds in a bank.
 fn mark(words: &mut [u64; BANK], place: &Place)
-    requires { (length words.old ≡ bank_size) × PlaceWithin place.now }
+    requires { PlaceWithin place.now }
     ensures { Marked (slots_of (session_of place.now)) words.old words.new }
 {
     for j in 0..usize::from(place.hops) {

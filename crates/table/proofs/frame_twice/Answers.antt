@@ -13,7 +13,7 @@ pub meets-requires : goal.meets-requires
 meets-requires c = place_within c.args.table c.requires _ c.loop-place-test.true
 
 pub mark-requires : goal.mark-requires
-mark-requires c = (search rules, place_within c.args.table c.requires _ c.loop-place-test.true)
+mark-requires c = place_within c.args.table c.requires _ c.loop-place-test.true
 
 pub returns-then-meets : goal.returns-then-meets
 returns-then-meets c =

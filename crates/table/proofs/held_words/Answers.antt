@@ -7,7 +7,7 @@ pub loop-place-init : goal.loop-place-init
 loop-place-init c = held_none
 
 pub mark-requires : goal.mark-requires
-mark-requires c = (search rules, place_within c.args.table c.requires _ c.loop-place-test.true)
+mark-requires c = place_within c.args.table c.requires _ c.loop-place-test.true
 
 pub loop-place-preserved : goal.loop-place-preserved
 loop-place-preserved c = held_more _ _ _ _ c.loop-place.invariant c.loop-place-test.true c.mark.ensures
