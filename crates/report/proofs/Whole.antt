@@ -28,7 +28,6 @@ use Rattle.text.specs.Lines.{network_line}
 use Rattle.text.specs.Inner.{HasRoom, Adds}
 use Rattle.report.specs.Transcript.{lines_of, transcript}
 use Rattle.report.specs.Reports.{text_bound, BoundMost, reported, Reports}
-use Rattle.report.specs.Inner.{Holds}
 
 pub bound_is : (n k : ℕ) → k ≡ min n 65536 → 22 + 11 * k ≡ text_bound n
 unfolding text_bound
@@ -62,16 +61,18 @@ module _ (file calls : List ℕ) (l : Result Network Refusal) (reads : Reads (re
     read_room p h = (first_intact net st begun (loaded_passes file l bytes reads net e), (counted_part calls n q).1, rw read_text at h)
 
 -- ---- the text in the buffer
--- a page without text that took one
-pub page_holds : (x : List ℕ) (p q : Page) → p.at ≡ 0 → Adds x p q → Holds x p.out.now q.out.now q.at
-page_holds x p q e a = (rw e at a.next ∙ zero-add (length x), rw e at a.holds ∙ put_zero x p.out.now)
-
 module _ (file calls before : List ℕ) (within : length (transcript file calls) ≤ text_bound (length calls)) where
   pub short_report : (bound : ℕ) → bound ≡ text_bound (length calls) → length before < bound → (r : Refusal) → refusal_number r ≡ 20 → Reports file calls before before (Err r)
   unfolding reported
   short_report bound is h r e = record { written = short_written (text_bound (length calls)) (transcript file calls) before (omega (arith, is)) r e; within = within }
 
-  pub long_report : (bound : ℕ) → bound ≡ text_bound (length calls) → bound ≤ length before → (after : List ℕ) (n : ℕ) → Holds (transcript file calls) before after n → Reports file calls before after (Ok n)
-  unfolding reported
-  long_report bound is h after n p =
-      record { written = long_written (text_bound (length calls)) (transcript file calls) before (omega (arith, is)) after n p.0 p.1; within = within }
+  -- a page without text took it
+  module _ (bound : ℕ) (is : bound ≡ text_bound (length calls)) (h : bound ≤ length before) (p q : Page) (at : p.at ≡ 0) (out : p.out.now ≡ before) where
+    pub long_report : Adds (transcript file calls) p q → (after : List ℕ) → after ≡ q.out.now → Reports file calls before after (Ok q.at)
+    unfolding reported
+    long_report a after e =
+        let text : List ℕ = transcript file calls in
+        record {
+          written = long_written (text_bound (length calls)) text before (omega (arith, is, h)) after q.at (rw at at a.next ∙ zero-add (length text)) (e ∙ rw (at, out) at a.holds ∙ put_zero text before);
+          within = within;
+        }

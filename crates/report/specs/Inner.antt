@@ -1,5 +1,5 @@
 -- Words of the contracts of inner functions. They are no part of what is promised: `report` promises in the words of `specs/Reports`. Assumes nothing.
-use Rattle.std.specs.Prelude.{◌≡◌, true, Result, Ok, Err, List, ◌++◌, ℕ, ◌≤◌, length, drop}
+use Rattle.std.specs.Prelude.{◌≡◌, true, Result, Ok, Err, ℕ, ◌≤◌}
 use Rattle.refusals.specs.Refusals.{Outcome}
 use Rattle.refusals.specs.declared.Refusal.{Refusal}
 use Rattle.ledger.specs.Sound.{intact}
@@ -22,7 +22,3 @@ pub record Turns (st : State) (o : Outcome Call) (place : ℕ) (before after : P
   pub put : Adds (line_of place (view_of st) o) before after
   pub view : view_of r ≡ view_after (view_of st) o
   pub unbroken : intact (view_of r) ≡ true
-
--- a buffer with x at its start, every other byte left, and the length of x
-abbrev pub Holds : List ℕ → List ℕ → List ℕ → ℕ → Type 0
-Holds x before after n = (n ≡ length x) × (after ≡ x ++ drop (length x) before)

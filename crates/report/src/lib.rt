@@ -14,7 +14,7 @@ ghost use Rattle.text.specs.Lines.{line};
 ghost use Rattle.text.specs.Inner.{HasRoom, Adds};
 ghost use Rattle.report.specs.Transcript.{line_of, lines_of, transcript};
 ghost use Rattle.report.specs.Reports.{text_bound, Reports};
-ghost use Rattle.report.specs.Inner.{InPlaces, Turns, Holds};
+ghost use Rattle.report.specs.Inner.{InPlaces, Turns};
 
 use call_records::{Call, Calls};
 use refusals::Refusal;
@@ -121,16 +121,6 @@ fn put_text(page: &mut Page<'_>, file: &[u8], calls: &[u8])
     }
 }
 
-// The text, at the start of a buffer that has room for it, and its length.
-fn write_text(file: &[u8], calls: &[u8], out: &mut [u8]) -> usize
-    requires { length (transcript file.now calls.now) ≤ length out.old }
-    ensures { Holds (transcript file.now calls.now) out.old out.new result }
-{
-    let mut page = Page::new(out);
-    put_text(&mut page, file, calls);
-    page.len()
-}
-
 // The run of the program frames: the text at the start of a buffer, and its length. A buffer below 22 bytes and 11 for each call byte that counts, which serve
 // for every text (`text_bound_lem`), is refused with 20 before any call is made, and left as it is.
 pub fn report(file: &[u8], calls: &[u8], out: &mut [u8]) -> Result<usize, Refusal>
@@ -139,5 +129,7 @@ pub fn report(file: &[u8], calls: &[u8], out: &mut [u8]) -> Result<usize, Refusa
     if out.len() < text_bound(calls.len()) {
         return Err(Refusal::ShortBuffer);
     }
-    Ok(write_text(file, calls, out))
+    let mut page = Page { out, at: 0 };
+    put_text(&mut page, file, calls);
+    Ok(page.at)
 }

@@ -15,26 +15,11 @@ use forwarding::Held;
 // A text at the start of a lent buffer, and the place after it.
 #[derive(Drop)]
 pub struct Page<'a> {
-    out: &'a mut [u8],
-    at: usize,
+    pub out: &'a mut [u8],
+    pub at: usize,
 }
 
-impl<'a> Page<'a> {
-    // A page without text.
-    pub fn new(out: &'a mut [u8]) -> Page<'a>
-        ensures same_reference { result.out.ghost_name ≡ out.entry.ghost_name }
-        ensures empty { (result.at ≡ 0) × (result.out.now ≡ out.old) }
-    {
-        Page { out, at: 0 }
-    }
-
-    // The length of the text.
-    pub fn len(&self) -> usize
-        ensures { result ≡ self.now.at }
-    {
-        self.at
-    }
-
+impl Page<'_> {
     // One byte.
     fn put_byte(&mut self, byte: u8)
         requires { HasRoom (byte ∷ []) self.old }
