@@ -8,7 +8,7 @@ use native.Mathlib.Omega.{arith}
 use lib.Dec.{leb}
 use lib.ListN.{length, get_or, drop, drop_of_length-le}
 use Rattle.std.specs.List.{list_any}
-use Rattle.refusals.specs.Refusals.{Ruling, given, refused, pass, refuse_if, refused_or}
+use Rattle.refusals.specs.Refusals.{Ruling, given, pass, refuse_if, refused_or}
 use Rattle.refusals.proofs.Refusals.{past}
 use Rattle.network.specs.declared.Link.{Link}
 use Rattle.network.specs.declared.Network.{Network}
@@ -56,37 +56,10 @@ module _ (network : Network) (route : List ℕ) (u : unknown_link (topology_of n
         | no b ↦ let g : length route ≤ j - 1 = omega arith in rw (drop_of_length-le route g)
       ])
 
--- ---- the checks in turn
-module _ (network : Network) (route : List ℕ) (b : Bool) (eb : b ≡ bad_length (length route)) where
-  pub length_refused : b ≡ true → ◌≡◌ {A = Ruling} (refused 12) (route_check (topology_of network) route)
-  unfolding route_check
-  length_refused h = rw (← eb, h)
-
-  module _ (h : b ≡ false) (d : Bool) (ed : d ≡ list_any (λ l. leb network.count l) route) where
-    link_told : d ≡ unknown_link (topology_of network) route
-    unfolding unknown_link
-    link_told = rw (many_links network) (ed ∙ any_same (λ l. leb network.count l) (unknown network.count) (unknown_told network.count) route)
-
-    pub unknown_refused : d ≡ true → ◌≡◌ {A = Ruling} (refused 13) (route_check (topology_of network) route)
-    unfolding route_check
-    unknown_refused g = rw (← eb, h, ← link_told, g)
-
-    module _ (g : d ≡ false) (f : Bool) (ef : f ≡ link_twice route) where
-      pub all_known : unknown_link (topology_of network) route ≡ false
-      all_known = sym link_told ∙ g
-
-      pub twice_refused : f ≡ true → ◌≡◌ {A = Ruling} (refused 14) (route_check (topology_of network) route)
-      unfolding route_check
-      twice_refused i = rw (← eb, h, all_known, ← ef, i)
-
-      module _ (i : f ≡ false) (k : Bool) (ek : k ≡ rates_apart (rates_of (topology_of network) route)) where
-        pub apart_refused : k ≡ true → ◌≡◌ {A = Ruling} (refused 15) (route_check (topology_of network) route)
-        unfolding route_check
-        apart_refused l = rw (← eb, h, all_known, ← ef, i, ← ek, l)
-
-        pub route_passes : k ≡ false → ◌≡◌ {A = Ruling} (given pass) (route_check (topology_of network) route)
-        unfolding route_check
-        route_passes l = rw (← eb, h, all_known, ← ef, i, ← ek, l)
+-- ---- check 13: the code's test is the rule's
+pub link_told : (network : Network) (route : List ℕ) (b : Bool) → b ≡ list_any (λ l. leb network.count l) route → b ≡ unknown_link (topology_of network) route
+unfolding unknown_link
+link_told network route b e = rw (many_links network) (e ∙ any_same (λ l. leb network.count l) (unknown network.count) (unknown_told network.count) route)
 
 -- ---- what a route that passed shows
 module _ (net : Topology) (route : List ℕ) (e : route_check net route ≡ given pass) where

@@ -1,17 +1,17 @@
--- A test of a list: in the words of the checks, and place by place where a loop has passed the places before j. Assumes nothing.
-use mathlib.Core.Path.{◌≡◌, refl, sym, ◌∙◌}
-use mathlib.Core.Bool.{Bool, true, false}
+-- A test of a list by the code, in the words of the checks. Assumes nothing.
+use mathlib.Core.Path.{◌≡◌, refl}
+use mathlib.Core.Bool.{Bool, false}
 use mathlib.Core.List.{List, [], ◌∷◌}
-use Prim.Native.Nat.{ℕ, zero, suc, ◌+◌, ◌-◌, ◌<◌, ◌≤◌}
+use Prim.Native.Nat.{ℕ, zero, suc, ◌+◌, ◌-◌, ◌<◌}
 use native.Mathlib.Nat.{not-suc-le-zero, le_of_suc-le-suc}
 use native.Mathlib.Numerals.{add-one}
 use lib.Dec.{eqb}
-use lib.ListN.{length, get_or, take, drop, drop_of_length-le}
+use lib.ListN.{length, get_or, take, drop}
 use lib.Seq.{drop-cons}
 use Rattle.std.specs.List.{list_any}
 use Rattle.places.proofs.Parts.{part_rest}
 use Rattle.lists.proofs.Count.{or_neither}
-use Rattle.ledger.specs.Lists.{any_of, any_two}
+use Rattle.ledger.specs.Lists.{any_of}
 use Rattle.ledger.proofs.Lists.{eqb_flip}
 
 module _ {A : Type 0} where
@@ -33,13 +33,3 @@ any_same p q e (x ∷ l) = rw (e x, any_same p q e l)
 -- whether a link stands from a place on
 pub stands_from : (l : List ℕ) (a x : ℕ) → list_any (λ y. eqb y x) (take (length l - a) (drop a l)) ≡ any_of (eqb x) (drop a l)
 stands_from l a x = rw part_rest (any_same (λ y. eqb y x) (eqb x) (λ y. eqb_flip y x) (drop a l))
-
-module _ {A : Type 0} (d : A) (l : List A) where
-  -- some place and a later one pass together
-  module _ (r : A → A → Bool) (j : ℕ) (same : any_two r l ≡ any_two r (drop j l)) where
-    module _ (h : j < length l) (b : Bool) (eb : b ≡ any_of (r (get_or l j d)) (drop (j + 1) l)) where
-      pub here_again : b ≡ true → true ≡ any_two r l
-      here_again e = sym (same ∙ rw (next_place l j d h, ← eb, e))
-
-    pub nowhere_again : length l ≤ j → false ≡ any_two r l
-    nowhere_again h = sym (same ∙ rw (drop_of_length-le l h))

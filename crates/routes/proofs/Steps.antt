@@ -2,15 +2,11 @@
 use mathlib.Core.Path.{◌≡◌, refl, sym, ◌∙◌}
 use mathlib.Core.Bool.{Bool, true, false, cond, ◌&&◌}
 use mathlib.Core.Option.{some, none}
-use Prim.Native.Nat.{ℕ, ◌+◌, ◌*◌, ◌<◌, ◌≤◌}
-use native.Mathlib.Decide.{dec_lt}
+use Prim.Native.Nat.{ℕ, ◌*◌, ◌<◌, ◌≤◌}
 use native.Mathlib.Omega.{arith}
-use lib.Dec.{leb, ltb}
-use lib.ListN.{get_or}
-use borrow.Author.Tests.{lt-ltb, ltb-true, le-leb, lt-leb}
-use Rattle.std.specs.Int.{abs_diff}
+use lib.Dec.{ltb}
+use borrow.Author.Tests.{ltb-true, lt-leb}
 use Rattle.lists.proofs.Count.{and_both}
-use Rattle.words.specs.Word.{bit_of}
 use Rattle.forwarding.specs.declared.Hop.{Hop}
 use Rattle.forwarding.specs.Forwarding.{Spot, is_free, may_turn, may_hold, hold_into, frame_time, delay, IsDelay}
 use Rattle.forwarding.specs.Hops.{HopReady}
@@ -20,10 +16,6 @@ use Rattle.routes.specs.Inner.{step_if}
 
 -- ---- a spot that is on a hop and free
 module _ (h : Hop) (x : Spot) where
-  pub a_frame : x.frame < h.frames → x.colour < h.colours → (b : Bool) → b ≡ bit_of (get_or h.free x.colour 0) x.frame → b ≡ (is_on h x && is_free h x)
-  unfolding is_free
-  a_frame l m b e = rw (lt-ltb x.frame h.frames l, lt-ltb x.colour h.colours m) e
-
   pub spot_in : (b : Bool) → b ≡ (is_on h x && is_free h x) → b ≡ true → (x.frame < h.frames) × (x.colour < h.colours)
   spot_in b e g =
       let a = and_both (is_on h x) (is_free h x) (sym e ∙ g) in
@@ -67,16 +59,3 @@ module _ (T : ℕ) (g h : Hop) (x y : Spot) (b : Bool) (eb : b ≡ (is_on h y &&
       pub step_delay : HopReady T h → D ≤ h.range → (time : ℕ) → time ≡ frame_time T h.frames → (w : ℕ) → IsDelay D time w → some w ≡ step_if T g h x y
       step_delay p l time et w q =
           sym (by_hold ∙ rw (f, ← eu, near, ← eD, hold_may h D l, q.ruled T h.frames p.some_frame p.divides et))
-
--- ---- colours that may follow each other
-pub turn_told : (h : Hop) (c d : ℕ) → leb (abs_diff c d) h.turn ≡ may_turn h c d
-unfolding may_turn
-turn_told h c d = elim (dec_lt (d + h.turn) c) [
-  | yes l ↦ let m : h.turn < abs_diff c d = omega arith in rw (lt-leb c (d + h.turn) l, lt-leb (abs_diff c d) h.turn m)
-  | no m ↦ let below : c ≤ d + h.turn = omega arith in elim (dec_lt (c + h.turn) d) [
-    | yes l ↦ let n : h.turn < abs_diff c d = omega arith in rw (le-leb c (d + h.turn) below, lt-leb d (c + h.turn) l, lt-leb (abs_diff c d) h.turn n)
-    | no n ↦ let near : d ≤ c + h.turn = omega arith in
-        let o : abs_diff c d ≤ h.turn = omega arith in
-        rw (le-leb c (d + h.turn) below, le-leb d (c + h.turn) near, le-leb (abs_diff c d) h.turn o)
-  ]
-]

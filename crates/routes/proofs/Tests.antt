@@ -1,21 +1,13 @@
 -- The tests of the checks of a route, part by part, and what a test that passed shows. Assumes nothing.
 use mathlib.Core.Path.{◌≡◌}
-use mathlib.Core.Bool.{true, false, not}
-use Prim.Native.Nat.{ℕ, ◌%◌, ◌<◌, ◌≤◌}
+use mathlib.Core.Bool.{true, false}
+use Prim.Native.Nat.{ℕ, ◌<◌, ◌≤◌}
 use native.Mathlib.Decide.{dec_lt}
 use native.Mathlib.Omega.{arith}
 use lib.Dec.{eqb, ltb, leb}
-use borrow.Author.Tests.{lt-leb, le-leb, lt-ltb, le-ltb, eq-eqb, ne_eqb, ltb-true, ltb-false, eqb-false, not-false}
+use borrow.Author.Tests.{lt-leb, le-leb, lt-ltb, le-ltb, ltb-true, ltb-false, eqb-false, not-false}
 use Rattle.lists.proofs.Count.{or_neither}
-use Rattle.ledger.specs.Routes.{bad_length, unknown, apart}
-
-pub no_hop_lem : (n : ℕ) → n ≡ 0 → eqb n 0 ≡ bad_length n
-unfolding bad_length
-no_hop_lem n h = rw (eq-eqb n 0)
-
-pub some_hop : (n : ℕ) → (n ≡ 0 → ⊥) → ltb 8 n ≡ bad_length n
-unfolding bad_length
-some_hop n h = rw (ne_eqb n 0)
+use Rattle.ledger.specs.Routes.{bad_length, unknown}
 
 module _ (count l w : ℕ) (e : w ≡ l) where
   pub not_known : count ≤ w → unknown count l ≡ true
@@ -33,15 +25,6 @@ unknown_told count l = elim (dec_lt l count) [
   | yes h ↦ rw (lt-leb count l h, lt-ltb l count h)
   | no h ↦ let g : count ≤ l = omega arith in rw (le-leb count l g, le-ltb l count g)
 ]
-
-module _ (K K' : ℕ) where
-  pub no_multiple : (K % K' ≡ 0 → ⊥) → not (eqb (K' % K) 0) ≡ apart K K'
-  unfolding apart
-  no_multiple h = rw (ne_eqb (K % K') 0 h)
-
-  pub a_multiple : K % K' ≡ 0 → not (eqb (K % K') 0) ≡ apart K K'
-  unfolding apart
-  a_multiple h = rw (eq-eqb (K % K') 0 h)
 
 -- ---- what a test that passed shows
 pub length_passed : (n : ℕ) → bad_length n ≡ false → (0 < n) × (n ≤ 8)

@@ -22,6 +22,7 @@ use refusals::Refusal;
 use words::{BANK, COLOURS};
 
 // Whether check 12 refuses a number of links.
+#[tactic(auto, unfolding(ledger::specs::Routes::bad_length))]
 fn bad_length(n: usize) -> bool
     ensures { result ≡ bad_length n }
 {
@@ -36,6 +37,7 @@ fn unknown_link(count: usize, route: &[u8]) -> bool
 }
 
 // Whether check 14 refuses the route: a link stands again after its place.
+#[tactic(auto, using(crate::proofs::Sought::stands_from), unfolding(ledger::specs::Routes::link_twice))]
 fn link_twice(route: &[u8]) -> bool
     ensures { result ≡ link_twice route.now }
 {
@@ -48,6 +50,7 @@ fn link_twice(route: &[u8]) -> bool
 }
 
 // Whether of two links neither number of frames divides the other. Check 7: neither is 0.
+#[tactic(auto, unfolding(ledger::specs::Routes::apart))]
 fn frames_apart(one: u16, other: u16) -> bool
     requires { (0 < one) × (0 < other) }
     ensures { result ≡ apart one other }
@@ -71,6 +74,7 @@ fn rates_apart(network: Network, route: &[u8]) -> bool
 }
 
 // The checks of a route, 12 to 15, over a network that passed its own.
+#[tactic(auto, using(crate::proofs::Routes::link_told), unfolding(ledger::specs::Routes::route_check))]
 pub fn check_route(network: Network, route: &[u8]) -> Result<(), Refusal>
     requires { network_check (topology_of network) ≡ given pass }
     ensures { ruling result ≡ route_check (topology_of network) route.now }
@@ -78,12 +82,10 @@ pub fn check_route(network: Network, route: &[u8]) -> Result<(), Refusal>
     if bad_length(route.len()) {
         return Err(Refusal::RouteLength);
     }
-    let unknown = unknown_link(network.count, route);
-    let twice = link_twice(route);
-    if unknown {
+    if unknown_link(network.count, route) {
         return Err(Refusal::UnknownLink);
     }
-    if twice {
+    if link_twice(route) {
         return Err(Refusal::LinkTwice);
     }
     if rates_apart(network, route) {
@@ -93,6 +95,7 @@ pub fn check_route(network: Network, route: &[u8]) -> Result<(), Refusal>
 }
 
 // The colours of a link (C).
+#[tactic(auto, unfolding(ledger::specs::Sessions::link_colours))]
 fn colours_of(link: Link) -> u16
     ensures { result ≡ link_colours link }
 {
@@ -100,6 +103,7 @@ fn colours_of(link: Link) -> u16
 }
 
 // The conversion range of a link (R).
+#[tactic(auto, unfolding(ledger::specs::Sessions::link_turn))]
 fn turn_of(link: Link) -> u16
     ensures { result ≡ link_turn link }
 {
@@ -168,20 +172,18 @@ fn spot_at(frames: [u8; 8], colours: [u8; 8], j: usize) -> Spot
 }
 
 // Whether the spot is on the hop, and free. Check 7: a hop has at most 64 frames; check 23: at most 4 colours.
+#[tactic(auto, unfolding(forwarding::specs::Forwarding::is_free))]
 fn spot_free(hop: Hop, at: Spot) -> bool
     requires { (hop.frames ≤ 64) × (hop.colours ≤ 4) }
     ensures { result ≡ (is_on hop (spot_of at) && is_free hop (spot_of at)) }
 {
-    if hop.frames <= at.frame {
-        return false;
-    }
-    if hop.colours <= at.colour {
-        return false;
-    }
-    words::has_bit(hop.free[usize::from(at.colour)], at.frame)
+    at.frame < hop.frames
+        && at.colour < hop.colours
+        && words::has_bit(hop.free[usize::from(at.colour)], at.frame)
 }
 
 // Whether colour c of the hop before may become colour d of the hop.
+#[tactic(auto, unfolding(forwarding::specs::Forwarding::may_turn))]
 fn may_turn(hop: Hop, c: u16, d: u16) -> bool
     ensures { result ≡ may_turn hop c d }
 {
