@@ -351,28 +351,24 @@ trellis_to t hops first = ladder (entry (nodes (hop_at hops 0)) (begins first)) 
 abbrev pub Agrees : List ℕ → Trellis → Type 0
 Agrees cells tr = (i : ℕ) → i < width tr → cell_reach (get_or cells i 0) ≡ get_or (row tr) i never
 
--- the predecessors of each later hop: of hop j + 1 at j
-abbrev pub Preds : Type 0
-Preds = List (List ℕ)
-
--- the place before place p of hop j + 1
-abbrev pub place_before : Preds → ℕ → ℕ → ℕ
+-- the place before place p of hop j + 1, whose predecessors stand at j
+abbrev pub place_before : List (List ℕ) → ℕ → ℕ → ℕ
 place_before preds j p = get_or (get_or preds j []) p 0
 
 -- what is stored before node i of hop j + 1, and the node of hop j that this is
-abbrev pub stored_at : List Hop → Preds → ℕ → ℕ → ℕ
+abbrev pub stored_at : List Hop → List (List ℕ) → ℕ → ℕ → ℕ
 stored_at hops preds j i = place_before preds j (place_of (hop_at hops (suc j)).colours i)
 
-abbrev pub from_at : List Hop → Preds → ℕ → ℕ → ℕ
+abbrev pub from_at : List Hop → List (List ℕ) → ℕ → ℕ → ℕ
 from_at hops preds j i = node_in (hop_at hops j).colours (stored_at hops preds j i)
 
 -- each later hop has 256 places
-pub record Wide (preds : Preds) : Type 0 where
+pub record Wide (preds : List (List ℕ)) : Type 0 where
   pub long : length preds ≡ 7
   pub each : (j : ℕ) → j < 7 → length (get_or preds j []) ≡ 256
 
 -- what is known where the hops 0 to `last` are swept from a row on
-pub record Sweeps (t : ℕ) (hops : List Hop) (last : ℕ) (first : List ℕ) (preds : Preds) : Type 0 where
+pub record Sweeps (t : ℕ) (hops : List Hop) (last : ℕ) (first : List ℕ) (preds : List (List ℕ)) : Type 0 where
   pub ready : Ready t hops (last + 1)
   -- checks 3 and 12: with a cycle for each later hop no delay passes 7 × 960
   pub small : (i : ℕ) → i < nodes (hop_at hops 0) → Within (6720 - 960 * last) (get_or (by_node (hop_at hops 0) first) i 0)
@@ -380,14 +376,14 @@ pub record Sweeps (t : ℕ) (hops : List Hop) (last : ℕ) (first : List ℕ) (p
   pub wide : Wide preds
 
 -- the stored predecessor of node i of hop j + 1 is the one of the trellis that begins with the cells `first`
-pub record FromKnown (t : ℕ) (hops : List Hop) (first : List ℕ) (preds : Preds) (j i : ℕ) : Type 0 where
+pub record FromKnown (t : ℕ) (hops : List Hop) (first : List ℕ) (preds : List (List ℕ)) (j i : ℕ) : Type 0 where
   pub cell : ℕ
   pub hold : ℕ
   pub way : way_of cell hold (from_at hops preds j i) ≡ into (row (trellis_to t hops first j)) (stage_after t hops j) i
   pub near : cell < 32768 → stored_at hops preds j i / 64 < (hop_at hops j).colours
 
 -- what the sweep over hops 0 to j leaves: the row of hop j, the predecessors of each hop, and the count
-pub record Swept (t : ℕ) (hops : List Hop) (first : List ℕ) (j : ℕ) (cells : List ℕ) (preds : Preds) (count : ℕ) : Type 0 where
+pub record Swept (t : ℕ) (hops : List Hop) (first : List ℕ) (j : ℕ) (cells : List ℕ) (preds : List (List ℕ)) (count : ℕ) : Type 0 where
   pub cells_long : length cells ≡ 256
   pub wide : Wide preds
   pub most : (i : ℕ) → i < nodes (hop_at hops j) → get_or (by_node (hop_at hops j) cells) i 0 ≤ 32768
@@ -418,12 +414,12 @@ pub record EndOf (row : List ℕ) (K C key place : ℕ) : Type 0 where
   pub first : key < 32768 → (c i : ℕ) → c < C → i < K → get_or row (64 * c + i) 0 ≡ key → (i ≡ place % 64 → place / 64 ≤ c) × (place % 64 ≤ i)
 
 -- the places back from place p of hop j, the latest first, by the stored predecessors
-abbrev pub chain_of : Preds → ℕ → ℕ → List ℕ
+abbrev pub chain_of : List (List ℕ) → ℕ → ℕ → List ℕ
 chain_of preds zero p = p ∷ []
 chain_of preds (suc j) p = p ∷ chain_of preds j (place_before preds j p)
 
 -- each of those places is below 256
-abbrev pub ChainFits : Preds → ℕ → ℕ → Type 0
+abbrev pub ChainFits : List (List ℕ) → ℕ → ℕ → Type 0
 ChainFits preds zero p = p < 256
 ChainFits preds (suc j) p = (p < 256) × ChainFits preds j (place_before preds j p)
 
