@@ -1,9 +1,9 @@
 -- A turn of each loop of this crate, over plain values.
-use mathlib.Core.Path.{◌≡◌, refl, sym, ap, ◌∙◌}
+use mathlib.Core.Path.{◌≡◌, sym, ap, ◌∙◌}
 use mathlib.Core.List.{List, ◌++◌, append_assoc, append-nil}
 use Prim.Native.Nat.{ℕ, suc, ◌+◌, ◌-◌, ◌*◌, ◌/◌, ◌%◌, ◌^◌, ◌≤◌, ◌<◌}
 use native.Mathlib.Numerals.{add-one}
-use native.Mathlib.Nat.{sub_self, sub-zero, le_refl, lt_of_lt_of_le}
+use native.Mathlib.Nat.{sub_self, le_refl, lt_of_lt_of_le}
 use native.Mathlib.Omega.{arith}
 use lib.ListN.{length, get_or, drop, take, set, length-set, take-append-drop}
 use lib.Seq.{take-suc-set, drop-set-lt, drop-drop}
@@ -50,9 +50,6 @@ pub record Put (s₀ : List ℕ) (n x : ℕ) (s : List ℕ) (rest i : ℕ) : Typ
   pub back : drop i s ≡ drop i s₀
 
 module _ (s₀ : List ℕ) (n x : ℕ) where
-  pub put_none : Put s₀ n x s₀ x 0
-  put_none = record { within = omega arith; long = refl; front = rw sub-zero; back = refl }
-
   pub put_more : (s : List ℕ) (rest i : ℕ) → i < n → n ≤ length s₀ → Put s₀ n x s rest i → Put s₀ n x (set s i (rest % 256)) (rest / 256) (i + 1)
   put_more s rest i h m p = record {
     within = omega arith;

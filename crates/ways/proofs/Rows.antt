@@ -4,7 +4,7 @@ use mathlib.Core.Bool.{Bool, ◌&&◌}
 use mathlib.Core.List.{List}
 use Prim.Native.Nat.{ℕ, ◌+◌, ◌*◌, ◌%◌, ◌<◌}
 use native.Mathlib.Omega.{arith}
-use lib.ListN.{get_or, set, replicate, length-set, length-replicate}
+use lib.ListN.{get_or, set, length-set}
 use Rattle.lists.specs.Count.{one_if, sum_below}
 use Rattle.lists.proofs.Count.{sum_cong}
 use Rattle.places.proofs.Firsts.{one_stored}
@@ -15,9 +15,6 @@ use Rattle.forwarding.proofs.Windows.{frame_window}
 use Rattle.ways.specs.Inner.{plain, free_ways, LeadsInto, RowBefore}
 
 module _ (g h : Hop) (row : List ℕ) where
-  pub none_before : RowBefore g h row 0 (replicate 64 0)
-  none_before = record { long = length-replicate {A = ℕ} 64 0; each = λ k l. absurd (omega arith) }
-
   -- the ways on from frame k are the sum over a window of the frames of the next hop
   pub row_window : (k r y w v : ℕ) → LeadsInto g h row → r ≡ reference_into g h k → y ≡ least_hold h → w ≡ choices h
       → v ≡ sum_below w (λ d. free_ways (get_or h.free 0 0) row (((r + y) % h.frames + d) % h.frames)) → v ≡ sum_below h.frames (λ i. one_if (is_allowed g h (plain k) (plain i)) * get_or row i 0)

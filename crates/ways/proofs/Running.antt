@@ -1,29 +1,19 @@
 -- Running sums, filled from the front, and a window's sum by them. Assumes nothing.
-use mathlib.Core.Path.{◌≡◌, refl, ◌∙◌, ap₂}
+use mathlib.Core.Path.{◌≡◌, ap₂}
 use mathlib.Core.List.{List}
 use Prim.Native.Nat.{ℕ, ◌+◌, ◌-◌, ◌*◌, ◌%◌, ◌^◌, ◌<◌, ◌≤◌}
 use native.Mathlib.Nat.{le_trans}
 use native.Mathlib.Numerals.{add-one}
 use native.Mathlib.Omega.{arith}
-use lib.ListN.{get_or, set, replicate, length-set, length-replicate}
+use lib.ListN.{get_or}
 use Rattle.lists.specs.Count.{sum_below}
 use Rattle.lists.proofs.Sums.{sum_first, round_within, round_across, sum_most}
 use Rattle.words.specs.Word.{bit_of}
-use Rattle.places.proofs.Firsts.{one_stored}
-use Rattle.ways.specs.Inner.{free_ways, SmallRow, SumsTo, CycleSums}
+use Rattle.ways.specs.Inner.{free_ways, SmallRow, CycleSums}
 
 module _ (f : ℕ → ℕ) where
-  pub none_summed : SumsTo f 0 (replicate 65 0)
-  none_summed = record { long = length-replicate {A = ℕ} 65 0; each = λ m l. let e : m ≡ 0 = omega arith in rw e refl }
-
   pub sum_more : (i sum v : ℕ) → sum ≡ sum_below i f → v ≡ f i → sum + v ≡ sum_below (i + 1) f
   sum_more i sum v e q = rw (add-one i) (ap₂ ◌+◌ e q)
-
-  pub one_summed : (i : ℕ) (sums : List ℕ) (v : ℕ) → i < 64 → SumsTo f i sums → v ≡ sum_below (i + 1) f → SumsTo f (i + 1) (set sums (i + 1) v)
-  one_summed i sums v l s e = record {
-    long = length-set sums (i + 1) v ∙ s.long;
-    each = λ m n. one_stored sums (i + 1) v 0 (λ m. sum_below m f) (omega (arith, s.long)) (λ m l. s.each m (omega arith)) e m (omega arith);
-  }
 
 -- no sum over a row passes 64 times 256 to the power 7
 pub sum_small : (K free : ℕ) (row : List ℕ) → K ≤ 64 → SmallRow K row → (i : ℕ) → i ≤ K → sum_below i (free_ways free row) ≤ 64 * 256 ^ 7
