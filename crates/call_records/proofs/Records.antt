@@ -75,9 +75,6 @@ take_least s m = go (ltb (length s) m) refl
         let q : min (length s) m ≡ m = omega arith in
         rw q
 
-pub counted_long : (s : List ℕ) (n : ℕ) → n ≡ min (length s) 65536 → n ≡ length (take n s)
-counted_long s n e = sym (length-take-le n s (omega (arith, e)))
-
 pub counted_part : CountedPart
 unfolding counted
 counted_part s n e = (ap (λ (k : ℕ). take k s) e ∙ take_least s 65536, omega (arith, e, length-take-le n s (omega (arith, e))))

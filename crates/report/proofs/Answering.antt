@@ -57,9 +57,6 @@ module _ (st : State) (ok : intact (view_of st) ≡ true) (call : Call) (place :
 
   -- ---- the line of a release
   module _ (n : ℕ) (e : call_of call ≡ Release n) (a : Served ⊤) (w : Releases st n a) where
-    pub release_room : HasRoom (line_of place (view_of st) (given (call_of call))) p → HasRoom (line place letter_r (released_in a.answer)) p
-    release_room h = rw w.answer (rw e at h)
-
     pub release_turn : (after : Page) → Adds (line place letter_r (released_in a.answer)) p after → Turns st (given (call_of call)) place p after a.state
     release_turn after put = record { put = rw e (rw w.answer at put); view = rw e w.after.view; unbroken = left_intact st (Release n) a.state w.after ok }
 

@@ -49,9 +49,6 @@ module _ {text : List ℕ} {o : Page} {st : State} {os : List (Outcome Call)} {p
     more : Upto text o (line_of (i + 1) (view_of st) x ∷ lines_of (i + 1 + 1) (view_after (view_of st) x) rest ∷ []) p
     more = rw is (two_parts (rw (e, lines_more (n + 1) (view_of st) x rest) at run.upto))
 
-    pub soon : i < 65536
-    soon = omega (arith, is, run.early, ap length e)
-
     pub line_room : HasRoom (line_of (i + 1) (view_of st) x) p
     line_room = piece_fits more
 
