@@ -2,30 +2,23 @@
 // and proved in the crate `report`; this is the reading and the writing.
 #![tactic(auto)]
 
-ghost use Rattle.std.specs.Prelude.{◌≡◌, length, replicate};
+ghost use Rattle.std.specs.Prelude.{◌≡◌, length, replicate, IfOk};
 ghost use Rattle.streams.specs.Counts.{IsPrefixLen};
 
-use network_file::Written;
 use std::fs::File;
 use std::io;
 use std::io::{Read, Write};
 
-// The bytes of net.bin, at the start of `file`, and how many: none where it can't be opened or read. The longest network file has 387 bytes, so that
+// The bytes of net.bin, at the start of `file`, and how many, unless it can't be opened or read. The longest network file has 387 bytes, so that
 // 388 tell what the whole file says (`first_bytes`).
-fn read_file(rt: &HostRuntime, file: &mut [u8]) -> usize
-    ensures { IsPrefixLen result file.new }
+fn read_file(rt: &HostRuntime, file: &mut [u8]) -> io::Result<usize>
+    ensures { IfOk result (λ n. IsPrefixLen n file.new) }
 {
-    match File::open(rt, "net.bin") {
-        Ok(mut opened) => {
-            let n = streams::read_full(&mut opened, file);
-            let mut more = [0u8; 1];
-            match opened.read(&mut more) {
-                Ok(_) => n,
-                Err(_) => 0,
-            }
-        }
-        Err(_) => 0,
-    }
+    let mut opened = File::open(rt, "net.bin")?;
+    let n = streams::read_full(&mut opened, file);
+    let mut more = [0u8; 1];
+    opened.read(&mut more)?;
+    Ok(n)
 }
 
 // Room for every text (`bound_most`), all of it 0.
@@ -38,16 +31,16 @@ fn room() -> [u8; 720918]
 // Writes the text of a run. The buffer serves for every text, so that no run is refused.
 fn run(rt: &HostRuntime, file: &[u8], calls: &[u8]) -> io::Result<()> {
     let mut out = room();
-    let written = report::report(file, calls, &mut out);
-    match written {
-        Written::Length(n) => io::writer(rt).write_all(&out[..n]),
-        Written::Refused(_) => Ok(()),
+    match report::report(file, calls, &mut out) {
+        Ok(n) => io::writer(rt).write_all(&out[..n]),
+        Err(_) => Ok(()),
     }
 }
 
+// A file that can't be read counts as one of no byte.
 fn main(rt: HostRuntime) -> io::Result<()> {
     let mut file = [0u8; 388];
-    let n = read_file(&rt, &mut file);
+    let n = read_file(&rt, &mut file).unwrap_or(0);
     let mut calls = streams::large_buffer();
     let m = streams::read_full(&mut rt.stdin(), &mut calls);
     run(&rt, &file[..n], &calls[..m])
