@@ -51,8 +51,7 @@ fn show_written(
             length
         }
         Err(refusal) => {
-            print!(rt; " no {refusal}")?;
-            print!(rt; ", buffer ")?;
+            print!(rt; " no {refusal}, buffer ")?;
             0
         }
     };
@@ -63,12 +62,10 @@ fn show_written(
 fn check_and_write(rt: &HostRuntime, network: Network, room: usize) -> io::Result<()>
     requires { room ≤ 400 }
 {
-    print!(rt; " check")?;
     match network::check_network(network) {
-        Ok(()) => print!(rt; " passed")?,
-        Err(refusal) => print!(rt; " no {refusal}")?,
+        Ok(()) => print!(rt; " check passed, write")?,
+        Err(refusal) => print!(rt; " check no {refusal}, write")?,
     }
-    print!(rt; ", write")?;
     let mut buffer = [image::FILL; image::ROOM];
     let written = network_file::write_network(network, &mut buffer[..room]);
     show_written(rt, &buffer, written)
