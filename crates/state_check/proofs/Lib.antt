@@ -1,3 +1,2 @@
 pub mod Same
 pub mod Sessions
-pub mod Parts

@@ -186,5 +186,5 @@ each_good : (net : Topology) (places : List Place) → list_all (λ p. good_sess
 each_good net [] = refl
 each_good net (p ∷ places) = ap (λ (b : Bool). good_session net (session_of p) && b) (each_good net places)
 
-pub all_good : (net : Topology) (n : ℕ) (places : List Place) → n ≤ length places → list_all (λ p. good_session net (session_of p)) (take n places) ≡ all_of (good_session net) (in_places n places)
-all_good net n places h = each_good net (take n places) ∙ rw (firsts_take n places no_place h)
+pub sessions_told : (net : Topology) (n : ℕ) (places : List Place) → n ≤ length places → (b : Bool) → b ≡ list_all (λ p. good_session net (session_of p)) (take n places) → b ≡ all_of (good_session net) (in_places n places)
+sessions_told net n places h b e = e ∙ each_good net (take n places) ∙ rw (firsts_take n places no_place h)

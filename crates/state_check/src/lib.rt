@@ -59,6 +59,7 @@ fn good_sessions(network: Network, table: Table) -> bool
 }
 
 // Whether the stored state handed to a call is broken: check 0.
+#[tactic(auto, using(crate::proofs::Sessions::check_fails, crate::proofs::Sessions::check_passes, table::proofs::Live::in_length), unfolding(ledger::specs::Sound::intact, ledger::specs::Sound::sound, ledger::specs::Sound::good_network, ledger::specs::Sound::few_sessions))]
 pub fn broken(st: State) -> bool
     ensures { result ≡ not (intact (view_of st)) }
 {
