@@ -102,9 +102,9 @@ fn answer_over(t: u16, hops: [Hop; 8], n: usize) -> Result<Quoted, Refusal>
 }
 
 // The hops of a route that passed 12 to 15, over the frames now free.
-pub fn free_hops(st: State, route: &[u8]) -> [Hop; 8]
-    requires { (intact (view_of st) ≡ true) × (route_check (topology_of st.network) route.now ≡ given pass) }
-    ensures { result ≡ firsts 8 (hops_of (topology_of st.network) (live_of st.table) route.now) blank_hop }
+pub fn free_hops(st: &State, route: &[u8]) -> [Hop; 8]
+    requires { (intact (view_of st.now) ≡ true) × (route_check (topology_of st.now.network) route.now ≡ given pass) }
+    ensures { result ≡ firsts 8 (hops_of (topology_of st.now.network) (live_of st.now.table) route.now) blank_hop }
 {
     let held = table::held_words(st.table);
     routes::route_hops(st.network, &held, route)
@@ -116,7 +116,7 @@ pub fn quote(st: State, route: &[u8]) -> Result<Quoted, Refusal>
     ensures { Quotes (reply (view_of st) (Quote route.now)) result }
 {
     routes::check_route(st.network, route)?;
-    answer_over(st.network.ticks, free_hops(st, route), route.len())
+    answer_over(st.network.ticks, free_hops(&st, route), route.len())
 }
 
 // Whether the number is live.
@@ -135,9 +135,9 @@ fn is_full(live: usize) -> bool
 }
 
 // The checks of a set-up after 0: 12 to 17.
-fn check_set_up(st: State, number: u32, route: &[u8]) -> Result<(), Refusal>
-    requires { intact (view_of st) ≡ true }
-    ensures { ruling result ≡ call_check (topology_of st.network) (live_of st.table) (SetUp number route.now) }
+fn check_set_up(st: &State, number: u32, route: &[u8]) -> Result<(), Refusal>
+    requires { intact (view_of st.now) ≡ true }
+    ensures { ruling result ≡ call_check (topology_of st.now.network) (live_of st.now.table) (SetUp number route.now) }
 {
     let network = st.network;
     routes::check_route(network, route)?;
@@ -173,13 +173,13 @@ pub fn set_up(st: State, number: u32, route: &[u8]) -> Served<Quoted>
     requires { intact (view_of st) ≡ true }
     ensures { Serves st (SetUp number route.now) result }
 {
-    if let Err(refusal) = check_set_up(st, number, route) {
+    if let Err(refusal) = check_set_up(&st, number, route) {
         return Served {
             answer: Err(refusal),
             state: st,
         };
     }
-    let hops = free_hops(st, route);
+    let hops = free_hops(&st, route);
     let finding = search::search(st.network.ticks, hops, route.len());
     let Some(schedule) = finding.schedule else {
         return Served {

@@ -14,13 +14,13 @@ pub returns-in_err-check_route : goal.returns-in_err-check_route
 returns-in_err-check_route c = passed_on _ _ _ c.from_residual.ensures ∙ checked_route _ _ _ _ _ c.check_route.ensures _ c.in_err-check_route.was
 
 pub is_live-live-requires : goal.is_live-live-requires
-is_live-live-requires c = few_live c.args.st c.requires
+is_live-live-requires c = few_live c.args.st.now c.requires
 
 pub returns-then-live : goal.returns-then-live
 returns-then-live c = checked_number _ _ _ _ _ c.check_route.ensures _ c.in_ok-check_route.was _ c.is_live-live.ensures c.if-live.true _ refl
 
 pub returns-then-full : goal.returns-then-full
-returns-then-full c = checked_places _ _ _ _ _ c.check_route.ensures _ c.in_ok-check_route.was _ c.is_live-live.ensures (search rules) _ (full_told c.args.st.table _ c.is_full-full.ensures) c.if-full.true _ refl
+returns-then-full c = checked_places _ _ _ _ _ c.check_route.ensures _ c.in_ok-check_route.was _ c.is_live-live.ensures (search rules) _ (full_told c.args.st.now.table _ c.is_full-full.ensures) c.if-full.true _ refl
 
 pub returns : goal.returns
-returns c = checked_all _ _ _ _ _ c.check_route.ensures _ c.in_ok-check_route.was _ c.is_live-live.ensures c.if-live.false _ (full_told c.args.st.table _ c.is_full-full.ensures) c.if-full.false
+returns c = checked_all _ _ _ _ _ c.check_route.ensures _ c.in_ok-check_route.was _ c.is_live-live.ensures c.if-live.false _ (full_told c.args.st.now.table _ c.is_full-full.ensures) c.if-full.false
