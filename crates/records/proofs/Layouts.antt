@@ -85,6 +85,11 @@ pub none_left : {A B : Type 0} {P : A → Type 0} {Q : B → Type 0} (fields : L
 none_left fields values l (inl x) = x.1.0
 none_left fields values l (inr x) = omega (arith, l.many, x.1.0)
 
+pub layout_low : (fields : List Field) → is_layout fields ≡ true → (k : ℕ) (d : Field) → k < length fields → (get_or fields k d).bit < 8
+layout_low [] e k d h = absurd (not-suc-le-zero h)
+layout_low (f ∷ fields) e zero d h = (leads f fields e).low
+layout_low (f ∷ fields) e (suc k) d h = layout_low fields (leads f fields e).others k d (le_of_suc-le-suc h)
+
 -- a value that fits in its field
 pub fits_at : (fs : List Field) (vs : List ℕ) → Fits fs vs → (j : ℕ) → j < length fs → get_or vs j 0 < 2 ^ (8 * (get_or fs j no_field).size)
 fits_at [] [] fits_none j h = absurd (not-suc-le-zero h)

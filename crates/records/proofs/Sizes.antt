@@ -28,10 +28,6 @@ size_small map f h = go (stands map f)
     go true = h
     go false = omega arith
 
-pub needed_none : (map : ℕ) → needed [] map ≡ 0
-unfolding needed
-needed_none map = refl
-
 pub needed_more : (f : Field) (fs : List Field) (map : ℕ) → needed (f ∷ fs) map ≡ size_in map f + needed fs map
 unfolding needed
 needed_more f fs map = refl

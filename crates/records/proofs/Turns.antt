@@ -8,6 +8,8 @@ use lib.Seq.{drop-drop}
 use Rattle.std.proofs.lemmas.List.{drop_more}
 use lib.ListN.{drop_of_length-le, length, get_or, drop, take, set, length-append, length-drop}
 use lib.Dec.{eqb}
+use Rattle.std.specs.List.{sum_by}
+use Rattle.std.proofs.lemmas.List.Sums.{sum_by-cons}
 use Rattle.places.specs.Places.{firsts}
 use Rattle.places.proofs.Parts.{part_rest}
 use Rattle.places.proofs.Firsts.{firsts_more, firsts_all}
@@ -15,10 +17,10 @@ use Rattle.numbers.specs.Numbers.{number_in}
 use Rattle.words.specs.Word.{bit_of, without_bit}
 use Rattle.records.specs.Reading.{size_in, needed, value_in, values_in, stray_bits, restated}
 use Rattle.records.specs.declared.Field.{Field}
-use Rattle.records.specs.Layout.{no_field, Laid, stands}
-use Rattle.records.proofs.Sizes.{size_small, needed_none, needed_more}
+use Rattle.records.specs.Layout.{is_layout, no_field, Laid, stands}
+use Rattle.records.proofs.Sizes.{size_small, needed_more}
 use Rattle.records.proofs.Maps.{map_without, stray_rule}
-use Rattle.records.proofs.Layouts.{laid_at, Left, Starts, Next, all_left, one_left}
+use Rattle.records.proofs.Layouts.{leads, Left, Starts, Next, all_left, one_left}
 
 -- ---- a field
 pub size_here : (map : ℕ) (f : Field) (b : Bool) → b ≡ bit_of map f.bit → b ≡ true → f.size ≡ size_in map f
@@ -48,28 +50,21 @@ pub restated_absent : (map : ℕ) (f : Field) (v : ℕ) (b : Bool) → b ≡ bit
 unfolding stands
 restated_absent map f v b e h = rw (← e, h)
 
+-- ---- the bytes that the fields need, summed
+pub sizes_summed : (map : ℕ) (fs : List Field) → sum_by (size_in map) fs ≡ needed fs map
+unfolding needed
+sizes_summed map [] = refl
+sizes_summed map (f ∷ fs) = omega (arith, sum_by-cons (size_in map) f fs, sizes_summed map fs)
+
+needed_small : (map : ℕ) (fs : List Field) → is_layout fs ≡ true → needed fs map ≤ 8 * length fs
+unfolding needed
+needed_small map [] l = omega arith
+needed_small map (f ∷ fs) l = omega (arith, size_small map f (leads f fs l).small, needed_small map fs (leads f fs l).others)
+
+pub sizes_small : (map : ℕ) (fs : List Field) → Laid fs → sum_by (size_in map) fs ≤ 64
+sizes_small map fs l = omega (arith, sizes_summed map fs, needed_small map fs l.layout, l.few)
+
 module _ (fs : List Field) where
-  -- ---- the bytes that the fields need
-  pub record Added (map total j : ℕ) : Type 0 where
-    pub within : j ≤ length fs
-    pub sum : total + needed (drop j fs) map ≡ needed fs map
-    pub small : total ≤ 8 * j
-
-  more_needed : (map j : ℕ) → j < length fs → needed (drop j fs) map ≡ size_in map (get_or fs j no_field) + needed (drop (j + 1) fs) map
-  more_needed map j h = ap (λ (l : List Field). needed l map) (drop_more fs j no_field h) ∙ needed_more (get_or fs j no_field) (drop (j + 1) fs) map
-
-  pub one_added : (map total j r : ℕ) → Laid fs → Added map total j → j < length fs → r ≡ size_in map (get_or fs j no_field) → Added map (total + r) (j + 1)
-  one_added map total j r l a h e = record {
-    within = omega arith;
-    sum = omega (arith, a.sum, more_needed map j h);
-    small = omega (arith, a.small, size_small map (get_or fs j no_field) (laid_at fs j l h).small);
-  }
-
-  pub all_added : (map total j : ℕ) → Laid fs → Added map total j → length fs ≤ j → (total ≡ needed fs map) × (total ≤ 64)
-  all_added map total j l a h =
-      let z : needed (drop j fs) map ≡ 0 = ap (λ (k : List Field). needed k map) (drop_of_length-le fs {i = j} h) ∙ needed_none map in
-      (omega (arith, a.sum), omega (arith, a.small, a.within, l.few))
-
   -- ---- the bits that are no field's
   abbrev pub Cleared : (map left j : ℕ) → Type 0
   Cleared map left j = map_without fs map ≡ map_without (drop j fs) left
@@ -83,6 +78,9 @@ module _ (fs : List Field) where
   all_cleared map left j l c h = sym (c ∙ rw (drop_of_length-le fs {i = j} h)) ∙ stray_rule fs map l
 
   -- ---- the values
+  more_needed : (map j : ℕ) → j < length fs → needed (drop j fs) map ≡ size_in map (get_or fs j no_field) + needed (drop (j + 1) fs) map
+  more_needed map j h = ap (λ (l : List Field). needed l map) (drop_more fs j no_field h) ∙ needed_more (get_or fs j no_field) (drop (j + 1) fs) map
+
   pub record Taken (map : ℕ) (s values : List ℕ) (at j : ℕ) : Type 0 where
     pub within : j ≤ length fs
     pub done : List ℕ

@@ -111,11 +111,7 @@ impl<const N: usize> Layout<N> {
     fn needed(&self, map: u64) -> usize
         ensures { (result ≡ needed self.now.fields map) × (result ≤ 64) }
     {
-        let mut total = 0;
-        for field in &self.fields {
-            total += size_in(map, *field);
-        }
-        total
+        self.fields.iter().map(|field| size_in(map, *field)).sum()
     }
 
     // The bits of a map byte that are no field's.

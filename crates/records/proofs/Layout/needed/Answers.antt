@@ -1,16 +1,25 @@
-use native.Mathlib.Omega.{arith}
-use Rattle.records.proofs.Turns.{one_added, all_added}
-use Rattle.records.proofs.Layouts.{laid_at}
+-- `records::Layout::needed` meets its contract. Assumes nothing.
+use mathlib.Core.Path.{◌≡◌, ◌∙◌}
+use borrow.Author.Rules.{rules}
+use Rattle.std.proofs.iter.Serving.{serving}
+use Rattle.std.specs.List.{sum_by}
+use Prim.Native.Nat.{ℕ, ◌<◌}
+use lib.ListN.{length, get_or}
+use Rattle.records.specs.declared.Field.{Field}
+use Rattle.records.specs.Reading.{size_in}
+use Rattle.records.proofs.Layouts.{layout_low}
+use Rattle.records.proofs.Turns.{sizes_summed, sizes_small}
 use Rattle.records.proofs.Layout.needed.Goals as goal
 
-pub size_in-total-requires : goal.size_in-total-requires
-size_in-total-requires g c = (laid_at c.args.self.now.fields c.loop-field.field-index c.args.self.now.laid (omega arith)).low
+pub sum-requires-clause-can : goal.sum-requires-clause-can
+sum-requires-clause-can g c =
+    let low : (k : ℕ) (d : Field) → k < length c.map.result.iter.rest.now → (get_or c.map.result.iter.rest.now k d).bit < 8 = rw (c.map.ensures.source, c.iter.ensures.rest) (layout_low c.args.self.now.fields c.args.self.now.laid.layout) in
+    grind serving
 
-pub overflow_add-total : goal.overflow_add-total
-overflow_add-total g c = omega (arith, (one_added c.args.self.now.fields _ _ c.loop-field.field-index _ c.args.self.now.laid c.loop-field.invariant (omega arith) c.size_in-total.ensures).small, c.args.self.now.laid.few)
-
-pub loop-field-preserved : goal.loop-field-preserved
-loop-field-preserved g c = one_added c.args.self.now.fields _ _ c.loop-field.field-index _ c.args.self.now.laid c.loop-field.invariant (omega arith) c.size_in-total.ensures
+pub sum-requires-clause-fits : goal.sum-requires-clause-fits
+sum-requires-clause-fits g c = let small = sizes_small c.args.map c.args.self.now.fields c.args.self.now.laid in search rules
 
 pub returns : goal.returns
-returns g c = all_added c.args.self.now.fields _ _ c.loop-field.field-index c.args.self.now.laid c.loop-field.invariant (omega arith)
+returns g c =
+    let sum : c.sum.result ≡ sum_by (size_in c.args.map) c.args.self.now.fields = search rules in
+    (sum ∙ sizes_summed _ _, rw sum (sizes_small c.args.map c.args.self.now.fields c.args.self.now.laid))
