@@ -531,16 +531,17 @@ fn recover(preds: &[[u8; 256]; 7], j: usize, p: u8, out: &mut [u8; 8])
     recover(preds, j - 1, preds[j - 1][usize::from(p)], out)
 }
 
-// The schedule with this delay, whose frame and colour at each hop are at the first n places; unused ones hold 0. Check 12.
-fn apart(delay: Delay, n: usize, places: [u8; 8]) -> Schedule
-    requires { n ≤ 8 }
-    ensures { (result.delay ≡ delay) × Parts n places result.frames result.colours }
+// The schedule with this delay and the frame and the colour at each of these places; unused ones
+// hold 0. Check 12.
+fn apart(delay: Delay, places: &[u8]) -> Schedule
+    requires { length places.now ≤ 8 }
+    ensures { (result.delay ≡ delay) × Parts (length places.now) places.now result.frames result.colours }
 {
     let mut frames = [0u8; 8];
     let mut colours = [0u8; 8];
-    for j in 0..n {
-        frames[j] = places[j] % 64;
-        colours[j] = places[j] / 64;
+    for (j, place) in places.iter().enumerate() {
+        frames[j] = *place % 64;
+        colours[j] = *place / 64;
     }
     Schedule {
         delay,
@@ -572,6 +573,6 @@ pub fn search(t: u16, hops: [Hop; 8], n: usize) -> Finding
     }
     let mut places = [0u8; 8];
     recover(&preds, last, end.place, &mut places);
-    let schedule = Some(apart(Delay(least), n, places));
+    let schedule = Some(apart(Delay(least), &places[..n]));
     Finding { schedule, count }
 }

@@ -7,6 +7,7 @@ use lib.ListN.{length, length-replicate}
 use borrow.Author.Rules.{rules}
 use Rattle.search.specs.Inner.{chain_of}
 use Rattle.search.proofs.Ending.{blank_preds, blank_wide, node_chain, begun_sweeps, ends_blocked, ends_found, chain_ready, chain_placed, chain_long, nodes_long}
+use Rattle.search.proofs.Recovering.{first_parted}
 use Rattle.search.proofs.Findings.{finds_blocked, finds_schedule}
 use Rattle.search.proofs.search.Goals as goal
 
@@ -69,6 +70,6 @@ returns c = let a = c.args in
     (rw e at (chain_long a.t a.hops (a.n - 1) begun blank_preds z row preds w.result w.ensures b.result.key b.result.place b.ensures l f.ensures))
     (rw e at (chain_placed a.t a.hops (a.n - 1) begun blank_preds z row preds w.result w.ensures b.result.key b.result.place b.ensures l f.ensures low))
     (rw e at r.ensures)
-    parts.ensures.1
+    (first_parted a.n r.new.out parts.result.frames parts.result.colours (omega (arith, c.recover.array_long, c.requires.few_hops)) parts.ensures.1)
     w.result
     (rw parts.ensures.0 (rw e at (ends_found a.t a.hops (a.n - 1) begun blank_preds z row preds w.result w.ensures b.result.key b.result.place b.ensures l f.ensures low)))
