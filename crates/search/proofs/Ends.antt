@@ -8,7 +8,9 @@ use native.Mathlib.Nat.{eq-or-lt_of_le, suc-mul, mul-le-mul_right}
 use native.Mathlib.Decide.{dec_lt}
 use native.Mathlib.Omega.{arith}
 use lib.Dec.{eqb, ltb}
-use lib.ListN.{get_or}
+use lib.ListN.{get_or, length, take, drop, length-drop}
+use lib.Seq.{length-take-le, get_or-take}
+use Rattle.std.proofs.lemmas.List.{get_or-drop}
 use borrow.Author.Tests.{ltb-true, ltb-false, eqb-true, eqb-false}
 use Rattle.lists.specs.Order.{Precedes}
 use Rattle.lists.proofs.Digits.{digits_back, digits_below, below_first, below_second}
@@ -21,6 +23,15 @@ use Rattle.search.specs.Inner.{cell_reach, way_of, node_in, by_node, end_offers,
 use Rattle.search.proofs.Cells.{reach_after, reach_never, way_best, way_nobody}
 use Rattle.search.proofs.Placing.{node_cell, place_back}
 use Rattle.search.proofs.Landing.{in_order}
+use Rattle.search.proofs.Sweeping.{best_cong}
+
+-- the frames of a lane, read as a list of their own
+pub lane_listed : (row : List ℕ) (c frames n : ℕ) → n ≡ frames → 64 * c + frames ≤ length row
+    → best_of (end_offers (take n (drop (64 * c) row))) (length (take n (drop (64 * c) row))) ≡ best_of (lane_offers row c) frames
+lane_listed row c frames n e h =
+    let long : length (take n (drop (64 * c) row)) ≡ frames = length-take-le n (drop (64 * c) row) (omega (arith, length-drop (64 * c) row)) ∙ e in
+    rw long (best_cong (end_offers (take n (drop (64 * c) row))) (lane_offers row c) frames (λ k l.
+    ap (λ (x : ℕ). last_offer (cell_reach x)) (get_or-take n (drop (64 * c) row) k 0 (omega arith) ∙ get_or-drop (64 * c) row k 0)))
 
 -- what a cell offers as an end
 end_offers_lem : (x : ℕ) → x < 32768 → last_offer (cell_reach x) ≡ offer x 0

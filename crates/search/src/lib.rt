@@ -22,7 +22,7 @@ ghost use Rattle.forwarding.specs.Hops.{no_hop, Ready};
 ghost use Rattle.forwarding.specs.Route.{nodes, stage};
 ghost use Rattle.forwarding.proofs.Windows.{first_frame};
 ghost use Rattle.search.specs.Reading.{Finds};
-ghost use Rattle.search.specs.Inner.{cell_reach, way_of, cell_if, Keys, Trail, Windows, Entered, Gathers, leadings, Gathering, Settled, Settling, Lane, LaneSet, low_turn, high_turn, near_span, NearRow, NearLane, LanePut, Coloured, Colouring, Kept, Entering, Advanced, by_node, FirstLane, FirstRow, Sweeps, Swept, lane_offers, end_sooner, EndOf, chain_of, ChainFits, Parts};
+ghost use Rattle.search.specs.Inner.{cell_reach, way_of, cell_if, Keys, Trail, Windows, Entered, Gathers, leadings, Gathering, Settled, Settling, Lane, LaneSet, low_turn, high_turn, near_span, NearRow, NearLane, LanePut, Coloured, Colouring, Kept, Entering, Advanced, by_node, FirstLane, FirstRow, Sweeps, Swept, end_offers, end_sooner, EndOf, chain_of, ChainFits, Parts};
 
 use forwarding::{Delay, Hold, Hop};
 
@@ -464,19 +464,18 @@ fn sweep(
     count
 }
 
-// The least cell of the lane of colour c, and the smallest frame that has it.
-fn best_frame(row: &[u16; 256], c: u16, frames: u16) -> Choice
-    requires { (frames ≤ 64) × (c < 4) }
-    ensures { (way_of result.key 0 result.place ≡ best_of (lane_offers row.now c) frames) × (result.place < 64) }
+// The least cell of the frames of a lane, and the smallest frame that has it.
+fn best_frame(lane: &[u16]) -> Choice
+    requires { length lane.now ≤ 64 }
+    ensures { (way_of result.key 0 result.place ≡ best_of (end_offers lane.now) (length lane.now)) × (result.place < 64) }
 {
-    let first = 64 * c as usize;
     let mut end = Choice {
         key: NEVER,
         place: 0,
     };
-    for f in 0..frames {
+    for (f, cell) in lane.iter().enumerate() {
         let choice = Choice {
-            key: row[first + f as usize],
+            key: *cell,
             place: f as u8,
         };
         end = sooner(end, choice);
@@ -507,7 +506,8 @@ fn best_end(row: &[u16; 256], frames: u16, colours: u16) -> Choice
         place: 0,
     };
     for c in 0..colours {
-        let best = best_frame(row, c, frames);
+        let first = 64 * c as usize;
+        let best = best_frame(&row[first..first + frames as usize]);
         let other = Choice {
             key: best.key,
             place: (64 * c) as u8 + best.place,

@@ -1,6 +1,7 @@
-use mathlib.Core.Path.{refl}
-use Prim.Native.Nat.{◌+◌, ◌*◌}
-use Rattle.search.proofs.Ends.{end_more}
+use mathlib.Core.Path.{refl, ◌∙◌}
+use Prim.Native.Nat.{◌+◌, ◌-◌, ◌*◌}
+use native.Mathlib.Omega.{arith}
+use Rattle.search.proofs.Ends.{lane_listed, end_more}
 use Rattle.search.proofs.best_end.Goals as goal
 
 pub loop-c-preserved : goal.loop-c-preserved
@@ -9,4 +10,4 @@ loop-c-preserved c = let a = c.args in
     let b = c.best_frame-best in
     let r = c.sooner_end-end in
     end_more a.row.now a.frames l.c l.end.key l.end.place b.result.key b.result.place (64 * l.c + b.result.place) r.result.key r.result.place
-    l.invariant b.ensures.0 b.ensures.1 refl r.ensures.0 r.ensures.1
+    l.invariant (b.ensures.0 ∙ lane_listed a.row.now l.c a.frames (64 * l.c + a.frames - 64 * l.c) (omega arith) (omega (arith, c.loop-c-test.true))) b.ensures.1 refl r.ensures.0 r.ensures.1

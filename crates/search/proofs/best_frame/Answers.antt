@@ -1,4 +1,4 @@
-use Prim.Native.Nat.{ℕ, ◌+◌, ◌*◌}
+use Prim.Native.Nat.{ℕ}
 use native.Mathlib.Numerals.{add-one}
 use native.Mathlib.Omega.{arith}
 use lib.Dec.{ltb}
@@ -14,8 +14,8 @@ pub loop-f-preserved : goal.loop-f-preserved
 loop-f-preserved c = let a = c.args in
     let l = c.loop-f in
     let r = c.sooner-end in
-    let cell : ℕ = get_or a.row.now (64 * a.c + l.f) 0 in
+    let cell : ℕ = get_or a.lane.now l.f 0 in
     let e = end_chosen l.end.key l.end.place cell l.f r.result.key r.result.place r.ensures.0 r.ensures.1 in (
       rw (add-one l.f) (rw l.invariant.0 at e),
-      rw r.ensures.1 (few_chosen (ltb cell l.end.key) l.end.place l.f l.invariant.1 (omega (arith, c.loop-f-test.true, c.requires.0))),
+      rw r.ensures.1 (few_chosen (ltb cell l.end.key) l.end.place l.f l.invariant.1 (omega (arith, c.loop-f-test.true, c.requires))),
     )

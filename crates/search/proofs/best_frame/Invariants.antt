@@ -3,8 +3,8 @@
 use mathlib.Core.Path.{◌≡◌}
 use Prim.Native.Nat.{◌<◌}
 use Rattle.trellis.proofs.Survivor.{best_of}
-use Rattle.search.specs.Inner.{way_of, lane_offers}
+use Rattle.search.specs.Inner.{way_of, end_offers}
 use Rattle.search.proofs.best_frame.Given as goal
 
 abbrev pub invariant-loop-f : goal.invariant-loop-f
-invariant-loop-f l = (way_of l.end.key 0 l.end.place ≡ best_of (lane_offers l.row l.c) l.f) × (l.end.place < 64)
+invariant-loop-f l = (way_of l.end.key 0 l.end.place ≡ best_of (end_offers l.lane) l.f) × (l.end.place < 64)
