@@ -5,6 +5,7 @@
 ghost use Rattle.std.specs.Prelude.{◌≡◌, true, ◌≤◌, length};
 ghost use Rattle.refusals.specs.Refusals.{refusal_number, refusal_count, given};
 ghost use Rattle.ledger.specs.Sound.{intact};
+ghost use Rattle.ledger.specs.Calls.{SetUp, Quote, Release};
 ghost use Rattle.ledger.specs.Calls as rules;
 ghost use Rattle.call_records.specs.Records.{calls_in};
 ghost use Rattle.call_records.specs.Reading.{call_of};
@@ -59,27 +60,47 @@ fn put_release(page: &mut Page<'_>, place: u32, answer: Result<(), Refusal>)
     }
 }
 
-// A call and its line.
+// A set-up and its line.
+fn set_up(page: &mut Page<'_>, place: u32, st: State, number: u32, route: &[u8]) -> State
+    requires { (intact (view_of st) ≡ true) × HasRoom (line_of place (view_of st) (given (SetUp number route.now))) page.old }
+    ensures { Turns st (given (SetUp number route.now)) place page.old page.new result }
+{
+    let served = state::set_up(st, number, route);
+    put_answer(page, place, b'S', served.answer, route.len());
+    served.state
+}
+
+// The line of a quote.
+fn quote(page: &mut Page<'_>, place: u32, st: State, route: &[u8])
+    requires { (intact (view_of st) ≡ true) × HasRoom (line_of place (view_of st) (given (Quote route.now))) page.old }
+    ensures { Turns st (given (Quote route.now)) place page.old page.new st }
+{
+    let answer = state::quote(st, route);
+    put_answer(page, place, b'Q', answer, route.len());
+}
+
+// A release and its line.
+fn release(page: &mut Page<'_>, place: u32, st: State, number: u32) -> State
+    requires { (intact (view_of st) ≡ true) × HasRoom (line_of place (view_of st) (given (Release number))) page.old }
+    ensures { Turns st (given (Release number)) place page.old page.new result }
+{
+    let served = state::release(st, number);
+    put_release(page, place, served.answer);
+    served.state
+}
+
+// A call and its line. Each arm has a function of its own, so that a call lays no state of another arm in memory.
 fn serve(page: &mut Page<'_>, place: u32, st: State, call: Call<'_>) -> State
     requires { (intact (view_of st) ≡ true) × HasRoom (line_of place (view_of st) (given (call_of call))) page.old }
     ensures { Turns st (given (call_of call.entry)) place page.old page.new result }
 {
     match call {
-        Call::SetUp(number, route) => {
-            let served = state::set_up(st, number, route);
-            put_answer(page, place, b'S', served.answer, route.len());
-            served.state
-        }
+        Call::SetUp(number, route) => set_up(page, place, st, number, route),
         Call::Quote(route) => {
-            let answer = state::quote(st, route);
-            put_answer(page, place, b'Q', answer, route.len());
+            quote(page, place, st, route);
             st
         }
-        Call::Release(number) => {
-            let served = state::release(st, number);
-            put_release(page, place, served.answer);
-            served.state
-        }
+        Call::Release(number) => release(page, place, st, number),
     }
 }
 
