@@ -192,6 +192,7 @@ fn may_turn(hop: Hop, c: u16, d: u16) -> bool
 
 // The transition from a spot of the hop before to a spot of a hop: its delay, if it is allowed.
 // Checks 3, 7, 8, 21, 23 and 24 guarantee what is required; the walk has found the first spot free.
+#[tactic(auto, using(crate::proofs::Steps::spot_in, crate::proofs::Steps::hold_lasts, forwarding::proofs::Holds::least_in), unfolding(crate::specs::Inner::step_if, forwarding::specs::Forwarding::may_hold))]
 fn step(t: u16, before: Hop, from: Spot, hop: Hop, to: Spot) -> Option<Delay>
     requires { (t ≤ 960) × (from.frame < before.frames) × (before.frames ≤ 64) × HopReady t hop }
     ensures { walked_delay result ≡ step_if t before hop (spot_of from) (spot_of to) }
