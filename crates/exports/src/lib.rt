@@ -122,7 +122,7 @@ pub fn frames_free_frames(file: &[u8], calls: &[u8], link: u8) -> u64
 fn put_number(out: &mut [u64], number: u64) -> Result<usize, Refusal>
     ensures { Writes (in_room 1 (length out.old) (number ∷ [])) out.old out.new result }
 {
-    if out.len() < 1 {
+    if out.is_empty() {
         return Err(Refusal::ShortBuffer);
     }
     out[0] = number;
