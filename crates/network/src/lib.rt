@@ -19,6 +19,7 @@ pub struct Link {
 }
 
 // A network ("Network"): T, the number of links, and their places, of which as many are used.
+// Kept: the number beside the places, since `check_network` refuses one above them with 2.
 #[derive(Clone, Copy, PartialEq, Eq)]
 pub struct Network {
     pub ticks: u16,

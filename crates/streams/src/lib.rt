@@ -33,6 +33,7 @@ pub fn read_full<R: Read>(input: &mut R, buffer: &mut [u8]) -> usize
 }
 
 // The first place of a byte between two places of a text, or the second place where there is none.
+// Kept: a place and no Option, since callers cut the text there in either case.
 pub fn find(text: &[u8], from: usize, to: usize, byte: u8) -> usize
     requires { (from ≤ to) × (to ≤ length text.now) }
     ensures within { (from ≤ result) × (result ≤ to) }

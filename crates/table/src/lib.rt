@@ -30,6 +30,7 @@ pub struct Place {
 }
 
 // The live sessions: how many, and their places.
+// Kept: both numbers beside places, since check 0 (`intact`) refuses one above them.
 #[derive(Clone, Copy, PartialEq, Eq)]
 pub struct Table {
     pub live: usize,
