@@ -59,6 +59,7 @@ fn frames_apart(one: u16, other: u16) -> bool
 }
 
 // Whether check 15 refuses the route. The network passed its checks, and check 13 guarantees that it has the route's links.
+#[tactic(auto, using(crate::proofs::Links::known_place, crate::proofs::Links::at_frames, crate::proofs::Routes::two_apart, crate::proofs::Routes::two_agree, crate::proofs::Routes::all_agree))]
 fn rates_apart(network: Network, route: &[u8]) -> bool
     requires { (network_check (topology_of network) ≡ given pass) × (unknown_link (topology_of network) route.now ≡ false) }
     ensures { result ≡ rates_apart (rates_of (topology_of network) route.now) }
@@ -142,6 +143,7 @@ fn hop_of(link: Link, l: u8, held: &[u64; BANK]) -> Hop
 
 // The hops of a route that passed its checks, by the bank of held frames.
 // Unused places hold no hop.
+#[tactic(auto, using(crate::proofs::Hops::one_laid, crate::proofs::Routes::route_long))]
 pub fn route_hops(network: Network, held: &[u64; BANK], route: &[u8]) -> [Hop; 8]
     requires { (network_check (topology_of network) ≡ given pass) × (route_check (topology_of network) route.now ≡ given pass) }
     ensures { result ≡ firsts 8 (hops_from network.links held.now route.now) blank_hop }

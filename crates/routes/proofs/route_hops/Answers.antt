@@ -1,11 +1,6 @@
-use mathlib.Core.Path.{ap}
-use Prim.Native.Nat.{ℕ}
-use native.Mathlib.Omega.{arith}
-use lib.ListN.{get_or}
-use Rattle.network.specs.Network.{no_link}
 use Rattle.routes.proofs.Links.{in_places_lem, at_place, at_frames}
-use Rattle.routes.proofs.Routes.{route_long, passed_place}
-use Rattle.routes.proofs.Hops.{none_laid, one_laid}
+use Rattle.routes.proofs.Routes.{passed_place}
+use Rattle.routes.proofs.Hops.{none_laid}
 use Rattle.routes.proofs.route_hops.Goals as goal
 
 pub loop-j-init : goal.loop-j-init
@@ -18,13 +13,3 @@ pub hop_of-requires : goal.hop_of-requires
 hop_of-requires c = let known = passed_place c.args.network _ c.requires.1 c.loop-j.j c.loop-j-test.true in
     let frames = at_frames c.args.network _ known c.requires.0 _ c.from.ensures in
     (frames.0, frames.1, in_places_lem c.args.network _ known c.requires.0)
-
-pub offset_bounds-hops-j : goal.offset_bounds-hops-j
-offset_bounds-hops-j c = omega (arith, route_long _ _ c.requires.1)
-
-pub bounds-hops-j : goal.bounds-hops-j
-bounds-hops-j c = omega (arith, route_long _ _ c.requires.1)
-
-pub loop-j-preserved : goal.loop-j-preserved
-loop-j-preserved c = one_laid c.args.network.links _ c.args.route.now _ _ c.loop-j.invariant c.loop-j-test.true (route_long _ _ c.requires.1).1 _ _
-    (ap (λ (i : ℕ). get_or c.args.network.links i no_link) c.from.ensures) c.hop_of.ensures
