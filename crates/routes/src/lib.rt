@@ -1,4 +1,5 @@
 // The checks of a route, 12 to 15; what a route's links are to the search, its hops; and what frames over them are: a schedule with its delay and its cycles, or none.
+// Kept: that a network passed its checks is a clause; a type would ask more of the callers of `check_route` and `route_hops`.
 #![tactic(auto)]
 
 ghost use Rattle.std.specs.Prelude.{◌≡◌, false, ◌&&◌, ◌<◌, ◌≤◌, nat_le};
@@ -214,6 +215,7 @@ fn step(t: u16, before: Hop, from: Spot, hop: Hop, to: Spot) -> Option<Delay>
 }
 
 // Whether the frames in their colours are a schedule over the first n hops, and its delay. Checks 3, 7, 8, 21, 23, 24 and 12 guarantee what is required.
+// Kept: eight places and a number, as `Ready` has them.
 pub fn walk(t: u16, hops: [Hop; 8], frames: [u8; 8], colours: [u8; 8], n: usize) -> Option<Delay>
     requires { Ready t hops n }
     ensures { walked_delay result ≡ delay_if t (firsts n hops no_hop) (in_colours (firsts n frames 0) (firsts n colours 0)) }
@@ -232,6 +234,7 @@ pub fn walk(t: u16, hops: [Hop; 8], frames: [u8; 8], colours: [u8; 8], n: usize)
 }
 
 // The cycles of frames, one for each of the first n hops; unused places hold 0. Checks 7, 8, 21 and 12 bound the hops, and a schedule has frames of theirs.
+// Kept: eight places and a number, as `FramesLaid` has them.
 pub fn cycles(hops: [Hop; 8], frames: [u8; 8], n: usize) -> [u8; 8]
     requires { FramesLaid hops frames n }
     ensures { result ≡ firsts 8 (schedule_cycles (firsts n hops no_hop) (firsts n frames 0)) 0 }

@@ -552,6 +552,7 @@ fn apart(delay: Delay, places: &[u8]) -> Schedule
 
 // The least-delay schedule over hops 0 to n - 1, for a cycle of t ticks. Checks 3, 7, 8, 21, 23,
 // 24 and 12 guarantee what is required. Form: the search counts as it goes.
+// Kept: eight places and a number, as `Ready` has them.
 pub fn search(t: u16, hops: [Hop; 8], n: usize) -> Finding
     requires { Ready t hops n }
     ensures { Finds t hops n result }

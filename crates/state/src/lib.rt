@@ -1,5 +1,6 @@
 // The stored state, and the calls of the program on a state that isn't broken: check 0 has passed, which is what each call's `requires` asks.
 // The crate `sessions` offers these calls on every state, and those that the program doesn't make.
+// Kept: that a state isn't broken, and that a network passed, are clauses; a type would ask more of the callers of `set_up`, `quote`, `release` and `fresh_state`.
 #![tactic(auto)]
 
 ghost use Rattle.std.specs.Prelude.{◌≡◌, true, ◌≤◌, leb, length};

@@ -150,6 +150,7 @@ impl Page<'_> {
     }
 
     // The line of a call that was refused.
+    // Kept: a number and a count, since a `Refusal` would ask more of callers.
     pub fn put_refused(&mut self, place: u32, letter: u8, number: u8, count: u32)
         requires { HasRoom (line place letter (refusal number count)) self.old }
         ensures { Adds (line place letter (refusal number count)) self.old self.new }
@@ -169,6 +170,7 @@ impl Page<'_> {
     }
 
     // The single line of a network file that is refused.
+    // Kept: a number, since a `Refusal` would ask more of callers.
     pub fn put_network(&mut self, number: u8)
         requires { HasRoom (network_line number) self.old }
         ensures { Adds (network_line number) self.old self.new }

@@ -71,6 +71,7 @@ fn row_before(row: &[u64; 64], before: Hop, hop: Hop) -> [u64; 64]
 
 // The number of schedules over hops 0 to n - 1, each of one colour. Callers guarantee checks 7, 8,
 // 12 and 21.
+// Kept: eight places and a number, as `Ready` has them.
 pub fn number_over(hops: [Hop; 8], n: usize) -> u64
     requires { ((T : ℕ) × Ready T hops n) × ((j : ℕ) → j < n → (get_or hops j no_hop).colours ≡ 1) }
     ensures { result ≡ route_ways (firsts n hops no_hop) }
