@@ -3,10 +3,9 @@
 // window of the next hop's frames, a difference of running sums: the work does not grow with Z.
 #![tactic(auto)]
 
-ghost use Rattle.std.specs.Prelude.{◌≡◌, ℕ, ◌+◌, ◌*◌, ◌%◌, ◌<◌, ◌≤◌, get_or};
+ghost use Rattle.std.specs.Prelude.{◌≡◌, ℕ, ◌+◌, ◌*◌, ◌%◌, ◌<◌, ◌≤◌, get_or, length};
 ghost use Rattle.lists.specs.Count.{one_if, sum_below};
 ghost use Rattle.words.specs.Word.{bit_of};
-ghost use Rattle.places.specs.Places.{firsts};
 ghost use Rattle.forwarding.specs.Hops.{no_hop, Ready};
 ghost use Rattle.forwarding.specs.Ways.{route_ways};
 ghost use Rattle.ways.specs.Inner.{free_ways, SmallRow, CycleSums, LeadsInto, RowBefore};
@@ -69,15 +68,14 @@ fn row_before(row: &[u64; 64], before: Hop, hop: Hop) -> [u64; 64]
     ways
 }
 
-// The number of schedules over hops 0 to n - 1, each of one colour. Callers guarantee checks 7, 8,
-// 12 and 21.
-// Kept: eight places and a number, as `Ready` has them.
-pub fn number_over(hops: [Hop; 8], n: usize) -> u64
-    requires { ((T : ℕ) × Ready T hops n) × ((j : ℕ) → j < n → (get_or hops j no_hop).colours ≡ 1) }
-    ensures { result ≡ route_ways (firsts n hops no_hop) }
+// The number of schedules over the hops, each of one colour. Callers guarantee checks 7, 8, 12 and
+// 21.
+pub fn number_over(hops: &[Hop]) -> u64
+    requires { ((T : ℕ) × Ready T hops.now (length hops.now)) × ((j : ℕ) → j < length hops.now → (get_or hops.now j no_hop).colours ≡ 1) }
+    ensures { result ≡ route_ways hops.now }
 {
     let mut row = [1u64; 64];
-    for j in (1..n).rev() {
+    for j in (1..hops.len()).rev() {
         row = row_before(&row, hops[j - 1], hops[j]);
     }
     let start = hops[0];

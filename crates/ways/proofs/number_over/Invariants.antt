@@ -5,4 +5,4 @@ use Rattle.ways.proofs.Hops.{Counts}
 use Rattle.ways.proofs.number_over.Given as goal
 
 abbrev pub invariant-loop-j : goal.invariant-loop-j
-invariant-loop-j l = Counts l.hops l.n (l.j - 1) l.row
+invariant-loop-j l = Counts l.hops (l.j - 1) l.row
