@@ -8,7 +8,7 @@ use native.Mathlib.Numerals.{add-one}
 use native.Mathlib.Decide.{dec_lt}
 use native.Mathlib.Omega.{arith}
 use lib.ListN.{length, get_or, take, set, replicate, length-map}
-use lib.Seq.{take-suc, take_all, length-take-le}
+use lib.Seq.{take-suc, take_all, length-take-le, get_or-take}
 use Rattle.lists.proofs.Count.{or_neither}
 use Rattle.places.specs.Places.{firsts}
 use Rattle.places.proofs.Firsts.{firsts_filled, firsts_more, firsts_get}
@@ -25,7 +25,7 @@ use Rattle.network.proofs.Tests.{cycle_passed, frames_passed, range_passed, leas
 use Rattle.network.proofs.Checks.{GoodLink, network_good}
 use Rattle.forwarding.specs.declared.Hop.{Hop}
 use Rattle.forwarding.specs.Forwarding.{least_hold}
-use Rattle.forwarding.specs.Hops.{no_hop, blank_hop, HopReady, AllReady}
+use Rattle.forwarding.specs.Hops.{no_hop, blank_hop, HopReady, AllReady, Ready}
 use Rattle.forwarding.specs.Schedule.{OneColour}
 use Rattle.forwarding.proofs.Transitions.{may_hold_lem, hold_may, hold_only}
 use Rattle.forwarding.proofs.ByHops.{all_ready}
@@ -127,6 +127,17 @@ link_hold_only net ss l e h r i m D =
       λ (q, z). k.1 (q, hold_may (hop_of net ss l) D z),
     )
 
+-- a part of an array that may be searched, as a route of its own
+pub taken_ready : (T n : ℕ) (hops : List Hop) → n ≤ length hops → Ready T hops n → Ready T (take n hops) (length (take n hops))
+taken_ready T n hops h r =
+    let e : length (take n hops) ≡ n = length-take-le n hops h in
+    rw e (record {
+      cycle = r.cycle;
+      some_hop = r.some_hop;
+      few_hops = r.few_hops;
+      each = λ j l. rw (get_or-take n hops j no_hop l) (r.each j l);
+    })
+
 pub map_place : (f : ℕ → Hop) (route : List ℕ) (j : ℕ) → j < length route → get_or (map f route) j no_hop ≡ f (get_or route j 0)
 map_place f [] j h = absurd (not-suc-le-zero h)
 map_place f (l ∷ route) zero h = refl
@@ -157,10 +168,7 @@ unfolding link_colours
 one_colour net ss [] = tt
 one_colour net ss (l ∷ route) = (refl, one_colour net ss route)
 
--- and so each hop laid into eight places
-pub one_each : (net : Topology) (ss : List Session) (route : List ℕ) (eight : List Hop) → eight ≡ firsts 8 (hops_of net ss route) blank_hop → length route ≤ 8
-    → (j : ℕ) → j < length route → (get_or eight j no_hop).colours ≡ 1
+-- and so each hop
+pub one_each : (net : Topology) (ss : List Session) (route : List ℕ) (j : ℕ) → j < length (hops_of net ss route) → (get_or (hops_of net ss route) j no_hop).colours ≡ 1
 unfolding link_colours
-one_each net ss route eight e few j h =
-    ap (λ (hops : List Hop). (get_or hops j no_hop).colours) e
-    ∙ ap (λ (x : Hop). x.colours) (firsts_get 8 j (hops_of net ss route) blank_hop no_hop (omega arith) (omega (arith, length-map route (hop_of net ss))) ∙ map_place (hop_of net ss) route j h)
+one_each net ss route j h = ap (λ (x : Hop). x.colours) (map_place (hop_of net ss) route j (rw length-map at h))

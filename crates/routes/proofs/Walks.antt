@@ -7,10 +7,11 @@ use Prim.Native.Nat.{ℕ, ◌+◌, ◌-◌, ◌*◌, ◌<◌, ◌≤◌}
 use native.Mathlib.Nat.{zero-add, add-zero, add_assoc}
 use native.Mathlib.Omega.{arith}
 use lib.Dec.{ltb}
-use lib.ListN.{get_or, drop}
+use lib.ListN.{length, get_or, drop, drop_of_length-le}
 use borrow.Author.Tests.{ltb-true}
 use Rattle.lists.proofs.Count.{and_both}
 use Rattle.std.specs.Prelude as std
+use Rattle.std.proofs.lemmas.List.{drop_more}
 use Rattle.places.specs.Places.{firsts}
 use Rattle.places.proofs.Firsts.{next_first, no_first}
 use Rattle.forwarding.specs.declared.Hop.{Hop}
@@ -71,16 +72,16 @@ module _ (T : ℕ) (g h : Hop) (x y : Spot) where
     go_on d e = let t = step_told d e in next_frame ∙ rw (t.0, ← t.1, add_assoc c d)
 
 -- ---- the frames before hop j are a schedule so far, the last of them on hop i
-pub record Along (T n : ℕ) (hops : List Hop) (frames colours : List ℕ) (c i j : ℕ) : Type 0 where
+pub record Along (T : ℕ) (hops : List Hop) (frames colours : List ℕ) (c i j : ℕ) : Type 0 where
   pub next : i + 1 ≡ j
   pub inside : get_or frames i 0 < (get_or hops i no_hop).frames
   pub small : c + 960 ≤ 960 * j
-  pub same : delay_if T (firsts n hops no_hop) (in_colours (firsts n frames 0) (firsts n colours 0))
-      ≡ delay_on T (get_or hops i no_hop) (record { frame = get_or frames i 0; colour = get_or colours i 0 }) c (drop j (firsts n hops no_hop)) (in_colours (drop j (firsts n frames 0)) (drop j (firsts n colours 0)))
+  pub same : delay_if T hops (in_colours (firsts (length hops) frames 0) (firsts (length hops) colours 0))
+      ≡ delay_on T (get_or hops i no_hop) (record { frame = get_or frames i 0; colour = get_or colours i 0 }) c (drop j hops) (in_colours (drop j (firsts (length hops) frames 0)) (drop j (firsts (length hops) colours 0)))
 
-module _ (T n : ℕ) (hops : List Hop) (frames colours : List ℕ) (r : Ready T hops n) where
+module _ (T : ℕ) (hops : List Hop) (frames colours : List ℕ) (r : Ready T hops (length hops)) where
   abbrev whole : Option ℕ
-  whole = delay_if T (firsts n hops no_hop) (in_colours (firsts n frames 0) (firsts n colours 0))
+  whole = delay_if T hops (in_colours (firsts (length hops) frames 0) (firsts (length hops) colours 0))
 
   -- the spot at a place
   abbrev at : ℕ → Spot
@@ -93,15 +94,15 @@ module _ (T n : ℕ) (hops : List Hop) (frames colours : List ℕ) (r : Ready T 
     free : b ≡ (is_on (get_or hops 0 no_hop) (at 0) && is_free (get_or hops 0 no_hop) (at 0))
     free = eb ∙ ap (λ (y : Spot). is_on (get_or hops 0 no_hop) y && is_free (get_or hops 0 no_hop) y) (is_at 0 x ex)
 
-    begins : whole ≡ cond b (delay_on T (get_or hops 0 no_hop) (at 0) 0 (drop 1 (firsts n hops no_hop)) (in_colours (drop 1 (firsts n frames 0)) (drop 1 (firsts n colours 0)))) none
+    begins : whole ≡ cond b (delay_on T (get_or hops 0 no_hop) (at 0) 0 (drop 1 hops) (in_colours (drop 1 (firsts (length hops) frames 0)) (drop 1 (firsts (length hops) colours 0)))) none
     begins =
-        ap₂ (delay_if T) (next_first n 0 hops no_hop r.some_hop) (ap₂ in_colours (next_first n 0 frames 0 r.some_hop) (next_first n 0 colours 0 r.some_hop))
-        ∙ first_frame_lem T (get_or hops 0 no_hop) (drop 1 (firsts n hops no_hop)) (at 0) (in_colours (drop 1 (firsts n frames 0)) (drop 1 (firsts n colours 0))) b free
+        ap₂ (delay_if T) (drop_more hops 0 no_hop r.some_hop) (ap₂ in_colours (next_first (length hops) 0 frames 0 r.some_hop) (next_first (length hops) 0 colours 0 r.some_hop))
+        ∙ first_frame_lem T (get_or hops 0 no_hop) (drop 1 hops) (at 0) (in_colours (drop 1 (firsts (length hops) frames 0)) (drop 1 (firsts (length hops) colours 0))) b free
 
     pub first_unfit : b ≡ false → none ≡ whole
     first_unfit g = sym (begins ∙ rw g)
 
-    pub first_along : b ≡ true → Along T n hops frames colours 0 0 1
+    pub first_along : b ≡ true → Along T hops frames colours 0 0 1
     first_along g = record {
       next = refl;
       inside = (spot_in (get_or hops 0 no_hop) (at 0) b free g).0;
@@ -109,20 +110,20 @@ module _ (T n : ℕ) (hops : List Hop) (frames colours : List ℕ) (r : Ready T 
       same = begins ∙ rw g;
     }
 
-  module _ (c i j : ℕ) (p : Along T n hops frames colours c i j) where
-    module _ (h : j < n) (x : declared.Spot) (ex : IsAt frames colours i x) (y : declared.Spot) (ey : IsAt frames colours j y) (v : std.Option Delay)
+  module _ (c i j : ℕ) (p : Along T hops frames colours c i j) where
+    module _ (h : j < length hops) (x : declared.Spot) (ex : IsAt frames colours i x) (y : declared.Spot) (ey : IsAt frames colours j y) (v : std.Option Delay)
         (ev : walked_delay v ≡ step_if T (get_or hops i no_hop) (get_or hops j no_hop) (spot_of x) (spot_of y)) where
       abbrev later : List Spot
-      later = in_colours (drop (j + 1) (firsts n frames 0)) (drop (j + 1) (firsts n colours 0))
+      later = in_colours (drop (j + 1) (firsts (length hops) frames 0)) (drop (j + 1) (firsts (length hops) colours 0))
 
       stepped : walked_delay v ≡ step_if T (get_or hops i no_hop) (get_or hops j no_hop) (at i) (at j)
       stepped = ev ∙ ap₂ (step_if T (get_or hops i no_hop) (get_or hops j no_hop)) (is_at i x ex) (is_at j y ey)
 
-      here : whole ≡ delay_on T (get_or hops i no_hop) (at i) c (get_or hops j no_hop ∷ drop (j + 1) (firsts n hops no_hop)) (at j ∷ later)
-      here = p.same ∙ rw (next_first n j hops no_hop h, next_first n j frames 0 h, next_first n j colours 0 h)
+      here : whole ≡ delay_on T (get_or hops i no_hop) (at i) c (get_or hops j no_hop ∷ drop (j + 1) hops) (at j ∷ later)
+      here = p.same ∙ rw (drop_more hops j no_hop h, next_first (length hops) j frames 0 h, next_first (length hops) j colours 0 h)
 
       pub no_step : v ≡ std.None → none ≡ whole
-      no_step e = sym (here ∙ stop T (get_or hops i no_hop) (get_or hops j no_hop) (at i) (at j) c (drop (j + 1) (firsts n hops no_hop)) later (sym (ap walked_delay e) ∙ stepped))
+      no_step e = sym (here ∙ stop T (get_or hops i no_hop) (get_or hops j no_hop) (at i) (at j) c (drop (j + 1) hops) later (sym (ap walked_delay e) ∙ stepped))
 
       module _ (d : Delay) (e : v ≡ std.Some d) where
         step_is : some d.0 ≡ step_if T (get_or hops i no_hop) (get_or hops j no_hop) (at i) (at j)
@@ -141,14 +142,14 @@ module _ (T n : ℕ) (hops : List Hop) (frames colours : List ℕ) (r : Ready T 
         pub step_small : c + d.0 ≤ 6720
         step_small = omega (arith, lasts.1, p.small, r.few_hops)
 
-        pub one_step : (w : ℕ) → w ≡ c + d.0 → Along T n hops frames colours w (j + 1 - 1) (j + 1)
-        one_step w ew = subst (λ (m : ℕ). Along T n hops frames colours w m (j + 1)) {x = j} {y = j + 1 - 1} (omega arith) (record {
+        pub one_step : (w : ℕ) → w ≡ c + d.0 → Along T hops frames colours w (j + 1 - 1) (j + 1)
+        one_step w ew = subst (λ (m : ℕ). Along T hops frames colours w m (j + 1)) {x = j} {y = j + 1 - 1} (omega arith) (record {
           next = refl;
           inside = lasts.0;
           small = omega (arith, lasts.1, p.small);
-          same = rw ew (here ∙ go_on T (get_or hops i no_hop) (get_or hops j no_hop) (at i) (at j) c (drop (j + 1) (firsts n hops no_hop)) later d.0 step_is);
+          same = rw ew (here ∙ go_on T (get_or hops i no_hop) (get_or hops j no_hop) (at i) (at j) c (drop (j + 1) hops) later d.0 step_is);
         })
 
-    pub all_steps : n ≤ j → some c ≡ whole
+    pub all_steps : length hops ≤ j → some c ≡ whole
     unfolding delay_on
-    all_steps h = sym (p.same ∙ rw (no_first n j hops no_hop h, no_first n j frames 0 h, add-zero))
+    all_steps h = sym (p.same ∙ rw (drop_of_length-le hops {i = j} h, no_first (length hops) j frames 0 h, add-zero))

@@ -2,14 +2,14 @@
 // Kept: that a network passed its checks is a clause; a type would ask more of the callers of `check_route` and `route_hops`.
 #![tactic(auto)]
 
-ghost use Rattle.std.specs.Prelude.{◌≡◌, false, ◌&&◌, ◌<◌, ◌≤◌, nat_le};
+ghost use Rattle.std.specs.Prelude.{◌≡◌, false, ◌&&◌, ◌<◌, ◌≤◌, length, nat_le};
 ghost use Rattle.std.specs.List.{list_any};
 ghost use Rattle.places.specs.Places.{firsts};
 ghost use Rattle.refusals.specs.Refusals.{given, pass, ruling};
 ghost use Rattle.network.specs.Network.{topology_of};
 ghost use Rattle.network.specs.Checks.{network_check};
 ghost use Rattle.forwarding.specs.Forwarding.{is_free, may_turn};
-ghost use Rattle.forwarding.specs.Hops.{no_hop, blank_hop, HopReady, Ready};
+ghost use Rattle.forwarding.specs.Hops.{blank_hop, HopReady, Ready};
 ghost use Rattle.forwarding.specs.Schedule.{in_colours, is_on};
 ghost use Rattle.forwarding.specs.Cycles.{schedule_cycles};
 ghost use Rattle.ledger.specs.Sessions.{link_colours, link_turn};
@@ -214,17 +214,16 @@ fn step(t: u16, before: Hop, from: Spot, hop: Hop, to: Spot) -> Option<Delay>
     Some(forwarding::delay_of(hold, time))
 }
 
-// Whether the frames in their colours are a schedule over the first n hops, and its delay. Checks 3, 7, 8, 21, 23, 24 and 12 guarantee what is required.
-// Kept: eight places and a number, as `Ready` has them.
-pub fn walk(t: u16, hops: [Hop; 8], frames: [u8; 8], colours: [u8; 8], n: usize) -> Option<Delay>
-    requires { Ready t hops n }
-    ensures { walked_delay result ≡ delay_if t (firsts n hops no_hop) (in_colours (firsts n frames 0) (firsts n colours 0)) }
+// Whether the frames in their colours, one for each hop, are a schedule over the hops, and its delay. Checks 3, 7, 8, 21, 23, 24 and 12 guarantee what is required.
+pub fn walk(t: u16, hops: &[Hop], frames: [u8; 8], colours: [u8; 8]) -> Option<Delay>
+    requires { Ready t hops.now (length hops.now) }
+    ensures { walked_delay result ≡ delay_if t hops.now (in_colours (firsts (length hops.now) frames 0) (firsts (length hops.now) colours 0)) }
 {
     if !spot_free(hops[0], spot_at(frames, colours, 0)) {
         return None;
     }
     let mut total = Delay(0);
-    for j in 1..n {
+    for j in 1..hops.len() {
         let from = spot_at(frames, colours, j - 1);
         let to = spot_at(frames, colours, j);
         let delay = step(t, hops[j - 1], from, hops[j], to)?;
@@ -233,14 +232,13 @@ pub fn walk(t: u16, hops: [Hop; 8], frames: [u8; 8], colours: [u8; 8], n: usize)
     Some(total)
 }
 
-// The cycles of frames, one for each of the first n hops; unused places hold 0. Checks 7, 8, 21 and 12 bound the hops, and a schedule has frames of theirs.
-// Kept: eight places and a number, as `FramesLaid` has them.
-pub fn cycles(hops: [Hop; 8], frames: [u8; 8], n: usize) -> [u8; 8]
-    requires { FramesLaid hops frames n }
-    ensures { result ≡ firsts 8 (schedule_cycles (firsts n hops no_hop) (firsts n frames 0)) 0 }
+// The cycles of frames, one for each hop; unused places hold 0. Checks 7, 8, 21 and 12 bound the hops, and a schedule has frames of theirs.
+pub fn cycles(hops: &[Hop], frames: [u8; 8]) -> [u8; 8]
+    requires { FramesLaid hops.now frames (length hops.now) }
+    ensures { result ≡ firsts 8 (schedule_cycles hops.now (firsts (length hops.now) frames 0)) 0 }
 {
     let mut cycles = [0u8; 8];
-    for at in 1..n {
+    for at in 1..hops.len() {
         let k = u16::from(frames[at - 1]);
         let i = u16::from(frames[at]);
         cycles[at] = forwarding::next_cycle(k, hops[at - 1], hops[at], i, cycles[at - 1]);

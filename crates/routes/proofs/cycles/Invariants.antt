@@ -4,4 +4,4 @@ use Rattle.routes.proofs.HopCycles.{CyclesSoFar}
 use Rattle.routes.proofs.cycles.Given as goal
 
 abbrev pub invariant-loop-at : goal.invariant-loop-at
-invariant-loop-at l = CyclesSoFar l.n l.hops l.frames l.cycles (l.at - 1) l.at
+invariant-loop-at l = CyclesSoFar l.hops l.frames l.cycles (l.at - 1) l.at
