@@ -442,21 +442,15 @@ fn first_row(hop: Hop, cells: &mut [u16; 256])
     }
 }
 
-// The rows of hops 0 to last, from a first row that is handed over; the places before go to
-// `preds`. Answers the transitions considered.
-fn sweep(
-    t: u16,
-    hops: [Hop; 8],
-    last: usize,
-    row: &mut [u16; 256],
-    preds: &mut [[u8; 256]; 7],
-) -> u32
-    requires { Sweeps t hops last row.old preds.old }
-    ensures { Swept t hops row.old last row.new preds.new result }
+// The rows of the hops, from a first row that is handed over; the places before go to `preds`.
+// Answers the transitions considered.
+fn sweep(t: u16, hops: &[Hop], row: &mut [u16; 256], preds: &mut [[u8; 256]; 7]) -> u32
+    requires { (0 < length hops.now) × Sweeps t hops.now (length hops.now - 1) row.old preds.old }
+    ensures { Swept t hops.now row.old (length hops.now - 1) row.new preds.new result }
 {
     let mut next = [NEVER; 256];
     let mut count: u32 = 0;
-    for j in 0..last {
+    for j in 0..hops.len() - 1 {
         let hop = hops[j + 1];
         count += advance(row, t, hops[j], hop, &mut next, &mut preds[j]);
         keep(&next, hop.colours, row);
@@ -550,19 +544,18 @@ fn apart(delay: Delay, places: &[u8]) -> Schedule
     }
 }
 
-// The least-delay schedule over hops 0 to n - 1, for a cycle of t ticks. Checks 3, 7, 8, 21, 23,
-// 24 and 12 guarantee what is required. Form: the search counts as it goes.
-// Kept: eight places and a number, as `Ready` has them.
-pub fn search(t: u16, hops: [Hop; 8], n: usize) -> Finding
-    requires { Ready t hops n }
-    ensures { Finds t hops n result }
+// The least-delay schedule over the hops, for a cycle of t ticks. Checks 3, 7, 8, 21, 23, 24 and 12
+// guarantee what is required. Form: the search counts as it goes.
+pub fn search(t: u16, hops: &[Hop]) -> Finding
+    requires { Ready t hops.now (length hops.now) }
+    ensures { Finds t hops.now (length hops.now) result }
 {
-    let last = n - 1;
+    let last = hops.len() - 1;
     let start = hops[0];
     let mut row = [NEVER; 256];
     first_row(start, &mut row);
     let mut preds = [[0u8; 256]; 7];
-    let count = sweep(t, hops, last, &mut row, &mut preds);
+    let count = sweep(t, hops, &mut row, &mut preds);
     let hop = hops[last];
     let end = best_end(&row, hop.frames, hop.colours);
     let least = end.key;
@@ -574,6 +567,6 @@ pub fn search(t: u16, hops: [Hop; 8], n: usize) -> Finding
     }
     let mut places = [0u8; 8];
     recover(&preds, last, end.place, &mut places);
-    let schedule = Some(apart(Delay(least), &places[..n]));
+    let schedule = Some(apart(Delay(least), &places[..hops.len()]));
     Finding { schedule, count }
 }

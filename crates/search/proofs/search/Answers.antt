@@ -4,7 +4,6 @@ use mathlib.Core.List.{reverse}
 use Prim.Native.Nat.{ℕ, ◌+◌, ◌-◌, ◌<◌}
 use native.Mathlib.Omega.{arith}
 use lib.ListN.{length, length-replicate}
-use borrow.Author.Rules.{rules}
 use Rattle.search.specs.Inner.{chain_of}
 use Rattle.search.proofs.Ending.{blank_preds, blank_wide, node_chain, begun_sweeps, ends_blocked, ends_found, chain_ready, chain_placed, chain_long, nodes_long}
 use Rattle.search.proofs.Recovering.{first_parted}
@@ -14,38 +13,36 @@ use Rattle.search.proofs.search.Goals as goal
 pub sweep-count-requires : goal.sweep-count-requires
 sweep-count-requires c = let a = c.args in
     let f = c.first_row in
-    let e : a.n - 1 + 1 ≡ a.n = omega (arith, c.requires.some_hop) in
-    begun_sweeps a.t a.hops (a.n - 1) f.new.cells _ (rw e c.requires) f.ensures blank_wide
+    let e : length a.hops.now - 1 + 1 ≡ length a.hops.now = omega (arith, c.requires.some_hop) in
+    (c.requires.some_hop, begun_sweeps a.t a.hops.now (length a.hops.now - 1) f.new.cells _ (rw e c.requires) f.ensures blank_wide)
 
 pub returns-then-least-ge-NEVER : goal.returns-then-least-ge-NEVER
 returns-then-least-ge-NEVER c = let a = c.args in
     let f = c.first_row in
     let w = c.sweep-count in
     let b = c.best_end-end in
-    let e : a.n - 1 + 1 ≡ a.n = omega (arith, c.requires.some_hop) in
+    let e : length a.hops.now - 1 + 1 ≡ length a.hops.now = omega (arith, c.requires.some_hop) in
     let begun = f.new.cells in
-    let z = begun_sweeps a.t a.hops (a.n - 1) begun blank_preds (rw e c.requires) f.ensures blank_wide in
-    let h : length a.hops ≡ 8 = search rules in
-    let l : a.n - 1 < length a.hops = omega (arith, c.requires.some_hop, c.requires.few_hops) in
+    let z = begun_sweeps a.t a.hops.now (length a.hops.now - 1) begun blank_preds (rw e c.requires) f.ensures blank_wide in
+    let l : length a.hops.now - 1 < length a.hops.now = omega (arith, c.requires.some_hop, c.requires.few_hops) in
     let row = w.new.row in
     let preds = w.new.preds in
-    finds_blocked a.t a.hops a.n c.requires h w.result
-    (rw e at (ends_blocked a.t a.hops (a.n - 1) begun blank_preds z row preds w.result w.ensures b.result.key b.result.place b.ensures l f.ensures c.if-least-ge-NEVER.true))
+    finds_blocked a.t a.hops.now (length a.hops.now) c.requires (omega arith) w.result
+    (rw e at (ends_blocked a.t a.hops.now (length a.hops.now - 1) begun blank_preds z row preds w.result w.ensures b.result.key b.result.place b.ensures l f.ensures c.if-least-ge-NEVER.true))
 
 pub recover-requires : goal.recover-requires
 recover-requires c = let a = c.args in
     let f = c.first_row in
     let w = c.sweep-count in
     let b = c.best_end-end in
-    let e : a.n - 1 + 1 ≡ a.n = omega (arith, c.requires.some_hop) in
+    let e : length a.hops.now - 1 + 1 ≡ length a.hops.now = omega (arith, c.requires.some_hop) in
     let begun = f.new.cells in
-    let z = begun_sweeps a.t a.hops (a.n - 1) begun blank_preds (rw e c.requires) f.ensures blank_wide in
-    let h : length a.hops ≡ 8 = search rules in
-    let l : a.n - 1 < length a.hops = omega (arith, c.requires.some_hop, c.requires.few_hops) in
+    let z = begun_sweeps a.t a.hops.now (length a.hops.now - 1) begun blank_preds (rw e c.requires) f.ensures blank_wide in
+    let l : length a.hops.now - 1 < length a.hops.now = omega (arith, c.requires.some_hop, c.requires.few_hops) in
     let row = w.new.row in
     let preds = w.new.preds in (
       omega (arith, c.requires.few_hops, c.requires.some_hop),
-      chain_ready a.t a.hops (a.n - 1) begun blank_preds z row preds w.result w.ensures b.result.key b.result.place b.ensures l f.ensures c.if-least-ge-NEVER.false,
+      chain_ready a.t a.hops.now (length a.hops.now - 1) begun blank_preds z row preds w.result w.ensures b.result.key b.result.place b.ensures l f.ensures c.if-least-ge-NEVER.false,
       length-replicate {A = ℕ} 8 0,
     )
 
@@ -54,22 +51,21 @@ returns c = let a = c.args in
     let f = c.first_row in
     let w = c.sweep-count in
     let b = c.best_end-end in
-    let e : a.n - 1 + 1 ≡ a.n = omega (arith, c.requires.some_hop) in
+    let e : length a.hops.now - 1 + 1 ≡ length a.hops.now = omega (arith, c.requires.some_hop) in
     let begun = f.new.cells in
-    let z = begun_sweeps a.t a.hops (a.n - 1) begun blank_preds (rw e c.requires) f.ensures blank_wide in
-    let h : length a.hops ≡ 8 = search rules in
-    let l : a.n - 1 < length a.hops = omega (arith, c.requires.some_hop, c.requires.few_hops) in
+    let z = begun_sweeps a.t a.hops.now (length a.hops.now - 1) begun blank_preds (rw e c.requires) f.ensures blank_wide in
+    let l : length a.hops.now - 1 < length a.hops.now = omega (arith, c.requires.some_hop, c.requires.few_hops) in
     let row = w.new.row in
     let preds = w.new.preds in
     let low = c.if-least-ge-NEVER.false in
     let r = c.recover in
     let parts = c.apart in
-    finds_schedule a.t a.hops a.n c.requires h (reverse (node_chain a.hops preds (a.n - 1) b.result.place)) (reverse (chain_of preds (a.n - 1) b.result.place))
+    finds_schedule a.t a.hops.now (length a.hops.now) c.requires (omega arith) (reverse (node_chain a.hops.now preds (length a.hops.now - 1) b.result.place)) (reverse (chain_of preds (length a.hops.now - 1) b.result.place))
     r.new.out parts.result
-    (rw e at (nodes_long a.t a.hops (a.n - 1) begun blank_preds z row preds w.result w.ensures b.result.key b.result.place b.ensures l f.ensures))
-    (rw e at (chain_long a.t a.hops (a.n - 1) begun blank_preds z row preds w.result w.ensures b.result.key b.result.place b.ensures l f.ensures))
-    (rw e at (chain_placed a.t a.hops (a.n - 1) begun blank_preds z row preds w.result w.ensures b.result.key b.result.place b.ensures l f.ensures low))
+    (rw e at (nodes_long a.t a.hops.now (length a.hops.now - 1) begun blank_preds z row preds w.result w.ensures b.result.key b.result.place b.ensures l f.ensures))
+    (rw e at (chain_long a.t a.hops.now (length a.hops.now - 1) begun blank_preds z row preds w.result w.ensures b.result.key b.result.place b.ensures l f.ensures))
+    (rw e at (chain_placed a.t a.hops.now (length a.hops.now - 1) begun blank_preds z row preds w.result w.ensures b.result.key b.result.place b.ensures l f.ensures low))
     (rw e at r.ensures)
-    (first_parted a.n r.new.out parts.result.frames parts.result.colours (omega (arith, c.recover.array_long, c.requires.few_hops)) parts.ensures.1)
+    (first_parted (length a.hops.now) r.new.out parts.result.frames parts.result.colours (omega (arith, c.recover.array_long, c.requires.few_hops)) parts.ensures.1)
     w.result
-    (rw parts.ensures.0 (rw e at (ends_found a.t a.hops (a.n - 1) begun blank_preds z row preds w.result w.ensures b.result.key b.result.place b.ensures l f.ensures low)))
+    (rw parts.ensures.0 (rw e at (ends_found a.t a.hops.now (length a.hops.now - 1) begun blank_preds z row preds w.result w.ensures b.result.key b.result.place b.ensures l f.ensures low)))
