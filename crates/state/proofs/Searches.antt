@@ -5,6 +5,7 @@ use mathlib.Core.List.{List}
 use Prim.Native.Nat.{ℕ, ◌≤◌}
 use native.Mathlib.Omega.{arith}
 use lib.ListN.{length, take, length-map}
+use lib.Seq.{take_all, length-take-le}
 use Rattle.std.specs.Prelude.{Some}
 use Rattle.trellis.specs.Answer.{nodes_of}
 use Rattle.places.specs.Places.{firsts}
@@ -27,7 +28,7 @@ use Rattle.ledger.specs.Sound.{intact}
 use Rattle.ledger.proofs.Intact.{intact_is}
 use Rattle.routes.specs.Hops.{hops_from}
 use Rattle.routes.proofs.Routes.{route_long, route_all_known}
-use Rattle.routes.proofs.Hops.{hops_held, route_ready}
+use Rattle.routes.proofs.Hops.{hops_held, route_ready, taken_ready}
 use Rattle.table.specs.Table.{live_of}
 use Rattle.state.specs.declared.State.{State}
 use Rattle.state.specs.State.{view_of}
@@ -42,10 +43,10 @@ pub record Searched (T n : ℕ) (hops : List Hop) (r : Finding) : Type 0 where
   pub places : (s : Schedule) → r.schedule ≡ Some s → s.frames ≡ firsts 8 (frames_of (nodes_of (route_answer T hops))) 0
   pub colour_places : (s : Schedule) → r.schedule ≡ Some s → s.colours ≡ firsts 8 (colours_of (nodes_of (route_answer T hops))) 0
 
--- the search of the first n of eight hops
-pub searched : (T n : ℕ) (eight : List Hop) (r : Finding) → n ≤ length eight → Finds T eight n r → Searched T n (firsts n eight no_hop) r
-searched T n eight r h a =
-    let same : take n eight ≡ firsts n eight no_hop = sym (firsts_take n eight no_hop h) in
+-- the search of all of them
+pub searched : (T : ℕ) (hops : List Hop) (r : Finding) → Finds T hops (length hops) r → Searched T (length hops) hops r
+searched T hops r a =
+    let same : take (length hops) hops ≡ hops = take_all (length hops) hops (omega arith) in
     record {
       answer = a.answer ∙ ap (route_answer T) same;
       places = λ s e. a.places s e ∙ ap (λ (l : List Hop). firsts 8 (frames_of (nodes_of (route_answer T l))) 0) same;
@@ -62,23 +63,33 @@ module _ (network : Network) (ss : List Session) (route : List ℕ) (passed : ne
   pub hops_eight : (held : List ℕ) → HeldWords held ss → (eight : List Hop) → eight ≡ firsts 8 (hops_from network.links held route) blank_hop → eight ≡ firsts 8 hops blank_hop
   hops_eight held w eight e = e ∙ ap (λ (l : List Hop). firsts 8 l blank_hop) (hops_held network held ss route w passed (route_all_known (topology_of network) route checked))
 
-  -- laid into eight places they are ready for a search, and are themselves read back
-  module _ (eight : List Hop) (e : eight ≡ firsts 8 hops blank_hop) where
-    pub hops_ready : Ready network.ticks eight (length route)
+  pub many_hops : length hops ≡ length route
+  many_hops = length-map route (hop_of (topology_of network) ss)
+
+  -- laid into eight places, they are read back where the route's places are lent
+  pub hops_room : (eight : List Hop) → eight ≡ firsts 8 hops blank_hop → length route ≤ length eight
+  hops_room eight e = omega (arith, ap length e, length_firsts 8 hops blank_hop, (route_long (topology_of network) route checked).1)
+
+  pub hops_lent : (eight : List Hop) → eight ≡ firsts 8 hops blank_hop → take (length route) eight ≡ hops
+  hops_lent eight e =
+      sym (firsts_take (length route) eight no_hop (hops_room eight e))
+      ∙ ap (λ (l : List Hop). firsts (length route) l no_hop) e
+      ∙ blanks_back 8 (length route) hops blank_hop no_hop many_hops (route_long (topology_of network) route checked).1
+
+  -- lent, they are ready for a search
+  module _ (lent : List Hop) (e : lent ≡ hops) where
+    pub hops_ready : Ready network.ticks lent (length lent)
     hops_ready =
-        subst (λ (l : List Hop). Ready network.ticks l (length route)) (sym e)
-        (subst (λ (T : ℕ). Ready T (firsts 8 hops blank_hop) (length route)) (ticks_told network) (route_ready (topology_of network) ss route passed checked))
+        let eight : List Hop = firsts 8 hops blank_hop in
+        subst (λ (l : List Hop). Ready network.ticks l (length l)) (hops_lent eight refl ∙ sym e)
+        (taken_ready network.ticks (length route) eight (hops_room eight refl)
+        (subst (λ (T : ℕ). Ready T eight (length route)) (ticks_told network) (route_ready (topology_of network) ss route passed checked)))
 
-    pub hops_back : firsts (length route) eight no_hop ≡ hops
-    hops_back =
-        ap (λ (l : List Hop). firsts (length route) l no_hop) e
-        ∙ blanks_back 8 (length route) hops blank_hop no_hop (length-map route (hop_of (topology_of network) ss)) (route_long (topology_of network) route checked).1
-
-    pub hops_searched : (r : Finding) → Finds network.ticks eight (length route) r → Searched (topology_of network).ticks (length route) hops r
+    pub hops_searched : (r : Finding) → Finds network.ticks lent (length lent) r → Searched (topology_of network).ticks (length route) hops r
     hops_searched r a =
         subst (λ (T : ℕ). Searched T (length route) hops r) (sym (ticks_told network))
-        (subst (λ (l : List Hop). Searched network.ticks (length route) l r) hops_back
-        (searched network.ticks (length route) eight r (omega (arith, ap length e, length_firsts 8 hops blank_hop, (route_long (topology_of network) route checked).1)) a))
+        (subst (λ (n : ℕ). Searched network.ticks n hops r) many_hops
+        (subst (λ (l : List Hop). Searched network.ticks (length l) l r) e (searched network.ticks lent r a)))
 
 -- ---- the hops of a route that passed on a state that isn't broken
 module _ (st : State) (ok : intact (view_of st) ≡ true) (route : List ℕ) (checked : route_check (topology_of st.network) route ≡ given pass) where
@@ -87,5 +98,15 @@ module _ (st : State) (ok : intact (view_of st) ≡ true) (route : List ℕ) (ch
       → eight ≡ firsts 8 (hops_of (topology_of st.network) (live_of st.table) route) blank_hop
   free_hops_lem = hops_eight st.network (live_of st.table) route (intact_is (view_of st) ok).network checked
 
-  pub free_ready : (eight : List Hop) → eight ≡ firsts 8 (hops_of (topology_of st.network) (live_of st.table) route) blank_hop → Ready st.network.ticks eight (length route)
+  pub free_room : (eight : List Hop) → eight ≡ firsts 8 (hops_of (topology_of st.network) (live_of st.table) route) blank_hop
+      → (length route ≤ length eight) × (length route ≡ length (take (length route) eight))
+  free_room eight e =
+      let room = hops_room st.network (live_of st.table) route (intact_is (view_of st) ok).network checked eight e in
+      (room, sym (length-take-le (length route) eight room))
+
+  pub free_lent : (eight : List Hop) → eight ≡ firsts 8 (hops_of (topology_of st.network) (live_of st.table) route) blank_hop
+      → take (length route) eight ≡ hops_of (topology_of st.network) (live_of st.table) route
+  free_lent = hops_lent st.network (live_of st.table) route (intact_is (view_of st) ok).network checked
+
+  pub free_ready : (lent : List Hop) → lent ≡ hops_of (topology_of st.network) (live_of st.table) route → Ready st.network.ticks lent (length lent)
   free_ready = hops_ready st.network (live_of st.table) route (intact_is (view_of st) ok).network checked

@@ -1,5 +1,5 @@
 -- Each return of a quote and of a set-up on a state that isn't broken. Assumes nothing.
-use mathlib.Core.Path.{◌≡◌, refl, sym, ap, subst, ◌∙◌}
+use mathlib.Core.Path.{◌≡◌, refl, sym, ap, ap₂, subst, ◌∙◌}
 use mathlib.Core.Bool.{Bool, true, false}
 use mathlib.Core.List.{List, [], ◌∷◌, ◌++◌}
 use Prim.Native.Nat.{ℕ, ◌<◌, ◌≤◌}
@@ -24,7 +24,6 @@ use Rattle.network.specs.declared.Network.{Network}
 use Rattle.forwarding.specs.declared.Held.{Held}
 use Rattle.forwarding.specs.declared.Hop.{Hop}
 use Rattle.forwarding.specs.Forwarding.{Spot}
-use Rattle.forwarding.specs.Hops.{no_hop, blank_hop}
 use Rattle.forwarding.specs.Schedule.{frames_of, colours_of, in_colours, IsSchedule}
 use Rattle.forwarding.specs.Cycles.{schedule_cycles}
 use Rattle.forwarding.specs.Route.{route_answer}
@@ -53,7 +52,7 @@ use Rattle.state.specs.declared.State.{State}
 use Rattle.state.specs.declared.Quoted.{Quoted}
 use Rattle.state.specs.State.{view_of, Quotes, Serves}
 use Rattle.state.specs.Inner.{found_places, found_quoted}
-use Rattle.state.proofs.Searches.{ticks_told, Searched, hops_ready, hops_back, hops_searched}
+use Rattle.state.proofs.Searches.{ticks_told, Searched, many_hops, hops_ready, hops_searched}
 use Rattle.state.proofs.Replies.{check_passed, route_refuses, number_refuses, places_refuse, none_refuses, quote_check, refused_reply, granted_reply, refusal_leaves, stays, moves}
 
 -- ---- the checks of a set-up after 0, in turn
@@ -166,15 +165,14 @@ module _ (st : State) (ok : intact (view_of st) ≡ true) where
   unfolding granted
   quote_granted route e = granted_reply (view_of st) ok (Quote route) (quote_check (topology_of st.network) (live_of st.table) route ∙ e)
 
-  -- answered over the route's hops in eight places
-  pub quote_quotes : (route : List ℕ) (checked : route_check (topology_of st.network) route ≡ given pass) (eight : List Hop)
-      → eight ≡ firsts 8 (hops_of (topology_of st.network) (live_of st.table) route) blank_hop → (q : Result Quoted Refusal)
-      → Quotes (answer_over st.network.ticks (firsts (length route) eight no_hop)) q → Quotes (reply (view_of st) (Quote route)) q
-  quote_quotes route checked eight e q w =
+  -- answered over the route's hops
+  pub quote_quotes : (route : List ℕ) (checked : route_check (topology_of st.network) route ≡ given pass) (lent : List Hop)
+      → lent ≡ hops_of (topology_of st.network) (live_of st.table) route → (q : Result Quoted Refusal)
+      → Quotes (answer_over st.network.ticks lent) q → Quotes (reply (view_of st) (Quote route)) q
+  quote_quotes route checked lent e q w =
       subst (λ (x : Reply). Quotes x q) (sym (quote_granted route checked))
       (subst (λ (T : ℕ). Quotes (answer_over T (hops_of (topology_of st.network) (live_of st.table) route)) q) (sym (ticks_told st.network))
-      (subst (λ (hops : List Hop). Quotes (answer_over st.network.ticks hops) q)
-      (hops_back st.network (live_of st.table) route (intact_is (view_of st) ok).network checked eight e) w))
+      (subst (λ (hops : List Hop). Quotes (answer_over st.network.ticks hops) q) e w))
 
   module _ (n : ℕ) (route : List ℕ) (v : Result ⊤ Refusal) (ev : ruling v ≡ call_check (topology_of st.network) (live_of st.table) (SetUp n route)) (u : ⊤) (eu : v ≡ Ok u) where
     abbrev net : Topology
@@ -200,16 +198,16 @@ module _ (st : State) (ok : intact (view_of st) ≡ true) where
     pub room_left : st.table.live < 96
     room_left = leb-false 96 st.table.live (full_told st.table (leb 96 st.table.live) refl ∙ (admitted net ss n route passed).room)
 
-    -- what the search of its hops in eight places found
-    module _ (eight : List Hop) (e8 : eight ≡ firsts 8 (hops_of net ss route) blank_hop) (f : Finding) (finds : Finds st.network.ticks eight (length route) f) where
+    -- what the search of its hops found
+    module _ (lent : List Hop) (el : lent ≡ hops_of net ss route) (f : Finding) (finds : Finds st.network.ticks lent (length lent) f) where
       checked : network_check net ≡ given pass
       checked = (intact_is (view_of st) ok).network
 
       s : Searched net.ticks (length route) (hops_of net ss route) f
-      s = hops_searched st.network ss route checked route_passed eight e8 f finds
+      s = hops_searched st.network ss route checked route_passed lent el f finds
 
-      back : firsts (length route) eight no_hop ≡ hops_of net ss route
-      back = hops_back st.network ss route checked route_passed eight e8
+      many : length lent ≡ length route
+      many = ap length el ∙ many_hops st.network ss route checked route_passed
 
       -- 18 leaves the very same state
       pub set_up_blocked : f.schedule ≡ None → Serves st (SetUp n route) (record { answer = Err (NoSchedule f.count); state = st })
@@ -220,18 +218,18 @@ module _ (st : State) (ok : intact (view_of st) ≡ true) where
           }
 
       module _ (x : Schedule) (e : f.schedule ≡ Some x) where
-        pub set_up_laid : FramesLaid eight x.frames (length route)
+        pub set_up_laid : FramesLaid lent x.frames (length lent)
         set_up_laid =
-            schedule_laid st.network.ticks (length route) eight x.frames (found_spots net.ticks (length route) (hops_of net ss route) f s x e) (hops_ready st.network ss route checked route_passed eight e8)
-            (found_frames net.ticks (length route) (hops_of net ss route) f s x e)
-            (subst (λ (hops : List Hop). IsSchedule hops (found_spots net.ticks (length route) (hops_of net ss route) f s x e)) (sym back) (schedule_found net.ticks (length route) (hops_of net ss route) f s x e))
+            schedule_laid st.network.ticks lent x.frames (found_spots net.ticks (length route) (hops_of net ss route) f s x e) (hops_ready st.network ss route checked route_passed lent el)
+            (found_frames net.ticks (length route) (hops_of net ss route) f s x e ∙ ap (λ (m : ℕ). firsts m x.frames 0) (sym many))
+            (subst (λ (hops : List Hop). IsSchedule hops (found_spots net.ticks (length route) (hops_of net ss route) f s x e)) (sym el) (schedule_found net.ticks (length route) (hops_of net ss route) f s x e))
 
         -- the frames are held
-        module _ (q : Quoted) (eq : q ≡ found_quoted (firsts (length route) eight no_hop) (length route) x f.count) (place : Place)
+        module _ (q : Quoted) (eq : q ≡ found_quoted lent (length lent) x f.count) (place : Place)
             (ep : session_of place ≡ record { number = n; route = route; held = holding_of (length route) q.held }) (table : Table)
             (et : live_of table ≡ ss ++ (session_of place ∷ [])) where
           over_hops : q ≡ found_quoted (hops_of net ss route) (length route) x f.count
-          over_hops = eq ∙ ap (λ (hops : List Hop). found_quoted hops (length route) x f.count) back
+          over_hops = eq ∙ ap₂ (λ (hops : List Hop) (m : ℕ). found_quoted hops m x f.count) el many
 
           abbrev holds : Holding
           holds = found_held net.ticks (length route) (hops_of net ss route) f s x e

@@ -8,7 +8,7 @@ ghost use Rattle.places.specs.Places.{firsts};
 ghost use Rattle.refusals.specs.Refusals.{given, pass, ruling};
 ghost use Rattle.network.specs.Network.{topology_of};
 ghost use Rattle.network.specs.Checks.{network_check};
-ghost use Rattle.forwarding.specs.Hops.{no_hop, blank_hop, Ready};
+ghost use Rattle.forwarding.specs.Hops.{blank_hop, Ready};
 ghost use Rattle.ledger.specs.Held.{holding_of};
 ghost use Rattle.ledger.specs.Sessions.{is_live, hops_of};
 ghost use Rattle.ledger.specs.Routes.{route_check};
@@ -74,13 +74,13 @@ pub fn fresh_state(network: Network) -> State
     }
 }
 
-// What a set-up or a quote gives of a schedule that a search found over the first n hops: the one place where what is held is made.
-fn scheduled(hops: [Hop; 8], n: usize, schedule: Schedule, count: u32) -> Quoted
-    requires { FramesLaid hops schedule.frames n }
-    ensures { result ≡ found_quoted (firsts n hops no_hop) n schedule count }
+// What a set-up or a quote gives of a schedule that a search found over the hops: the one place where what is held is made.
+fn scheduled(hops: &[Hop], schedule: Schedule, count: u32) -> Quoted
+    requires { FramesLaid hops.now schedule.frames (length hops.now) }
+    ensures { result ≡ found_quoted hops.now (length hops.now) schedule count }
 {
     let frames = schedule.frames;
-    let cycles = routes::cycles(hops, frames, n);
+    let cycles = routes::cycles(hops, frames);
     let delay = schedule.delay;
     let colours = schedule.colours;
     let held = Held {
@@ -92,14 +92,14 @@ fn scheduled(hops: [Hop; 8], n: usize, schedule: Schedule, count: u32) -> Quoted
     Quoted { count, held }
 }
 
-// The answer over the first n hops: the least-delay schedule, or 18 where none exists. Checks 3, 7, 8, 21 and 12 guarantee what is required.
-fn answer_over(t: u16, hops: [Hop; 8], n: usize) -> Result<Quoted, Refusal>
-    requires { Ready t hops n }
-    ensures { Quotes (answer_over t (firsts n hops no_hop)) result }
+// The answer over the hops: the least-delay schedule, or 18 where none exists. Checks 3, 7, 8, 21 and 12 guarantee what is required.
+fn answer_over(t: u16, hops: &[Hop]) -> Result<Quoted, Refusal>
+    requires { Ready t hops.now (length hops.now) }
+    ensures { Quotes (answer_over t hops.now) result }
 {
-    let finding = search::search(t, hops, n);
+    let finding = search::search(t, hops);
     let schedule = finding.schedule.ok_or(Refusal::NoSchedule(finding.count))?;
-    Ok(scheduled(hops, n, schedule, finding.count))
+    Ok(scheduled(hops, schedule, finding.count))
 }
 
 // The hops of a route that passed 12 to 15, over the frames now free.
@@ -117,7 +117,8 @@ pub fn quote(st: State, route: &[u8]) -> Result<Quoted, Refusal>
     ensures { Quotes (reply (view_of st) (Quote route.now)) result }
 {
     routes::check_route(st.network, route)?;
-    answer_over(st.network.ticks, free_hops(&st, route), route.len())
+    let hops = free_hops(&st, route);
+    answer_over(st.network.ticks, &hops[..route.len()])
 }
 
 // Whether the number is live.
@@ -180,15 +181,16 @@ pub fn set_up(st: State, number: u32, route: &[u8]) -> Served<Quoted>
             state: st,
         };
     }
-    let hops = free_hops(&st, route);
-    let finding = search::search(st.network.ticks, hops, route.len());
+    let laid = free_hops(&st, route);
+    let hops = &laid[..route.len()];
+    let finding = search::search(st.network.ticks, hops);
     let Some(schedule) = finding.schedule else {
         return Served {
             answer: Err(Refusal::NoSchedule(finding.count)),
             state: st,
         };
     };
-    let quoted = scheduled(hops, route.len(), schedule, finding.count);
+    let quoted = scheduled(hops, schedule, finding.count);
     let place = new_place(number, route, quoted.held);
     let after = State {
         table: table::with_place(st.table, place),

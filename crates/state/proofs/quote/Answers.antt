@@ -3,7 +3,7 @@ use mathlib.Core.Path.{sym, ◌∙◌}
 use Rattle.ledger.specs.Calls.{Quote}
 use Rattle.ledger.proofs.Intact.{intact_is}
 use Rattle.state.proofs.Replies.{check_passed, same_err, quote_check}
-use Rattle.state.proofs.Searches.{free_ready}
+use Rattle.state.proofs.Searches.{free_room, free_lent, free_ready}
 use Rattle.state.proofs.SetUps.{quotes_refused, quote_quotes}
 use Rattle.state.proofs.quote.Goals as goal
 
@@ -13,11 +13,19 @@ check_route-requires c = (intact_is _ c.requires).network
 pub returns-in_err-check_route : goal.returns-in_err-check_route
 returns-in_err-check_route c = quotes_refused c.args.st c.requires (Quote _) _ (c.check_route.ensures ∙ sym (quote_check _ _ _)) _ c.in_err-check_route.was _ (same_err _ _ c.from_residual.ensures)
 
-pub free_hops-requires : goal.free_hops-requires
-free_hops-requires c = (c.requires, check_passed _ _ c.check_route.ensures _ c.in_ok-check_route.was)
+pub free_hops-hops-requires : goal.free_hops-hops-requires
+free_hops-hops-requires c = (c.requires, check_passed _ _ c.check_route.ensures _ c.in_ok-check_route.was)
+
+pub slice_bounds-hops-end : goal.slice_bounds-hops-end
+slice_bounds-hops-end c = (free_room c.args.st c.requires _ (check_passed _ _ c.check_route.ensures _ c.in_ok-check_route.was) _ c.free_hops-hops.ensures).0
+
+pub slice_bounds-answer_over-end : goal.slice_bounds-answer_over-end
+slice_bounds-answer_over-end c = (free_room c.args.st c.requires _ (check_passed _ _ c.check_route.ensures _ c.in_ok-check_route.was) _ c.free_hops-hops.ensures).1
 
 pub answer_over-requires : goal.answer_over-requires
-answer_over-requires c = free_ready c.args.st c.requires _ (check_passed _ _ c.check_route.ensures _ c.in_ok-check_route.was) _ c.free_hops.ensures
+answer_over-requires c = let checked = check_passed _ _ c.check_route.ensures _ c.in_ok-check_route.was in
+    free_ready c.args.st c.requires _ checked _ (free_lent c.args.st c.requires _ checked _ c.free_hops-hops.ensures)
 
 pub returns : goal.returns
-returns c = quote_quotes c.args.st c.requires _ (check_passed _ _ c.check_route.ensures _ c.in_ok-check_route.was) _ c.free_hops.ensures _ c.answer_over.ensures
+returns c = let checked = check_passed _ _ c.check_route.ensures _ c.in_ok-check_route.was in
+    quote_quotes c.args.st c.requires _ checked _ (free_lent c.args.st c.requires _ checked _ c.free_hops-hops.ensures) _ c.answer_over.ensures
