@@ -169,6 +169,7 @@ one_colour net ss [] = tt
 one_colour net ss (l ∷ route) = (refl, one_colour net ss route)
 
 -- and so each hop
-pub one_each : (net : Topology) (ss : List Session) (route : List ℕ) (j : ℕ) → j < length (hops_of net ss route) → (get_or (hops_of net ss route) j no_hop).colours ≡ 1
+pub one_each : (net : Topology) (ss : List Session) (route : List ℕ) (hops : List Hop) → hops ≡ hops_of net ss route → (j : ℕ) → j < length hops → (get_or hops j no_hop).colours ≡ 1
 unfolding link_colours
-one_each net ss route j h = ap (λ (x : Hop). x.colours) (map_place (hop_of net ss) route j (rw length-map at h))
+one_each net ss route hops e j h =
+    ap (λ (l : List Hop). (get_or l j no_hop).colours) e ∙ ap (λ (x : Hop). x.colours) (map_place (hop_of net ss) route j (omega (arith, h, ap length e, length-map route (hop_of net ss))))

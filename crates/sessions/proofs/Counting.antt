@@ -3,26 +3,21 @@ use mathlib.Core.Path.{◌≡◌, refl, sym, ap, ◌∙◌}
 use mathlib.Core.Bool.{true}
 use mathlib.Core.List.{List}
 use Prim.Native.Nat.{ℕ}
-use lib.ListN.{length}
 use Rattle.std.specs.Prelude.{Result, Ok, Err, IsErr, IsErrAnd, ⊤}
-use Rattle.places.specs.Places.{firsts}
 use Rattle.refusals.specs.Refusals.{given, pass, ruling}
 use Rattle.refusals.specs.declared.Refusal.{Refusal}
 use Rattle.network.specs.Network.{topology_of}
 use Rattle.forwarding.specs.declared.Hop.{Hop}
-use Rattle.forwarding.specs.Hops.{no_hop, blank_hop}
 use Rattle.forwarding.specs.Ways.{route_ways}
 use Rattle.ledger.specs.Sessions.{hops_of}
 use Rattle.ledger.specs.Routes.{route_check}
 use Rattle.ledger.specs.Sound.{intact}
 use Rattle.ledger.specs.Calls.{call_check}
 use Rattle.ledger.specs.Ways.{ways_of}
-use Rattle.ledger.proofs.Intact.{intact_is}
 use Rattle.table.specs.Table.{live_of}
 use Rattle.state.specs.declared.State.{State}
 use Rattle.state.specs.State.{view_of}
 use Rattle.state.proofs.Replies.{check_passed, same_err}
-use Rattle.state.proofs.Searches.{hops_back}
 use Rattle.sessions.specs.Calls.{Tells}
 use Rattle.sessions.specs.Ways.{Surveys}
 use Rattle.sessions.proofs.First.{refused_tells, given_tells}
@@ -42,12 +37,12 @@ module _ (st : State) (route : List ℕ) where
       pub passed : route_check (topology_of st.network) route ≡ given pass
       passed = check_passed w (route_check (topology_of st.network) route) e x v
 
-      pub number_answers : (eight : List Hop) → eight ≡ firsts 8 (hops_of (topology_of st.network) (live_of st.table) route) blank_hop
-          → (n : ℕ) → n ≡ route_ways (firsts (length route) eight no_hop) → Tells (λ (n : ℕ). n) (ways_of (view_of st) route) (Ok n)
-      number_answers eight f n b = given_tells (λ (n : ℕ). n) (ways_of (view_of st) route) n (told ∙ ap given (sym is)) (Ok n) refl
+      pub number_answers : (lent : List Hop) → lent ≡ hops_of (topology_of st.network) (live_of st.table) route
+          → (n : ℕ) → n ≡ route_ways lent → Tells (λ (n : ℕ). n) (ways_of (view_of st) route) (Ok n)
+      number_answers lent f n b = given_tells (λ (n : ℕ). n) (ways_of (view_of st) route) n (told ∙ ap given (sym is)) (Ok n) refl
         where
           told : ways_of (view_of st) route ≡ given (route_ways (hops_of (topology_of st.network) (live_of st.table) route))
           told = unfold ways_of call_check in rw (ok, passed)
 
           is : n ≡ route_ways (hops_of (topology_of st.network) (live_of st.table) route)
-          is = b ∙ ap route_ways (hops_back st.network (live_of st.table) route (intact_is (view_of st) ok).network passed eight f)
+          is = b ∙ ap route_ways f

@@ -178,8 +178,8 @@ fn count_ways(st: State, route: &[u8]) -> Result<u64, Refusal>
     ensures { Tells (λ n. n) (ways_of (view_of st) route.now) result }
 {
     routes::check_route(st.network, route)?;
-    let hops = state::free_hops(&st, route);
-    Ok(ways::number_over(hops, route.len()))
+    let eight = state::free_hops(&st, route);
+    Ok(ways::number_over(&eight[..route.len()]))
 }
 
 // The answer of how many ways through.

@@ -117,8 +117,8 @@ pub fn quote(st: State, route: &[u8]) -> Result<Quoted, Refusal>
     ensures { Quotes (reply (view_of st) (Quote route.now)) result }
 {
     routes::check_route(st.network, route)?;
-    let hops = free_hops(&st, route);
-    answer_over(st.network.ticks, &hops[..route.len()])
+    let eight = free_hops(&st, route);
+    answer_over(st.network.ticks, &eight[..route.len()])
 }
 
 // Whether the number is live.
@@ -181,8 +181,8 @@ pub fn set_up(st: State, number: u32, route: &[u8]) -> Served<Quoted>
             state: st,
         };
     }
-    let laid = free_hops(&st, route);
-    let hops = &laid[..route.len()];
+    let eight = free_hops(&st, route);
+    let hops = &eight[..route.len()];
     let finding = search::search(st.network.ticks, hops);
     let Some(schedule) = finding.schedule else {
         return Served {

@@ -23,7 +23,7 @@ use Rattle.network.specs.declared.Network.{Network}
 use Rattle.forwarding.specs.declared.Hop.{Hop}
 use Rattle.forwarding.specs.declared.Delay.{Delay}
 use Rattle.forwarding.specs.Forwarding.{Spot}
-use Rattle.forwarding.specs.Hops.{no_hop, blank_hop, Ready}
+use Rattle.forwarding.specs.Hops.{blank_hop, Ready}
 use Rattle.forwarding.specs.Schedule.{frames_of, in_colours, IsSchedule, is_schedule, schedule_delay}
 use Rattle.forwarding.specs.Cycles.{schedule_cycles}
 use Rattle.forwarding.proofs.Schedules.{told_schedule}
@@ -42,7 +42,7 @@ use Rattle.table.specs.declared.Place.{Place}
 use Rattle.table.specs.Table.{session_of, no_place, in_places}
 use Rattle.table.proofs.Banks.{words_none}
 use Rattle.state_check.proofs.Same.{same_places}
-use Rattle.state.proofs.Searches.{ticks_told, hops_eight, hops_ready, hops_back}
+use Rattle.state.proofs.Searches.{ticks_told, hops_eight, hops_room, hops_lent, hops_ready}
 
 -- a check that fails refuses, and one that doesn't passes
 pub check_fails : (q : Result ⊤ Refusal) (b : Bool) → b ≡ is_err q → b ≡ true → (n : ℕ) × (ruling q ≡ refused n)
@@ -91,14 +91,28 @@ module _ (network : Network) (place : Place) where
           unfolding taken
           eight = hops_eight network [] taken passed route_stands (replicate bank_size 0) none_held laid el
 
-          pub walk_ready : Ready network.ticks laid place.hops
-          unfolding taken
-          walk_ready = subst (λ (n : ℕ). Ready network.ticks laid n) (sym taken_length) (hops_ready network [] taken passed route_stands laid eight)
+          -- its hops, lent
+          abbrev lent : List Hop
+          lent = take place.hops laid
 
-          walked_hops : firsts place.hops laid no_hop ≡ hops_of (topology_of network) [] (firsts place.hops place.route 0)
+          taken_hops : lent ≡ hops_of (topology_of network) [] taken
           unfolding taken
-          walked_hops =
-              ap (λ (n : ℕ). firsts n laid no_hop) taken_length ∙ hops_back network [] taken passed route_stands laid eight ∙ ap (hops_of (topology_of network) []) same_route
+          taken_hops = ap (λ (n : ℕ). take n laid) taken_length ∙ hops_lent network [] taken passed route_stands laid eight
+
+          pub walk_room : place.hops ≤ length laid
+          unfolding taken
+          walk_room = omega (arith, taken_length, hops_room network [] taken passed route_stands laid eight)
+
+          pub walk_long : place.hops ≡ length lent
+          walk_long = sym (length-take-le place.hops laid walk_room)
+
+          pub walk_ready : Ready network.ticks lent (length lent)
+          unfolding taken
+          walk_ready = hops_ready network [] taken passed route_stands lent taken_hops
+
+          walked_hops : lent ≡ hops_of (topology_of network) [] (firsts place.hops place.route 0)
+          unfolding taken
+          walked_hops = taken_hops ∙ ap (hops_of (topology_of network) []) same_route
 
           -- the session's frames in their colours
           abbrev spots : List Spot
@@ -111,7 +125,7 @@ module _ (network : Network) (place : Place) where
           spot_frames = frames_joined (firsts place.hops place.held.frames 0) (firsts place.hops place.held.colours 0) as_many
 
           -- what a walk over them tells of it
-          module _ (w : Option Delay) (ew : walked_delay w ≡ delay_if network.ticks (firsts place.hops laid no_hop) spots) where
+          module _ (w : Option Delay) (ew : walked_delay w ≡ delay_if network.ticks lent (in_colours (firsts (length lent) place.held.frames 0) (firsts (length lent) place.held.colours 0))) where
             hops : List Hop
             hops = hops_of (topology_of network) [] (session_of place).route
 
@@ -119,7 +133,8 @@ module _ (network : Network) (place : Place) where
             unfolding hops spots_in
             walked_told =
                 ew
-                ∙ ap (λ (T : ℕ). delay_if T (firsts place.hops laid no_hop) spots) (sym (ticks_told network))
+                ∙ ap (λ (n : ℕ). delay_if network.ticks lent (in_colours (firsts n place.held.frames 0) (firsts n place.held.colours 0))) (sym walk_long)
+                ∙ ap (λ (T : ℕ). delay_if T lent spots) (sym (ticks_told network))
                 ∙ ap (λ (hs : List Hop). delay_if (topology_of network).ticks hs spots) walked_hops
 
             is_schedule_lem : Bool
@@ -146,31 +161,33 @@ module _ (network : Network) (place : Place) where
                   fits true x k = (refl, cc)
                   fits false x k = (cc, cc)
 
-              -- the frames are a schedule over the hops in eight places
-              schedule : IsSchedule (firsts place.hops laid no_hop) spots
+              -- the frames are a schedule over the hops
+              schedule : IsSchedule lent spots
               unfolding is_schedule_lem hops spots_in
               schedule = subst (λ (hs : List Hop). IsSchedule hs spots) (sym walked_hops) (told_schedule hops (spots_in (session_of place).held) walked_fits.0)
 
-              pub walked_laid : FramesLaid laid place.held.frames place.hops
-              walked_laid = schedule_laid network.ticks place.hops laid place.held.frames spots walk_ready spot_frames schedule
+              pub walked_laid : FramesLaid lent place.held.frames (length lent)
+              walked_laid = schedule_laid network.ticks lent place.held.frames spots walk_ready (spot_frames ∙ ap (λ (n : ℕ). firsts n place.held.frames 0) walk_long) schedule
 
               -- and the first of the cycles are the schedule's
-              pub session_walked : length place.held.cycles ≡ 8 → (cycles : List ℕ) → cycles ≡ firsts 8 (schedule_cycles (firsts place.hops laid no_hop) (firsts place.hops place.held.frames 0)) 0 → (b : Bool)
+              pub session_walked : length place.held.cycles ≡ 8 → (cycles : List ℕ) → cycles ≡ firsts 8 (schedule_cycles lent (firsts (length lent) place.held.frames 0)) 0 → (b : Bool)
                   → b ≡ (pointwise eqb (take place.hops place.held.cycles) (take place.hops cycles) && eqb place.held.delay.0 d.0)
                   → b ≡ good_session (topology_of network) (session_of place)
               unfolding same_cycles hops
-              session_walked long' cycles ec b eb =
-                  let eight_cycles : length cycles ≡ 8 = ap length ec ∙ length_firsts 8 (schedule_cycles (firsts place.hops laid no_hop) (firsts place.hops place.held.frames 0)) 0 in
+              session_walked long' cycles e8 b eb =
+                  let ec : cycles ≡ firsts 8 (schedule_cycles lent (firsts place.hops place.held.frames 0)) 0 =
+                  e8 ∙ ap (λ (n : ℕ). firsts 8 (schedule_cycles lent (firsts n place.held.frames 0)) 0) (sym walk_long) in
+                  let eight_cycles : length cycles ≡ 8 = ap length ec ∙ length_firsts 8 (schedule_cycles lent (firsts place.hops place.held.frames 0)) 0 in
                   let told' : pointwise eqb (take place.hops place.held.cycles) (take place.hops cycles) ≡ same_list eqb (firsts place.hops place.held.cycles 0) (firsts place.hops cycles 0) =
                   same_places place.hops place.held.cycles cycles (omega (arith, few, long')) (omega (arith, few, eight_cycles)) in
                   let there : b ≡ (same_cycles && eqb place.held.delay.0 its_delay) = eb ∙ rw (told', cycles_back cycles ec, walked_hops, ← walked_fits.1) in
                   there ∙ sym (by_walk ∙ rw walked_fits.0)
                 where
-                  cycles_back : (cycles : List ℕ) → cycles ≡ firsts 8 (schedule_cycles (firsts place.hops laid no_hop) (firsts place.hops place.held.frames 0)) 0
-                      → firsts place.hops cycles 0 ≡ schedule_cycles (firsts place.hops laid no_hop) (firsts place.hops place.held.frames 0)
+                  cycles_back : (cycles : List ℕ) → cycles ≡ firsts 8 (schedule_cycles lent (firsts place.hops place.held.frames 0)) 0
+                      → firsts place.hops cycles 0 ≡ schedule_cycles lent (firsts place.hops place.held.frames 0)
                   cycles_back cycles ec =
-                      let xs : List ℕ = schedule_cycles (firsts place.hops laid no_hop) (firsts place.hops place.held.frames 0) in
-                      let many : length xs ≡ place.hops = ap (λ (fs : List ℕ). length (schedule_cycles (firsts place.hops laid no_hop) fs)) (sym spot_frames) ∙ cycle_per_hop (firsts place.hops laid no_hop) spots schedule ∙ length_firsts place.hops laid no_hop in
+                      let xs : List ℕ = schedule_cycles lent (firsts place.hops place.held.frames 0) in
+                      let many : length xs ≡ place.hops = ap (λ (fs : List ℕ). length (schedule_cycles lent fs)) (sym spot_frames) ∙ cycle_per_hop lent spots schedule ∙ sym walk_long in
                       ap (λ (l : List ℕ). firsts place.hops l 0) ec ∙ so_many_back 8 place.hops xs 0 many few
 
             pub session_unfit : w ≡ None → false ≡ good_session (topology_of network) (session_of place)

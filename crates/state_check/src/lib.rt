@@ -39,11 +39,12 @@ fn good_session(network: Network, place: Place) -> bool
     if routes::check_route(network, route).is_err() {
         return false;
     }
-    let laid = routes::route_hops(network, &[0; BANK], route);
+    let eight = routes::route_hops(network, &[0; BANK], route);
+    let laid = &eight[..hops];
     let held = place.held;
-    match routes::walk(network.ticks, laid, held.frames, held.colours, hops) {
+    match routes::walk(network.ticks, laid, held.frames, held.colours) {
         Some(delay) => {
-            let cycles = routes::cycles(laid, held.frames, hops);
+            let cycles = routes::cycles(laid, held.frames);
             same_held(held, cycles, delay, hops)
         }
         None => false,

@@ -2,9 +2,8 @@
 use Rattle.network.specs.Network.{topology_of}
 use Rattle.ledger.proofs.Intact.{intact_is}
 use Rattle.table.specs.Table.{live_of}
-use Rattle.routes.proofs.Routes.{route_long}
 use Rattle.routes.proofs.Hops.{one_each}
-use Rattle.state.proofs.Searches.{free_ready}
+use Rattle.state.proofs.Searches.{free_room, free_lent, free_ready}
 use Rattle.sessions.proofs.Counting.{passed, check_answers, number_answers}
 use Rattle.sessions.proofs.count_ways.Goals as goal
 
@@ -14,14 +13,21 @@ check_route-requires c = (intact_is _ c.requires).network
 pub returns-in_err-check_route : goal.returns-in_err-check_route
 returns-in_err-check_route c = check_answers c.args.st _ c.requires _ c.check_route.ensures _ c.in_err-check_route.was _ c.from_residual.ensures
 
-pub free_hops-hops-requires : goal.free_hops-hops-requires
-free_hops-hops-requires c = (c.requires, passed c.args.st _ c.requires _ c.check_route.ensures _ c.in_ok-check_route.was)
+pub free_hops-eight-requires : goal.free_hops-eight-requires
+free_hops-eight-requires c = (c.requires, passed c.args.st _ c.requires _ c.check_route.ensures _ c.in_ok-check_route.was)
+
+pub slice_bounds-eight-end : goal.slice_bounds-eight-end
+slice_bounds-eight-end c = (free_room c.args.st c.requires _ (passed c.args.st _ c.requires _ c.check_route.ensures _ c.in_ok-check_route.was) _ c.free_hops-eight.ensures).0
+
+pub slice_bounds-number_over-end : goal.slice_bounds-number_over-end
+slice_bounds-number_over-end c = (free_room c.args.st c.requires _ (passed c.args.st _ c.requires _ c.check_route.ensures _ c.in_ok-check_route.was) _ c.free_hops-eight.ensures).1
 
 pub number_over-requires : goal.number_over-requires
-number_over-requires c = let checked = passed c.args.st _ c.requires _ c.check_route.ensures _ c.in_ok-check_route.was in (
-  (_, free_ready c.args.st c.requires _ checked _ c.free_hops-hops.ensures),
-  one_each (topology_of c.args.st.network) (live_of c.args.st.table) c.args.route.now _ c.free_hops-hops.ensures (route_long (topology_of c.args.st.network) _ checked).1,
-)
+number_over-requires c = let checked = passed c.args.st _ c.requires _ c.check_route.ensures _ c.in_ok-check_route.was in
+    let lent = free_lent c.args.st c.requires _ checked _ c.free_hops-eight.ensures in (
+      (_, free_ready c.args.st c.requires _ checked _ lent),
+      one_each (topology_of c.args.st.network) (live_of c.args.st.table) c.args.route.now _ lent,
+    )
 
 pub returns : goal.returns
-returns c = number_answers c.args.st _ c.requires _ c.check_route.ensures _ c.in_ok-check_route.was _ c.free_hops-hops.ensures _ c.number_over.ensures
+returns c = number_answers c.args.st _ c.requires _ c.check_route.ensures _ c.in_ok-check_route.was _ (free_lent c.args.st c.requires _ (passed c.args.st _ c.requires _ c.check_route.ensures _ c.in_ok-check_route.was) _ c.free_hops-eight.ensures) _ c.number_over.ensures

@@ -13,19 +13,19 @@ check_route-requires c = (intact_is _ c.requires).network
 pub returns-in_err-check_route : goal.returns-in_err-check_route
 returns-in_err-check_route c = quotes_refused c.args.st c.requires (Quote _) _ (c.check_route.ensures ∙ sym (quote_check _ _ _)) _ c.in_err-check_route.was _ (same_err _ _ c.from_residual.ensures)
 
-pub free_hops-hops-requires : goal.free_hops-hops-requires
-free_hops-hops-requires c = (c.requires, check_passed _ _ c.check_route.ensures _ c.in_ok-check_route.was)
+pub free_hops-eight-requires : goal.free_hops-eight-requires
+free_hops-eight-requires c = (c.requires, check_passed _ _ c.check_route.ensures _ c.in_ok-check_route.was)
 
-pub slice_bounds-hops-end : goal.slice_bounds-hops-end
-slice_bounds-hops-end c = (free_room c.args.st c.requires _ (check_passed _ _ c.check_route.ensures _ c.in_ok-check_route.was) _ c.free_hops-hops.ensures).0
+pub slice_bounds-eight-end : goal.slice_bounds-eight-end
+slice_bounds-eight-end c = (free_room c.args.st c.requires _ (check_passed _ _ c.check_route.ensures _ c.in_ok-check_route.was) _ c.free_hops-eight.ensures).0
 
 pub slice_bounds-answer_over-end : goal.slice_bounds-answer_over-end
-slice_bounds-answer_over-end c = (free_room c.args.st c.requires _ (check_passed _ _ c.check_route.ensures _ c.in_ok-check_route.was) _ c.free_hops-hops.ensures).1
+slice_bounds-answer_over-end c = (free_room c.args.st c.requires _ (check_passed _ _ c.check_route.ensures _ c.in_ok-check_route.was) _ c.free_hops-eight.ensures).1
 
 pub answer_over-requires : goal.answer_over-requires
 answer_over-requires c = let checked = check_passed _ _ c.check_route.ensures _ c.in_ok-check_route.was in
-    free_ready c.args.st c.requires _ checked _ (free_lent c.args.st c.requires _ checked _ c.free_hops-hops.ensures)
+    free_ready c.args.st c.requires _ checked _ (free_lent c.args.st c.requires _ checked _ c.free_hops-eight.ensures)
 
 pub returns : goal.returns
 returns c = let checked = check_passed _ _ c.check_route.ensures _ c.in_ok-check_route.was in
-    quote_quotes c.args.st c.requires _ checked _ (free_lent c.args.st c.requires _ checked _ c.free_hops-hops.ensures) _ c.answer_over.ensures
+    quote_quotes c.args.st c.requires _ checked _ (free_lent c.args.st c.requires _ checked _ c.free_hops-eight.ensures) _ c.answer_over.ensures
