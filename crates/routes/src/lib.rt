@@ -215,6 +215,7 @@ fn step(t: u16, before: Hop, from: Spot, hop: Hop, to: Spot) -> Option<Delay>
 }
 
 // Whether the frames in their colours, one for each hop, are a schedule over the hops, and its delay. Checks 3, 7, 8, 21, 23, 24 and 12 guarantee what is required.
+// Kept: frames and colours in eight places; slices would ask callers for as many as hops.
 pub fn walk(t: u16, hops: &[Hop], frames: [u8; 8], colours: [u8; 8]) -> Option<Delay>
     requires { Ready t hops.now (length hops.now) }
     ensures { walked_delay result ≡ delay_if t hops.now (in_colours (firsts (length hops.now) frames 0) (firsts (length hops.now) colours 0)) }
@@ -233,6 +234,7 @@ pub fn walk(t: u16, hops: &[Hop], frames: [u8; 8], colours: [u8; 8]) -> Option<D
 }
 
 // The cycles of frames, one for each hop; unused places hold 0. Checks 7, 8, 21 and 12 bound the hops, and a schedule has frames of theirs.
+// Kept: frames in eight places; a slice would ask callers for as many as hops.
 pub fn cycles(hops: &[Hop], frames: [u8; 8]) -> [u8; 8]
     requires { FramesLaid hops.now frames (length hops.now) }
     ensures { result ≡ firsts 8 (schedule_cycles hops.now (firsts (length hops.now) frames 0)) 0 }
