@@ -1,10 +1,10 @@
 // Call records (document 01, "The program frames", and W-205 of document 02): the calls that some call bytes say, one after the other.
 #![tactic(auto)]
 
-ghost use Rattle.std.specs.Prelude.{◌≡◌, ◌≤◌, min, length};
+ghost use Rattle.std.specs.Prelude.{◌≡◌, ◌≤◌, min};
 ghost use Rattle.std.specs.Iterator.{YieldsFirstBy, item_count};
 ghost use Rattle.refusals.specs.Refusals.{answered};
-ghost use Rattle.call_records.specs.Records.{set_up_said, quote_said, release_said, first_call, calls_in, counted};
+ghost use Rattle.call_records.specs.Records.{set_up_said, quote_said, release_said, first_call, calls_in};
 ghost use Rattle.call_records.specs.Reading.{call_of, Reads};
 ghost use Rattle.call_records.specs.Inner.{told, Numbered, Routed};
 
@@ -54,12 +54,11 @@ impl<'a> Iterator for Calls<'a> {
     }
 }
 
-// The call bytes that count: the first 65,536.
-pub fn counted(calls: &[u8]) -> &[u8]
-    ensures part { result.now ≡ counted calls.now }
-    ensures len { length result.now ≡ min (length calls.now) 65536 }
+// How many of so many call bytes count: the first 65,536.
+pub fn counted(n: usize) -> usize
+    ensures { result ≡ min n 65536 }
 {
-    &calls[..calls.len().min(65536)]
+    n.min(65536)
 }
 
 // A session's number in so many bytes, and the bytes after it.

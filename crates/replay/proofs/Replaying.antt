@@ -2,7 +2,8 @@
 use mathlib.Core.Path.{◌≡◌, refl, sym, ap, ◌∙◌}
 use mathlib.Core.Bool.{true}
 use mathlib.Core.List.{List, [], ◌∷◌}
-use Prim.Native.Nat.{ℕ}
+use Prim.Native.Nat.{ℕ, min}
+use lib.ListN.{length, take}
 use Rattle.std.specs.Prelude.{Result, Ok, Err, ⊤}
 use Rattle.std.specs.Borrow.{Bor}
 use Rattle.refusals.specs.Refusals.{Outcome, given, answered}
@@ -18,6 +19,7 @@ use Rattle.call_records.specs.declared.Call.TheVariants.{SetUp, Quote, Release}
 use Rattle.call_records.specs.Reading.{call_of}
 use Rattle.call_records.specs.Records.{calls_in, counted}
 use Rattle.call_records.specs.Served.{view_after, view_after_all}
+use Rattle.call_records.proofs.Records.{counted_part}
 use Rattle.state.specs.declared.State.{State}
 use Rattle.state.specs.declared.Quoted.{Quoted}
 use Rattle.state.specs.declared.Served.{Served}
@@ -76,7 +78,8 @@ module _ {net : Network} {v : View} {st : State} {os : List (Outcome rules.Call)
 
 -- ---- from a network without sessions
 module _ (net : Network) (st : State) (begun : st ≡ fresh_state net) where
-  pub counted_run : (s t : List ℕ) → t ≡ counted s → (r : State) → Becomes st.network (view_after_all (view_of st) (calls_in t)) r → Becomes net (view_after_all (fresh (topology_of net)) (calls_in (counted s))) r
-  counted_run s t e r b =
-      let w = rw (first_view net st begun, e) at b in
+  pub counted_run : (s : List ℕ) (n : ℕ) → n ≡ min (length s) 65536 → (r : State) → Becomes st.network (view_after_all (view_of st) (calls_in (take n s))) r
+      → Becomes net (view_after_all (fresh (topology_of net)) (calls_in (counted s))) r
+  counted_run s n e r b =
+      let w = rw (first_view net st begun, (counted_part s n e).0) at b in
       record { network = w.network ∙ ap (λ (x : State). x.network) begun; view = w.view; unbroken = w.unbroken }

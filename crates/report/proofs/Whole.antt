@@ -5,7 +5,7 @@ use mathlib.Core.List.{List}
 use Prim.Native.Nat.{ℕ, ◌+◌, ◌*◌, ◌<◌, ◌≤◌, min}
 use native.Mathlib.Nat.{zero-add}
 use native.Mathlib.Omega.{arith}
-use lib.ListN.{length}
+use lib.ListN.{length, take}
 use Rattle.std.specs.Prelude.{Result, Ok, Err}
 use Rattle.places.proofs.Puts.{put_zero}
 use Rattle.refusals.specs.Refusals.{given, answered, refusal_number}
@@ -21,7 +21,8 @@ use Rattle.ledger.specs.Demand.{fresh}
 use Rattle.state.specs.declared.State.{State}
 use Rattle.state.specs.State.{view_of, fresh_state}
 use Rattle.state.proofs.Replies.{first_view, first_intact}
-use Rattle.call_records.specs.Records.{calls_in, counted}
+use Rattle.call_records.specs.Records.{calls_in}
+use Rattle.call_records.proofs.Records.{counted_part}
 use Rattle.text.specs.declared.Page.{Page}
 use Rattle.text.specs.Lines.{network_line}
 use Rattle.text.specs.Inner.{HasRoom, Adds}
@@ -43,21 +44,21 @@ module _ (file calls : List ℕ) (l : Result Network Refusal) (reads : Reads (re
   unfolding transcript
   refused_text r e = rw (refused_says file l reads r e)
 
-  module _ (bytes : IsBytes file) (net : Network) (e : l ≡ Ok net) (st : State) (begun : st ≡ fresh_state net) (t : List ℕ) (q : t ≡ counted calls) where
-    said_view : (u : Topology) → read_network file ≡ given u → view_of st ≡ fresh u
-    said_view u is =
-        let s : given (topology_of net) ≡ given u = ap (answered topology_of) (sym e) ∙ read_stands file u l bytes is reads in
-        let same : topology_of net ≡ u = cc in
+  module _ (bytes : IsBytes file) (net : Network) (e : l ≡ Ok net) (st : State) (begun : st ≡ fresh_state net) (n : ℕ) (q : n ≡ min (length calls) 65536) where
+    said_view : (t : Topology) → read_network file ≡ given t → view_of st ≡ fresh t
+    said_view t is =
+        let s : given (topology_of net) ≡ given t = ap (answered topology_of) (sym e) ∙ read_stands file t l bytes is reads in
+        let same : topology_of net ≡ t = cc in
         first_view net st begun ∙ ap fresh same
 
-    pub read_text : transcript file calls ≡ lines_of 1 (view_of st) (calls_in t)
+    pub read_text : transcript file calls ≡ lines_of 1 (view_of st) (calls_in (take n calls))
     unfolding transcript
     read_text =
         let x : Says file net = passed_says file l reads net e in
-        rw (x.is, said_view x.network x.is, q)
+        rw (x.is, said_view x.network x.is, (counted_part calls n q).0)
 
-    pub read_room : (p : Page) → HasRoom (transcript file calls) p → length t ≡ min (length calls) 65536 → (intact (view_of st) ≡ true) × (length t ≤ 65536) × HasRoom (lines_of 1 (view_of st) (calls_in t)) p
-    read_room p h k = (first_intact net st begun (loaded_passes file l bytes reads net e), omega (arith, k), rw read_text at h)
+    pub read_room : (p : Page) → HasRoom (transcript file calls) p → (intact (view_of st) ≡ true) × (length (take n calls) ≤ 65536) × HasRoom (lines_of 1 (view_of st) (calls_in (take n calls))) p
+    read_room p h = (first_intact net st begun (loaded_passes file l bytes reads net e), (counted_part calls n q).1, rw read_text at h)
 
 -- ---- the text in the buffer
 module _ (file calls before : List ℕ) (within : length (transcript file calls) ≤ text_bound (length calls)) where

@@ -121,11 +121,11 @@ fn run(page: &mut Page<'_>, first: State, calls: &[u8])
     page.put_live(st.table.live as u32);
 }
 
-// As many bytes serve for every text on these call bytes.
-fn text_bound(calls: &[u8]) -> usize
-    ensures { result ≡ text_bound (length calls.now) }
+// As many bytes serve for every text on so many call bytes.
+fn text_bound(n: usize) -> usize
+    ensures { result ≡ text_bound n }
 {
-    22 + 11 * call_records::counted(calls).len()
+    22 + 11 * call_records::counted(n)
 }
 
 // The text on a page that has room for it.
@@ -136,7 +136,8 @@ fn put_text(page: &mut Page<'_>, file: &[u8], calls: &[u8])
     match network_file::read_network(file) {
         Ok(network) => {
             let first = state::fresh_state(network);
-            run(page, first, call_records::counted(calls))
+            let n = call_records::counted(calls.len());
+            run(page, first, &calls[..n])
         }
         Err(refusal) => page.put_network(u8::from(refusal)),
     }
@@ -147,7 +148,7 @@ fn put_text(page: &mut Page<'_>, file: &[u8], calls: &[u8])
 pub fn report(file: &[u8], calls: &[u8], out: &mut [u8]) -> Result<usize, Refusal>
     ensures { Reports file.now calls.now out.old out.new result }
 {
-    if out.len() < text_bound(calls) {
+    if out.len() < text_bound(calls.len()) {
         return Err(Refusal::ShortBuffer);
     }
     let mut page = Page { out, at: 0 };

@@ -7,4 +7,4 @@ pub run-requires : goal.run-requires
 run-requires c = first_intact c.args.network _ c.fresh_state-first.ensures c.requires
 
 pub returns : goal.returns
-returns c = counted_run c.args.network _ c.fresh_state-first.ensures c.args.calls.now _ c.counted-counted.ensures.part _ c.run.ensures
+returns c = counted_run c.args.network _ c.fresh_state-first.ensures c.args.calls.now _ c.counted-n.ensures _ c.run.ensures
