@@ -43,6 +43,7 @@ pub(super) fn counted(rt: &HostRuntime, answer: Result<u64, Refusal>) -> io::Res
 }
 
 // The first n of eight places, and of the others those that don't hold 0.
+// Kept: a place past n is shown too where it holds another number, so that a slice of n places would not do.
 fn places(rt: &HostRuntime, eight: [u8; 8], n: usize) -> io::Result<()> {
     for (j, x) in eight.iter().enumerate() {
         if j < n || *x != 0 {
