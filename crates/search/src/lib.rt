@@ -22,11 +22,12 @@ ghost use Rattle.forwarding.specs.Hops.{no_hop, Ready};
 ghost use Rattle.forwarding.specs.Route.{nodes, stage};
 ghost use Rattle.forwarding.proofs.Windows.{first_frame};
 ghost use Rattle.search.specs.Reading.{Finds};
-ghost use Rattle.search.specs.Inner.{cell_reach, way_of, cell_if, Keys, Trail, Windows, Entered, Gathers, leadings, Gathering, Settled, Settling, Lane, LaneSet, low_turn, high_turn, near_span, NearRow, NearLane, LanePut, Coloured, Colouring, Kept, Entering, Advanced, by_node, FirstLane, FirstRow, Sweeps, Swept, end_offers, end_sooner, EndOf, chain_of, ChainFits, Parts};
+ghost use Rattle.search.specs.Inner.{cell_reach, way_of, cell_if, Keys, Trail, Windows, Entered, Gathers, leadings, Gathering, Settled, Settling, Lane, LaneSet, low_turn, high_turn, near_span, NearRow, NearLane, LanePut, Coloured, Colouring, Kept, Entering, Advanced, by_node, FirstLane, FirstRow, Sweeps, Swept, end_offers, end_sooner, EndOf, EndFound, chain_of, ChainFits, Parts};
 
 use forwarding::{Delay, Hold, Hop};
 
 // The cell of a frame that no schedule leads to. No delay passes 6,720.
+// Kept: two bytes a cell (W-204), so no Option.
 const NEVER: u16 = 32768;
 
 // The key of a frame that nothing leads to yet: no key of a frame that some cell leads to is larger, since a cycle has at most 960 ticks.
@@ -490,10 +491,10 @@ fn sooner_end(kept: Choice, other: Choice) -> Choice
 }
 
 // The end of the best schedule: the least cell of the last hop, then the smallest frame that has
-// it, then the smallest colour. Checks 7 and 23.
-fn best_end(row: &[u16; 256], frames: u16, colours: u16) -> Choice
+// it, then the smallest colour; none where no schedule leads to the last hop. Checks 7 and 23.
+fn best_end(row: &[u16; 256], frames: u16, colours: u16) -> Option<Choice>
     requires { (frames ≤ 64) × (colours ≤ 4) }
-    ensures { EndOf row.now frames colours result.key result.place }
+    ensures { EndFound row.now frames colours result }
 {
     let mut end = Choice {
         key: NEVER,
@@ -508,7 +509,7 @@ fn best_end(row: &[u16; 256], frames: u16, colours: u16) -> Choice
         };
         end = sooner_end(end, other);
     }
-    end
+    if end.key < NEVER { Some(end) } else { None }
 }
 
 // The places of hops j to 0, from place p of hop j back over the stored predecessors.
@@ -557,16 +558,14 @@ pub fn search(t: u16, hops: &[Hop]) -> Finding
     let mut preds = [[0u8; 256]; 7];
     let count = sweep(t, hops, &mut row, &mut preds);
     let hop = hops[last];
-    let end = best_end(&row, hop.frames, hop.colours);
-    let least = end.key;
-    if NEVER <= least {
+    let Some(end) = best_end(&row, hop.frames, hop.colours) else {
         return Finding {
             schedule: None,
             count,
         };
-    }
+    };
     let mut places = [0u8; 8];
     recover(&preds, last, end.place, &mut places);
-    let schedule = Some(apart(Delay(least), &places[..hops.len()]));
+    let schedule = Some(apart(Delay(end.key), &places[..hops.len()]));
     Finding { schedule, count }
 }
