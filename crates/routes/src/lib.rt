@@ -143,7 +143,7 @@ fn hop_of(link: Link, l: u8, held: &[u64; BANK]) -> Hop
 }
 
 // The hops of a route that passed its checks, by the bank of held frames.
-// Unused places hold no hop.
+// Unused places hold no hop. Kept: eight places, since nothing is on the heap.
 #[tactic(auto, using(crate::proofs::Hops::one_laid, crate::proofs::Routes::route_long))]
 pub fn route_hops(network: Network, held: &[u64; BANK], route: &[u8]) -> [Hop; 8]
     requires { (network_check (topology_of network) ≡ given pass) × (route_check (topology_of network) route.now ≡ given pass) }

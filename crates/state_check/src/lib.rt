@@ -1,5 +1,5 @@
 // Refusal 0: whether a stored state is broken, for every state that a caller could build by hand.
-// Kept: what is known of a network or a state is a clause, as in `state` and `routes`: a type would be taken off at every call of theirs.
+// Kept: what is known of a network or a state is a clause, as in `state` and `routes`: a value of a type that says so would be unwrapped at each call.
 #![tactic(auto)]
 
 ghost use Rattle.std.specs.Prelude.{◌≡◌, not, ◌&&◌, ◌≤◌, nat_eq, take};

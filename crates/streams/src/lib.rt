@@ -33,7 +33,7 @@ pub fn read_full<R: Read>(input: &mut R, buffer: &mut [u8]) -> usize
 }
 
 // The first place of a byte between two places of a text, or the second place where there is none.
-// Kept: a place and no Option, since callers cut the text there in either case.
+// Kept: a place and no Option, since four of its five uses cut the text at the end then.
 pub fn find(text: &[u8], from: usize, to: usize, byte: u8) -> usize
     requires { (from ≤ to) × (to ≤ length text.now) }
     ensures within { (from ≤ result) × (result ≤ to) }
