@@ -125,7 +125,7 @@ struct Ring {
 impl Ring {
     // Frame i is offered the key of frame k of the hop before. Check 7: both are below 64.
     fn enter(&mut self, i: u16, key: u16, k: u16)
-        requires { (length self.old.keys ≡ 64) × (length self.old.froms ≡ 64) × (i < 64) × (k < 64) }
+        requires { (i < 64) × (k < 64) }
         ensures { Entered i key k self.old.keys self.old.froms self.new.keys self.new.froms × (self.new.frames ≡ self.old.frames) × (self.new.cycle ≡ self.old.cycle) }
     {
         let at = i as usize;
@@ -180,7 +180,7 @@ impl Ring {
 
     // The picks of the windows that end with frame `end`, of 1 to `width` frames: that of o + 1 frames at o. Checks 3, 7, 8 and 21, also of the two below.
     fn trail(&self, end: u16, width: u16, behind: &mut [u8; 64])
-        requires { (end < self.now.frames) × (0 < width) × (width ≤ self.now.frames) × (length behind.old ≡ 64) }
+        requires { (end < self.now.frames) × (0 < width) × (width ≤ self.now.frames) }
         ensures { Trail self.now.cycle.0 self.now.frames self.now.keys end width behind.new }
     {
         let mut kept = self.own(end);
@@ -213,7 +213,7 @@ impl Ring {
 
     // The picks of the windows of `width` frames, each at the frame that it ends with, block by block; `behind` is lent.
     fn windows(&self, width: u16, behind: &mut [u8; 64], preds: &mut [u8; 64])
-        requires { (0 < width) × (width ≤ self.now.frames) × (length behind.old ≡ 64) × (length preds.old ≡ 64) }
+        requires { (0 < width) × (width ≤ self.now.frames) }
         ensures { Windows self.now.cycle.0 self.now.frames self.now.keys width self.now.frames preds.new }
     {
         let mut first = 0;
@@ -311,7 +311,7 @@ fn high_turn(before: Hop, hop: Hop, c: u16) -> u16
 
 // Offers each of the frames its cell in one lane of a row.
 fn near_lane(row: &[u16; 256], lane: u8, frames: u16, near: &mut Near)
-    requires { (lane ≤ 192) × (frames ≤ 64) × (length near.old.cells ≡ 64) × (length near.old.lanes ≡ 64) × (length near.old.many ≡ 64) × ((k : ℕ) → k < frames → get_or near.old.many k 0 ≤ 3) }
+    requires { (lane ≤ 192) × (frames ≤ 64) × ((k : ℕ) → k < frames → get_or near.old.many k 0 ≤ 3) }
     ensures { NearLane lane row.now frames near.old.cells near.old.lanes near.old.many near.new.cells near.new.lanes near.new.many }
 {
     let first = usize::from(lane);
@@ -355,7 +355,7 @@ fn put_lane(
     next: &mut [u16; 256],
     preds: &mut [u8; 256],
 )
-    requires { (c < 4) × (length next.old ≡ 256) × (length preds.old ≡ 256) }
+    requires { (c < 4) }
     ensures { LanePut c cells.now froms.now next.old preds.old next.new preds.new }
 {
     let first = 64 * c as usize;
@@ -401,7 +401,7 @@ fn advance(
     next: &mut [u16; 256],
     preds: &mut [u8; 256],
 ) -> u32
-    requires { Entering t before hop row.now preds.old × (length next.old ≡ 256) }
+    requires { Entering t before hop row.now preds.old }
     ensures { Coloured t before hop hop.colours (by_node before row.now) next.new preds.new result }
 {
     let mut count: u32 = 0;
@@ -413,7 +413,7 @@ fn advance(
 
 // Copies the lanes of a row to another row.
 fn keep(next: &[u16; 256], colours: u16, row: &mut [u16; 256])
-    requires { (colours ≤ 4) × (length row.old ≡ 256) }
+    requires { (colours ≤ 4) }
     ensures { Kept next.now (64 * colours) row.new }
 {
     let end = 64 * colours as usize;
@@ -422,7 +422,7 @@ fn keep(next: &[u16; 256], colours: u16, row: &mut [u16; 256])
 
 // The lane of hop 0 in colour c, whose free word this is: a free frame has delay 0.
 fn first_lane(free: u64, frames: u16, c: u16, cells: &mut [u16; 256])
-    requires { (frames ≤ 64) × (c < 4) × (length cells.old ≡ 256) }
+    requires { (frames ≤ 64) × (c < 4) }
     ensures { FirstLane free c frames cells.old cells.new }
 {
     let first = 64 * c as usize;
@@ -433,7 +433,7 @@ fn first_lane(free: u64, frames: u16, c: u16, cells: &mut [u16; 256])
 
 // The row of hop 0. Checks 7 and 23: at most 64 frames in at most 4 colours.
 fn first_row(hop: Hop, cells: &mut [u16; 256])
-    requires { (hop.frames ≤ 64) × (hop.colours ≤ 4) × (length cells.old ≡ 256) }
+    requires { (hop.frames ≤ 64) × (hop.colours ≤ 4) }
     ensures { FirstRow hop.free hop.frames hop.colours cells.new }
 {
     let frames = hop.frames;
@@ -516,7 +516,7 @@ fn best_end(row: &[u16; 256], frames: u16, colours: u16) -> Option<Choice>
 // Check 12: j is below 8. Form: the frames are recovered from the last hop back to the first by
 // recursion, the hop number falling at each call.
 fn recover(preds: &[[u8; 256]; 7], j: usize, p: u8, out: &mut [u8; 8])
-    requires { (j < 8) × ChainFits preds.now j p × (length out.old ≡ 8) }
+    requires { (j < 8) × ChainFits preds.now j p }
     ensures { out.new ≡ reverse (chain_of preds.now j p) ++ drop (j + 1) out.old }
 {
     out[j] = p;

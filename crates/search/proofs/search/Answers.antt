@@ -1,9 +1,9 @@
 -- `search::search` meets its contract. Assumes nothing.
 use mathlib.Core.Path.{◌≡◌}
 use mathlib.Core.List.{reverse}
-use Prim.Native.Nat.{ℕ, ◌+◌, ◌-◌, ◌<◌}
+use Prim.Native.Nat.{◌+◌, ◌-◌, ◌<◌}
 use native.Mathlib.Omega.{arith}
-use lib.ListN.{length, length-replicate}
+use lib.ListN.{length}
 use Rattle.std.specs.Prelude.{Some}
 use Rattle.forwarding.specs.Inner.{hop_at}
 use Rattle.search.specs.Inner.{EndFound, chain_of}
@@ -47,7 +47,6 @@ recover-requires c = let a = c.args in
     let preds = w.new.preds in (
       omega (arith, c.requires.few_hops, c.requires.some_hop),
       chain_ready a.t a.hops.now (length a.hops.now - 1) begun blank_preds z row preds w.result w.ensures end.key end.place found.0 l f.ensures found.1,
-      length-replicate {A = ℕ} 8 0,
     )
 
 pub returns : goal.returns
