@@ -68,7 +68,8 @@ fn sooner(first: Choice, other: Choice) -> Choice
     first
 }
 
-// The cell of frame i, where it is free. Check 7: a frame is below 64.
+// The cell of frame i, where it is free. Check 7: a frame is below 64. Kept beside that of `ways`:
+// one function over both types would take what stands where it isn't free at each call.
 fn if_free(free: u64, i: u16, cell: u16) -> u16
     requires { i < 64 }
     ensures { result ≡ cell_if free i cell }
