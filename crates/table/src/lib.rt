@@ -115,6 +115,7 @@ fn meets(words: &[u64; BANK], place: &Place) -> bool
     requires { PlaceWithin place.now }
     ensures { result ≡ any_of (marked_in words.now) (slots_of (session_of place.now)) }
 {
+    // Kept: by any the proof didn't close.
     for j in 0..usize::from(place.hops) {
         let (at, frame) = place.slot(j);
         if words::has_bit(words[at], frame) {
