@@ -42,6 +42,7 @@ fn unknown_link(count: usize, route: &[u8]) -> bool
 fn link_twice(route: &[u8]) -> bool
     ensures { result ≡ link_twice route.now }
 {
+    // Kept: by any the proof didn't close.
     for (j, link) in route.iter().enumerate() {
         if route[j + 1..].contains(link) {
             return true;
@@ -65,6 +66,7 @@ fn rates_apart(network: Network, route: &[u8]) -> bool
     requires { (network_check (topology_of network) ≡ given pass) × (unknown_link (topology_of network) route.now ≡ false) }
     ensures { result ≡ rates_apart (rates_of (topology_of network) route.now) }
 {
+    // Kept: by any the proof didn't close.
     for j in 1..route.len() {
         let one = network.links[usize::from(route[j - 1])];
         let other = network.links[usize::from(route[j])];
