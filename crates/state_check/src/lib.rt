@@ -31,6 +31,7 @@ fn good_session(network: Network, place: Place) -> bool
     requires { network_check (topology_of network) ≡ given pass }
     ensures { result ≡ good_session (topology_of network) (session_of place) }
 {
+    // Kept: usize::from answers a new number, and eight goals must be rewritten to the hops by it.
     let hops = place.hops as usize;
     if 8 < hops {
         return false;
