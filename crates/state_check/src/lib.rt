@@ -19,6 +19,7 @@ use table::{Place, Table};
 use words::BANK;
 
 // Whether these cycles and this delay are held: what is stored beside the frames and their colours, by the rule that gives it.
+// Kept: eight places and a number, as a session is stored.
 fn same_held(held: Held, cycles: [u8; 8], delay: Delay, n: usize) -> bool
     requires { n ≤ 8 }
     ensures { result ≡ (pointwise nat_eq (take n held.cycles) (take n cycles) && nat_eq held.delay.0 delay.0) }
