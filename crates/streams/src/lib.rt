@@ -8,11 +8,11 @@ ghost use Rattle.std.specs.Io.KnownBytes.{Consumes};
 
 use std::io::Read;
 
-// 65,536 zeros: the call bytes that count, and room for the cases of a test program.
-pub fn large_buffer() -> [u8; 65536]
-    ensures { 65536 ≡ length result }
+// So many zeros: room for the call bytes that count, or for the cases of a test program.
+pub fn zeros<const N: usize>() -> [u8; N]
+    ensures { N ≡ length result }
 {
-    [0; 65536]
+    [0; N]
 }
 
 // Reads until the buffer is full, the input ends or a read fails. Returns how many bytes stand at
