@@ -76,15 +76,15 @@ pub(super) fn answer(
     }
 }
 
-// What a lookup shows: for the letter E all eight places of its route, its frames and its cycles.
+// What a lookup shows; where `whole` is true, all eight places of its route, its frames and its cycles.
 pub(super) fn session(
     rt: &HostRuntime,
     answer: Result<Shown, Refusal>,
-    letter: u8,
+    whole: bool,
 ) -> io::Result<()> {
     match answer {
         Ok(shown) => {
-            let n = if letter == b'E' { 8 } else { shown.hops };
+            let n = if whole { 8 } else { shown.hops };
             print!(rt; " ok")?;
             places(rt, shown.route, n)?;
             print!(rt; " /")?;
