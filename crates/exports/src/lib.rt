@@ -51,13 +51,13 @@ pub fn frames_image(file: &[u8], out: &mut [u8]) -> u64
     as_number(image(file, out))
 }
 
-// The first of eight places as numbers of 16 bits, from a place of a buffer on.
-fn put_places(out: &mut [u16], at: usize, bytes: [u8; 8], hops: usize)
-    requires { (hops ≤ 8) × (at + hops ≤ length out.old) }
-    ensures { out.new ≡ put_at at (firsts hops bytes 0) out.old }
+// Places as numbers of 16 bits, from a place of a buffer on.
+fn put_places(out: &mut [u16], at: usize, places: &[u8])
+    requires { at + length places.now ≤ length out.old }
+    ensures { out.new ≡ put_at at places.now out.old }
 {
-    for i in 0..hops {
-        out[at + i] = u16::from(bytes[i]);
+    for (i, place) in places.iter().enumerate() {
+        out[at + i] = u16::from(*place);
     }
 }
 
@@ -74,9 +74,9 @@ fn put_session(out: &mut [u16], shown: Shown) -> Result<usize, Refusal>
     }
     out[0] = hops as u16;
     out[1] = held.delay.0;
-    put_places(out, 2, shown.route, hops);
-    put_places(out, 2 + hops, held.frames, hops);
-    put_places(out, 2 + 2 * hops, held.cycles, hops);
+    put_places(out, 2, &shown.route[..hops]);
+    put_places(out, 2 + hops, &held.frames[..hops]);
+    put_places(out, 2 + 2 * hops, &held.cycles[..hops]);
     Ok(length)
 }
 

@@ -26,7 +26,7 @@ fn case(rt: &HostRuntime, name: &[u8], numbers: &[u8]) -> io::Result<()> {
 
 // Every line of standard input: a case has its name up to the colon, and its numbers from there to the comment.
 fn main(rt: HostRuntime) -> io::Result<()> {
-    let mut buffer = streams::large_buffer();
+    let mut buffer = streams::zeros::<65536>();
     let n = streams::read_full(&mut rt.stdin(), &mut buffer);
     for line in buffer[..n].split(|b| *b == b'\n') {
         if let Some((name, numbers)) = streams::case(line) {

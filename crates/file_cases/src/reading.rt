@@ -4,8 +4,8 @@ use network::{Link, Network};
 use std::io;
 
 // K, Z, closed frames and Y of each link, with a stroke between two.
-fn show_links(rt: &HostRuntime, links: [Link; 32], count: usize) -> io::Result<()> {
-    for (i, link) in links.iter().take(count).enumerate() {
+fn show_links(rt: &HostRuntime, links: &[Link]) -> io::Result<()> {
+    for (i, link) in links.iter().enumerate() {
         let before = if i == 0 { "links" } else { "/" };
         print!(rt;
             " {before} {} {} {} {}",
@@ -18,7 +18,7 @@ fn show_links(rt: &HostRuntime, links: [Link; 32], count: usize) -> io::Result<(
 // What was read, and whether writing it makes the file again.
 fn show_network(rt: &HostRuntime, network: Network, file: &[u8]) -> io::Result<()> {
     print!(rt; " ok T {}", network.ticks)?;
-    show_links(rt, network.links, network.count)?;
+    show_links(rt, &network.links[..network.count.min(32)])?;
     print!(rt; ", written back ")?;
     let mut buffer = [image::FILL; image::ROOM];
     match network_file::write_network(network, &mut buffer) {

@@ -2,7 +2,7 @@
 // and proved in the crate `report`; this is the reading and the writing.
 #![tactic(auto)]
 
-ghost use Rattle.std.specs.Prelude.{◌≡◌, length, replicate, IfOk};
+ghost use Rattle.std.specs.Prelude.{IfOk};
 ghost use Rattle.streams.specs.Counts.{IsPrefixLen};
 
 use std::fs::File;
@@ -21,16 +21,9 @@ fn read_file(rt: &HostRuntime, file: &mut [u8]) -> io::Result<usize>
     Ok(n)
 }
 
-// Room for every text (`bound_most`), all of it 0.
-fn room() -> [u8; 720918]
-    ensures { (result ≡ replicate 720918 0) × (length result ≡ 720918) }
-{
-    [0; 720918]
-}
-
-// Writes the text of a run. The buffer serves for every text, so that no run is refused.
+// Writes the text of a run. The buffer has room for every text (`bound_most`), so that no run is refused.
 fn run(rt: &HostRuntime, file: &[u8], calls: &[u8]) -> io::Result<()> {
-    let mut out = room();
+    let mut out = streams::zeros::<720918>();
     match report::report(file, calls, &mut out) {
         Ok(n) => io::writer(rt).write_all(&out[..n]),
         Err(_) => Ok(()),
@@ -41,7 +34,7 @@ fn run(rt: &HostRuntime, file: &[u8], calls: &[u8]) -> io::Result<()> {
 fn main(rt: HostRuntime) -> io::Result<()> {
     let mut file = [0u8; 388];
     let n = read_file(&rt, &mut file).unwrap_or(0);
-    let mut calls = streams::large_buffer();
+    let mut calls = streams::zeros::<65536>();
     let m = streams::read_full(&mut rt.stdin(), &mut calls);
     run(&rt, &file[..n], &calls[..m])
 }

@@ -118,7 +118,7 @@ fn quote(rt: &HostRuntime, text: &[u8]) -> io::Result<()> {
 
 // Every line of standard input: a case has its name up to the colon, and its route from there to the comment.
 fn main(rt: HostRuntime) -> io::Result<()> {
-    let mut buffer = streams::large_buffer();
+    let mut buffer = streams::zeros::<65536>();
     let n = streams::read_full(&mut rt.stdin(), &mut buffer);
     for line in buffer[..n].split(|b| *b == b'\n') {
         if let Some((name, route)) = streams::case(line) {

@@ -144,6 +144,7 @@ impl<const N: usize> Layout<N> {
     fn restated(&self, map: u64, values: &[u64; N]) -> bool
         ensures { result ≡ restated self.now.fields map values.now }
     {
+        // Kept: by any the proof didn't close.
         for (field, value) in self.fields.iter().zip(values) {
             if is_restated(map, *field, *value) {
                 return true;
@@ -190,6 +191,7 @@ impl<const N: usize> Layout<N> {
     pub fn record_length(&self, values: &[u64; N]) -> usize
         ensures { (result ≡ length (record_of self.now.fields values.now)) × (result ≤ 65) }
     {
+        // Kept: by map and sum the proof didn't close.
         let mut total = 1;
         for (field, value) in self.fields.iter().zip(values) {
             total += field_length(*field, *value);

@@ -1,6 +1,6 @@
 // The state after the calls of call records (document 01, "The program frames"), without the text of their lines.
 // A state is known not to be broken from the fresh network on, so the calls are made on it without check 0.
-// Kept: what is known of a network or a state is a clause, as in `state` and `routes`: a type would be taken off at every call of theirs.
+// Kept: what is known of a network or a state is a clause, as in `state` and `routes`: a value of a type that says so would be unwrapped at each call.
 #![tactic(auto)]
 
 ghost use Rattle.std.specs.Prelude.{◌≡◌, true};

@@ -1,6 +1,6 @@
 // The run of the program frames (document 01, "The program frames"), from bytes to text: net.bin and the call records in, a line for each call out.
 // A state is known not to be broken from the fresh network on, so the calls are made on it without check 0.
-// Kept: what is known of a network or a state is a clause, as in `state` and `routes`: a type would be taken off at every call of theirs.
+// Kept: what is known of a network or a state is a clause, as in `state` and `routes`: a value of a type that says so would be unwrapped at each call.
 #![tactic(auto)]
 
 ghost use Rattle.std.specs.Prelude.{◌≡◌, true, ◌≤◌, length};

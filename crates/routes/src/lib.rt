@@ -42,6 +42,7 @@ fn unknown_link(count: usize, route: &[u8]) -> bool
 fn link_twice(route: &[u8]) -> bool
     ensures { result ≡ link_twice route.now }
 {
+    // Kept: by any the proof didn't close.
     for (j, link) in route.iter().enumerate() {
         if route[j + 1..].contains(link) {
             return true;
@@ -65,6 +66,7 @@ fn rates_apart(network: Network, route: &[u8]) -> bool
     requires { (network_check (topology_of network) ≡ given pass) × (unknown_link (topology_of network) route.now ≡ false) }
     ensures { result ≡ rates_apart (rates_of (topology_of network) route.now) }
 {
+    // Kept: by any the proof didn't close.
     for j in 1..route.len() {
         let one = network.links[usize::from(route[j - 1])];
         let other = network.links[usize::from(route[j])];
@@ -143,7 +145,7 @@ fn hop_of(link: Link, l: u8, held: &[u64; BANK]) -> Hop
 }
 
 // The hops of a route that passed its checks, by the bank of held frames.
-// Unused places hold no hop.
+// Unused places hold no hop. Kept: eight places, since nothing is on the heap.
 #[tactic(auto, using(crate::proofs::Hops::one_laid, crate::proofs::Routes::route_long))]
 pub fn route_hops(network: Network, held: &[u64; BANK], route: &[u8]) -> [Hop; 8]
     requires { (network_check (topology_of network) ≡ given pass) × (route_check (topology_of network) route.now ≡ given pass) }

@@ -190,6 +190,17 @@ pub end_more : (row : List ℕ) (K c a p b f q r s : ℕ) → EndOf row K c a p 
     → r ≡ cond (end_sooner a p b q) b a → s ≡ cond (end_sooner a p b q) q p → EndOf row K (c + 1) r s
 end_more row K c a p b f q r s E e few at x y = chooses row K c a p b f q few at E (lane_end row c K b f e) r s x y
 
+-- an end that no schedule leads to
+pub end_never : (row : List ℕ) (K C key place : ℕ) → EndOf row K C key place → 32768 ≤ key → EndOf row K C 32768 0
+end_never row K C key place E n = record {
+  most = omega arith;
+  least = λ c i l k. omega (arith, E.least c i l k, n);
+  colour = λ l. absurd (omega arith);
+  frame = λ l. absurd (omega arith);
+  own = λ l. absurd (omega arith);
+  first = λ l. absurd (omega arith);
+}
+
 -- ---- the best place is the best node
 module _ (h : Hop) (row : List ℕ) (key place : ℕ) (E : EndOf row h.frames h.colours key place) where
   abbrev C : ℕ

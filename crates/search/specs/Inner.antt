@@ -1,6 +1,6 @@
 -- Words of the contracts of inner functions. They are no part of what is promised: `search::search` promises in the words of `Reading` alone. They say what the
 -- rows of the code are in the terms of survivor search, whose definitions stand in `trellis/proofs` since it is a method and no rule. Assumes nothing.
-use Rattle.std.specs.Prelude.{◌≡◌, Bool, true, false, ◌&&◌, ◌||◌, cond, List, [], ◌∷◌, ℕ, zero, suc, ◌+◌, ◌-◌, ◌*◌, ◌/◌, ◌%◌, ◌<◌, ◌≤◌, eqb, ltb, get_or, set, length, min}
+use Rattle.std.specs.Prelude.{◌≡◌, Bool, true, false, ◌&&◌, ◌||◌, cond, List, [], ◌∷◌, ℕ, zero, suc, ◌+◌, ◌-◌, ◌*◌, ◌/◌, ◌%◌, ◌<◌, ◌≤◌, eqb, ltb, get_or, set, length, min, Option, Some, None}
 use Rattle.lists.specs.Count.{one_if, sum_below, count_below}
 use Rattle.trellis.specs.Trellis.{Reach, never, after, Stage, Trellis, entry, width}
 use Rattle.trellis.specs.Paths.{reached}
@@ -8,6 +8,7 @@ use Rattle.trellis.proofs.Survivor.{tab, Offer, offer_of, Best, nobody, best, be
 use Rattle.trellis.proofs.Ladder.{ladder}
 use Rattle.words.specs.Word.{bit_of}
 use Rattle.forwarding.specs.declared.Hop.{Hop}
+use Rattle.search.specs.declared.Choice.{Choice}
 use Rattle.forwarding.specs.Forwarding.{least_hold, gap, may_hold, hold_into, delay}
 use Rattle.forwarding.specs.Hops.{HopReady, Ready}
 use Rattle.forwarding.specs.Route.{nodes, stage}
@@ -412,6 +413,11 @@ pub record EndOf (row : List ℕ) (K C key place : ℕ) : Type 0 where
   pub frame : key < 32768 → place % 64 < K
   pub own : key < 32768 → get_or row place 0 ≡ key
   pub first : key < 32768 → (c i : ℕ) → c < C → i < K → get_or row (64 * c + i) 0 ≡ key → (i ≡ place % 64 → place / 64 ≤ c) × (place % 64 ≤ i)
+
+-- the best end, where some schedule ends, or none
+unfoldable pub EndFound : List ℕ → ℕ → ℕ → Option Choice → Type 0
+EndFound row K C None = EndOf row K C 32768 0
+EndFound row K C (Some end) = EndOf row K C end.key end.place × (end.key < 32768)
 
 -- the places back from place p of hop j, the latest first, by the stored predecessors
 abbrev pub chain_of : List (List ℕ) → ℕ → ℕ → List ℕ

@@ -22,11 +22,12 @@ ghost use Rattle.forwarding.specs.Hops.{no_hop, Ready};
 ghost use Rattle.forwarding.specs.Route.{nodes, stage};
 ghost use Rattle.forwarding.proofs.Windows.{first_frame};
 ghost use Rattle.search.specs.Reading.{Finds};
-ghost use Rattle.search.specs.Inner.{cell_reach, way_of, cell_if, Keys, Trail, Windows, Entered, Gathers, leadings, Gathering, Settled, Settling, Lane, LaneSet, low_turn, high_turn, near_span, NearRow, NearLane, LanePut, Coloured, Colouring, Kept, Entering, Advanced, by_node, FirstLane, FirstRow, Sweeps, Swept, end_offers, end_sooner, EndOf, chain_of, ChainFits, Parts};
+ghost use Rattle.search.specs.Inner.{cell_reach, way_of, cell_if, Keys, Trail, Windows, Entered, Gathers, leadings, Gathering, Settled, Settling, Lane, LaneSet, low_turn, high_turn, near_span, NearRow, NearLane, LanePut, Coloured, Colouring, Kept, Entering, Advanced, by_node, FirstLane, FirstRow, Sweeps, Swept, end_offers, end_sooner, EndOf, EndFound, chain_of, ChainFits, Parts};
 
 use forwarding::{Delay, Hold, Hop};
 
 // The cell of a frame that no schedule leads to. No delay passes 6,720.
+// Kept: two bytes a cell (W-204), so no Option.
 const NEVER: u16 = 32768;
 
 // The key of a frame that nothing leads to yet: no key of a frame that some cell leads to is larger, since a cycle has at most 960 ticks.
@@ -67,7 +68,8 @@ fn sooner(first: Choice, other: Choice) -> Choice
     first
 }
 
-// The cell of frame i, where it is free. Check 7: a frame is below 64.
+// The cell of frame i, where it is free. Check 7: a frame is below 64. Kept beside that of `ways`:
+// one function over both types would take what stands where it isn't free at each call.
 fn if_free(free: u64, i: u16, cell: u16) -> u16
     requires { i < 64 }
     ensures { result ≡ cell_if free i cell }
@@ -124,7 +126,7 @@ struct Ring {
 impl Ring {
     // Frame i is offered the key of frame k of the hop before. Check 7: both are below 64.
     fn enter(&mut self, i: u16, key: u16, k: u16)
-        requires { (length self.old.keys ≡ 64) × (length self.old.froms ≡ 64) × (i < 64) × (k < 64) }
+        requires { (i < 64) × (k < 64) }
         ensures { Entered i key k self.old.keys self.old.froms self.new.keys self.new.froms × (self.new.frames ≡ self.old.frames) × (self.new.cycle ≡ self.old.cycle) }
     {
         let at = i as usize;
@@ -179,7 +181,7 @@ impl Ring {
 
     // The picks of the windows that end with frame `end`, of 1 to `width` frames: that of o + 1 frames at o. Checks 3, 7, 8 and 21, also of the two below.
     fn trail(&self, end: u16, width: u16, behind: &mut [u8; 64])
-        requires { (end < self.now.frames) × (0 < width) × (width ≤ self.now.frames) × (length behind.old ≡ 64) }
+        requires { (end < self.now.frames) × (0 < width) × (width ≤ self.now.frames) }
         ensures { Trail self.now.cycle.0 self.now.frames self.now.keys end width behind.new }
     {
         let mut kept = self.own(end);
@@ -212,7 +214,7 @@ impl Ring {
 
     // The picks of the windows of `width` frames, each at the frame that it ends with, block by block; `behind` is lent.
     fn windows(&self, width: u16, behind: &mut [u8; 64], preds: &mut [u8; 64])
-        requires { (0 < width) × (width ≤ self.now.frames) × (length behind.old ≡ 64) × (length preds.old ≡ 64) }
+        requires { (0 < width) × (width ≤ self.now.frames) }
         ensures { Windows self.now.cycle.0 self.now.frames self.now.keys width self.now.frames preds.new }
     {
         let mut first = 0;
@@ -310,7 +312,7 @@ fn high_turn(before: Hop, hop: Hop, c: u16) -> u16
 
 // Offers each of the frames its cell in one lane of a row.
 fn near_lane(row: &[u16; 256], lane: u8, frames: u16, near: &mut Near)
-    requires { (lane ≤ 192) × (frames ≤ 64) × (length near.old.cells ≡ 64) × (length near.old.lanes ≡ 64) × (length near.old.many ≡ 64) × ((k : ℕ) → k < frames → get_or near.old.many k 0 ≤ 3) }
+    requires { (lane ≤ 192) × (frames ≤ 64) × ((k : ℕ) → k < frames → get_or near.old.many k 0 ≤ 3) }
     ensures { NearLane lane row.now frames near.old.cells near.old.lanes near.old.many near.new.cells near.new.lanes near.new.many }
 {
     let first = usize::from(lane);
@@ -354,7 +356,7 @@ fn put_lane(
     next: &mut [u16; 256],
     preds: &mut [u8; 256],
 )
-    requires { (c < 4) × (length next.old ≡ 256) × (length preds.old ≡ 256) }
+    requires { (c < 4) }
     ensures { LanePut c cells.now froms.now next.old preds.old next.new preds.new }
 {
     let first = 64 * c as usize;
@@ -400,7 +402,7 @@ fn advance(
     next: &mut [u16; 256],
     preds: &mut [u8; 256],
 ) -> u32
-    requires { Entering t before hop row.now preds.old × (length next.old ≡ 256) }
+    requires { Entering t before hop row.now preds.old }
     ensures { Coloured t before hop hop.colours (by_node before row.now) next.new preds.new result }
 {
     let mut count: u32 = 0;
@@ -412,7 +414,7 @@ fn advance(
 
 // Copies the lanes of a row to another row.
 fn keep(next: &[u16; 256], colours: u16, row: &mut [u16; 256])
-    requires { (colours ≤ 4) × (length row.old ≡ 256) }
+    requires { (colours ≤ 4) }
     ensures { Kept next.now (64 * colours) row.new }
 {
     let end = 64 * colours as usize;
@@ -421,7 +423,7 @@ fn keep(next: &[u16; 256], colours: u16, row: &mut [u16; 256])
 
 // The lane of hop 0 in colour c, whose free word this is: a free frame has delay 0.
 fn first_lane(free: u64, frames: u16, c: u16, cells: &mut [u16; 256])
-    requires { (frames ≤ 64) × (c < 4) × (length cells.old ≡ 256) }
+    requires { (frames ≤ 64) × (c < 4) }
     ensures { FirstLane free c frames cells.old cells.new }
 {
     let first = 64 * c as usize;
@@ -432,7 +434,7 @@ fn first_lane(free: u64, frames: u16, c: u16, cells: &mut [u16; 256])
 
 // The row of hop 0. Checks 7 and 23: at most 64 frames in at most 4 colours.
 fn first_row(hop: Hop, cells: &mut [u16; 256])
-    requires { (hop.frames ≤ 64) × (hop.colours ≤ 4) × (length cells.old ≡ 256) }
+    requires { (hop.frames ≤ 64) × (hop.colours ≤ 4) }
     ensures { FirstRow hop.free hop.frames hop.colours cells.new }
 {
     let frames = hop.frames;
@@ -490,10 +492,10 @@ fn sooner_end(kept: Choice, other: Choice) -> Choice
 }
 
 // The end of the best schedule: the least cell of the last hop, then the smallest frame that has
-// it, then the smallest colour. Checks 7 and 23.
-fn best_end(row: &[u16; 256], frames: u16, colours: u16) -> Choice
+// it, then the smallest colour; none where no schedule leads to the last hop. Checks 7 and 23.
+fn best_end(row: &[u16; 256], frames: u16, colours: u16) -> Option<Choice>
     requires { (frames ≤ 64) × (colours ≤ 4) }
-    ensures { EndOf row.now frames colours result.key result.place }
+    ensures { EndFound row.now frames colours result }
 {
     let mut end = Choice {
         key: NEVER,
@@ -508,14 +510,14 @@ fn best_end(row: &[u16; 256], frames: u16, colours: u16) -> Choice
         };
         end = sooner_end(end, other);
     }
-    end
+    if end.key < NEVER { Some(end) } else { None }
 }
 
 // The places of hops j to 0, from place p of hop j back over the stored predecessors.
 // Check 12: j is below 8. Form: the frames are recovered from the last hop back to the first by
 // recursion, the hop number falling at each call.
 fn recover(preds: &[[u8; 256]; 7], j: usize, p: u8, out: &mut [u8; 8])
-    requires { (j < 8) × ChainFits preds.now j p × (length out.old ≡ 8) }
+    requires { (j < 8) × ChainFits preds.now j p }
     ensures { out.new ≡ reverse (chain_of preds.now j p) ++ drop (j + 1) out.old }
 {
     out[j] = p;
@@ -557,16 +559,14 @@ pub fn search(t: u16, hops: &[Hop]) -> Finding
     let mut preds = [[0u8; 256]; 7];
     let count = sweep(t, hops, &mut row, &mut preds);
     let hop = hops[last];
-    let end = best_end(&row, hop.frames, hop.colours);
-    let least = end.key;
-    if NEVER <= least {
+    let Some(end) = best_end(&row, hop.frames, hop.colours) else {
         return Finding {
             schedule: None,
             count,
         };
-    }
+    };
     let mut places = [0u8; 8];
     recover(&preds, last, end.place, &mut places);
-    let schedule = Some(apart(Delay(least), &places[..hops.len()]));
+    let schedule = Some(apart(Delay(end.key), &places[..hops.len()]));
     Finding { schedule, count }
 }

@@ -105,9 +105,9 @@ pub(super) fn case(rt: &HostRuntime, st: State, line: &[u8]) -> io::Result<State
     let built = with_change(with_change(st, line, 1), line, 5);
     let first = calls::set_up(rt, built, 9, &route)?;
     let second = calls::quote(rt, first, &route)?;
-    let third = calls::number_call(rt, second, b'R', 5)?;
-    let fourth = calls::number_call(rt, third, b'L', 5)?;
-    let fifth = calls::number_call(rt, fourth, b'F', 0)?;
+    let third = calls::release(rt, second, 5)?;
+    let fourth = calls::lookup(rt, third, 5, false)?;
+    let fifth = calls::free_frames(rt, fourth, 0)?;
     let sixth = calls::number_of_ways(rt, fifth, &route)?;
     show::kept(rt, built == sixth && built != st)?;
     Ok(st)

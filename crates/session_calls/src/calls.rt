@@ -81,45 +81,40 @@ pub(super) fn number_of_ways(rt: &HostRuntime, st: State, route: &[u8]) -> io::R
     Ok(served.state)
 }
 
-// A set-up, a quote or the number of ways, by its letter, over the route that stands after k words. No line has a route of more than 40 links.
-fn route_call(rt: &HostRuntime, st: State, line: &[u8], k: usize, letter: u8) -> io::Result<State> {
+// A release.
+pub(super) fn release(rt: &HostRuntime, st: State, x: usize) -> io::Result<State> {
+    let served = sessions::release(st, lines::session_number(x));
+    show::passed(rt, served.answer)?;
+    show::after(rt, left(served.answer.is_ok(), st, served.state))?;
+    Ok(served.state)
+}
+
+// A lookup, which never changes a state; `whole` where all eight places of the route are shown.
+pub(super) fn lookup(rt: &HostRuntime, st: State, x: usize, whole: bool) -> io::Result<State> {
+    let served = sessions::lookup(st, lines::session_number(x));
+    show::session(rt, served.answer, whole)?;
+    show::after(rt, served.state == st)?;
+    Ok(served.state)
+}
+
+// The number of free frames of a link, a call which never changes a state.
+pub(super) fn free_frames(rt: &HostRuntime, st: State, x: usize) -> io::Result<State> {
+    let served = sessions::free_frames(st, lines::byte(x));
+    show::counted(rt, served.answer.map(u64::from))?;
+    show::after(rt, served.state == st)?;
+    Ok(served.state)
+}
+
+// The route that stands after k words of a line, and how many links it has. No line has a route of more than 40 links.
+fn route_of(line: &[u8], k: usize) -> ([u8; 40], usize)
+    ensures { result.1 ≤ 40 }
+{
     let mut links = [0u8; 40];
     let words = line.split(|c| *c == b' ').skip(k);
     for (link, word) in links.iter_mut().zip(words) {
         *link = lines::byte(lines::value(word));
     }
-    let n = lines::words(line).wrapping_sub(k) % 41;
-    let route = &links[..n];
-    match letter {
-        b'H' => number_of_ways(rt, st, route),
-        b'Q' => quote(rt, st, route),
-        _ => set_up(rt, st, lines::session_number(lines::number(line, 1)), route),
-    }
-}
-
-// A release, a lookup or the free frames of a link, by its letter; the last two never change a state. Any other letter leaves the state.
-pub(super) fn number_call(rt: &HostRuntime, st: State, letter: u8, x: usize) -> io::Result<State> {
-    match letter {
-        b'R' => {
-            let served = sessions::release(st, lines::session_number(x));
-            show::passed(rt, served.answer)?;
-            show::after(rt, left(served.answer.is_ok(), st, served.state))?;
-            Ok(served.state)
-        }
-        b'L' | b'E' => {
-            let served = sessions::lookup(st, lines::session_number(x));
-            show::session(rt, served.answer, letter)?;
-            show::after(rt, served.state == st)?;
-            Ok(served.state)
-        }
-        b'F' => {
-            let served = sessions::free_frames(st, lines::byte(x));
-            show::counted(rt, served.answer.map(u64::from))?;
-            show::after(rt, served.state == st)?;
-            Ok(served.state)
-        }
-        _ => Ok(st),
-    }
+    (links, lines::words(line).wrapping_sub(k) % 41)
 }
 
 // A call for each number from one to before another, and how many of them were accepted. The state is compared after each of them.
@@ -160,14 +155,28 @@ fn many_set_ups(rt: &HostRuntime, st: State, line: &[u8]) -> io::Result<State> {
     })
 }
 
-// The call of a line. A line with a colon, whose words begin there, is a state built by hand.
+// The call of a line. A line with a colon, whose words begin there, is a state built by hand; any other letter leaves the state.
 fn call(rt: &HostRuntime, st: State, line: &[u8]) -> io::Result<State> {
-    let letter = lines::byte(lines::number(line, 0));
-    match letter {
+    let x = lines::number(line, 1);
+    match lines::byte(lines::number(line, 0)) {
         b'N' => fresh(rt, line, 3),
         b'Y' => fresh(rt, line, 4),
-        b'S' => route_call(rt, st, line, 2, letter),
-        b'Q' | b'H' => route_call(rt, st, line, 1, letter),
+        b'S' => {
+            let (links, n) = route_of(line, 2);
+            set_up(rt, st, lines::session_number(x), &links[..n])
+        }
+        b'Q' => {
+            let (links, n) = route_of(line, 1);
+            quote(rt, st, &links[..n])
+        }
+        b'H' => {
+            let (links, n) = route_of(line, 1);
+            number_of_ways(rt, st, &links[..n])
+        }
+        b'R' => release(rt, st, x),
+        b'L' => lookup(rt, st, x, false),
+        b'E' => lookup(rt, st, x, true),
+        b'F' => free_frames(rt, st, x),
         b'M' => many_set_ups(rt, st, line),
         b'D' => many(rt, st, line, sessions::release),
         b'W' => {
@@ -178,7 +187,7 @@ fn call(rt: &HostRuntime, st: State, line: &[u8]) -> io::Result<State> {
         }
         b'P' => broken::put(rt, st, line),
         b':' => broken::case(rt, st, line),
-        _ => number_call(rt, st, letter, lines::number(line, 1)),
+        _ => Ok(st),
     }
 }
 

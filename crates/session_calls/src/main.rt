@@ -8,19 +8,10 @@ mod calls;
 mod lines;
 mod show;
 
-ghost use Rattle.std.specs.Prelude.{◌≡◌, length};
-
 use std::io;
 
-// Room for the cases.
-fn room() -> [u8; 131072]
-    ensures { 131072 ≡ length result }
-{
-    [0; 131072]
-}
-
 fn main(rt: HostRuntime) -> io::Result<()> {
-    let mut cases = room();
+    let mut cases = streams::zeros::<131072>();
     let n = streams::read_full(&mut rt.stdin(), &mut cases);
     calls::run(&rt, &cases[..n])
 }

@@ -43,6 +43,7 @@ pub(super) fn counted(rt: &HostRuntime, answer: Result<u64, Refusal>) -> io::Res
 }
 
 // The first n of eight places, and of the others those that don't hold 0.
+// Kept: a place past n is shown too where it holds another number, so that a slice of n places would not do.
 fn places(rt: &HostRuntime, eight: [u8; 8], n: usize) -> io::Result<()> {
     for (j, x) in eight.iter().enumerate() {
         if j < n || *x != 0 {
@@ -75,15 +76,15 @@ pub(super) fn answer(
     }
 }
 
-// What a lookup shows: for the letter E all eight places of its route, its frames and its cycles.
+// What a lookup shows; where `whole` is true, all eight places of its route, its frames and its cycles.
 pub(super) fn session(
     rt: &HostRuntime,
     answer: Result<Shown, Refusal>,
-    letter: u8,
+    whole: bool,
 ) -> io::Result<()> {
     match answer {
         Ok(shown) => {
-            let n = if letter == b'E' { 8 } else { shown.hops };
+            let n = if whole { 8 } else { shown.hops };
             print!(rt; " ok")?;
             places(rt, shown.route, n)?;
             print!(rt; " /")?;

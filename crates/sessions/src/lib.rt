@@ -1,7 +1,7 @@
 // The calls on sessions (document 01, "Calls on sessions"), for every state and every argument: check 0 comes first, and what a call refuses
 // it leaves as it was. The stored sessions stand in the order of set-up. What the rules leave free is what stands in the places of the table past the live
 // sessions and in the places of a stored session past its hops; no answer goes by it (`ArrangementFree`).
-// Kept: what is known of a network or a state is a clause, as in `state` and `routes`: a type would be taken off at every call of theirs.
+// Kept: what is known of a network or a state is a clause, as in `state` and `routes`: a value of a type that says so would be unwrapped at each call.
 #![tactic(auto)]
 
 ghost use Rattle.std.specs.Prelude.{◌≡◌, true, ◌≤◌};
@@ -21,6 +21,7 @@ use state::{Quoted, Served, State};
 use table::Place;
 
 // What a lookup shows: the session's hops, their links, hop 0 first, and what it holds; unused places hold 0.
+// Kept: eight places and the number of hops, since nothing is on the heap.
 #[derive(Clone, Copy)]
 pub struct Shown {
     pub hops: usize,

@@ -103,6 +103,7 @@ fn answer_over(t: u16, hops: &[Hop]) -> Result<Quoted, Refusal>
 }
 
 // The hops of a route that passed 12 to 15, over the frames now free.
+// Kept: eight places, since nothing is on the heap.
 pub fn free_hops(st: &State, route: &[u8]) -> [Hop; 8]
     requires { (intact (view_of st.now) ≡ true) × (route_check (topology_of st.now.network) route.now ≡ given pass) }
     ensures { result ≡ firsts 8 (hops_of (topology_of st.now.network) (live_of st.now.table) route.now) blank_hop }

@@ -1,5 +1,5 @@
 // Refusal 0: whether a stored state is broken, for every state that a caller could build by hand.
-// Kept: what is known of a network or a state is a clause, as in `state` and `routes`: a type would be taken off at every call of theirs.
+// Kept: what is known of a network or a state is a clause, as in `state` and `routes`: a value of a type that says so would be unwrapped at each call.
 #![tactic(auto)]
 
 ghost use Rattle.std.specs.Prelude.{◌≡◌, not, ◌&&◌, ◌≤◌, nat_eq, take};
@@ -19,6 +19,7 @@ use table::{Place, Table};
 use words::BANK;
 
 // Whether these cycles and this delay are held: what is stored beside the frames and their colours, by the rule that gives it.
+// Kept: eight places and a number, as a session is stored.
 fn same_held(held: Held, cycles: [u8; 8], delay: Delay, n: usize) -> bool
     requires { n ≤ 8 }
     ensures { result ≡ (pointwise nat_eq (take n held.cycles) (take n cycles) && nat_eq held.delay.0 delay.0) }
@@ -31,6 +32,7 @@ fn good_session(network: Network, place: Place) -> bool
     requires { network_check (topology_of network) ≡ given pass }
     ensures { result ≡ good_session (topology_of network) (session_of place) }
 {
+    // Kept: usize::from answers a new number, and eight goals must be rewritten to the hops by it.
     let hops = place.hops as usize;
     if 8 < hops {
         return false;

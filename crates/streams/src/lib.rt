@@ -8,11 +8,11 @@ ghost use Rattle.std.specs.Io.KnownBytes.{Consumes};
 
 use std::io::Read;
 
-// 65,536 zeros: the call bytes that count, and room for the cases of a test program.
-pub fn large_buffer() -> [u8; 65536]
-    ensures { 65536 ≡ length result }
+// So many zeros: room for the call bytes that count, or for the cases of a test program.
+pub fn zeros<const N: usize>() -> [u8; N]
+    ensures { N ≡ length result }
 {
-    [0; 65536]
+    [0; N]
 }
 
 // Reads until the buffer is full, the input ends or a read fails. Returns how many bytes stand at
@@ -33,7 +33,7 @@ pub fn read_full<R: Read>(input: &mut R, buffer: &mut [u8]) -> usize
 }
 
 // The first place of a byte between two places of a text, or the second place where there is none.
-// Kept: a place and no Option, since callers cut the text there in either case.
+// Kept: a place and no Option, since four of its five uses cut the text at the end then.
 pub fn find(text: &[u8], from: usize, to: usize, byte: u8) -> usize
     requires { (from ≤ to) × (to ≤ length text.now) }
     ensures within { (from ≤ result) × (result ≤ to) }

@@ -14,6 +14,10 @@ use Rattle.table.specs.declared.Table.{Table}
 use Rattle.table.specs.Table.{session_of, no_place, in_places}
 use Rattle.table.specs.Inner.{PlaceWithin, AllWithin}
 
+-- the length of a list, by what it is mapped to
+pub mapped_length : {A B : Type 0} (n : ℕ) (f : A → B) (xs : List A) → length (map f xs) ≡ n → length xs ≡ n
+mapped_length n f xs e = sym (length-map xs f) ∙ e
+
 -- the sessions of some places
 abbrev pub sessions : List Place → List Session
 sessions xs = map session_of xs

@@ -64,6 +64,7 @@ pub fn without(table: Table, number: u32) -> Table
     ensures { live_of result ≡ keep (other_than number) (live_of table) }
 {
     let mut next = table;
+    // Kept: no range counts the places that stay.
     let mut kept = 0;
     for place in &table.places[..table.live] {
         if place.number != number {
@@ -114,6 +115,7 @@ fn meets(words: &[u64; BANK], place: &Place) -> bool
     requires { PlaceWithin place.now }
     ensures { result ≡ any_of (marked_in words.now) (slots_of (session_of place.now)) }
 {
+    // Kept: by any the proof didn't close.
     for j in 0..usize::from(place.hops) {
         let (at, frame) = place.slot(j);
         if words::has_bit(words[at], frame) {
@@ -138,8 +140,8 @@ pub fn frame_twice(table: Table) -> bool
     false
 }
 
-// Whether a number is one of the list. Each is compared, so that the compiler compares several at
-// a time: kept in the place of `contains`, which ends at the first and takes three times as long.
+// Whether a number is one of the list. Kept: each is compared, so that the compiler compares several
+// at a time; `contains` ends at the first and takes three times as long.
 fn among(number: u32, numbers: &[u32]) -> bool
     ensures { result ≡ any_of (eqb number) numbers.now }
 {
@@ -188,7 +190,7 @@ pub fn cleared(held: Held, n: usize) -> Held
     }
 }
 
-// What a refused call holds.
+// What an unused place of a table holds: nothing.
 pub fn nothing_held() -> Held
     ensures { result ≡ held_places no_holding }
 {

@@ -99,7 +99,7 @@ impl Page<'_> {
         self.put_groups(held, hops);
     }
 
-    // The count of a refusal, which only 18 has.
+    // The count of a refusal, which only 18 has. Kept: its number, as at `put_refused`.
     fn put_count(&mut self, number: u8, count: u32)
         requires { HasRoom (count_text number count) self.old }
         ensures { Adds (count_text number count) self.old self.new }
@@ -110,7 +110,7 @@ impl Page<'_> {
         }
     }
 
-    // The number of a refusal, and the count of 18.
+    // The number of a refusal, and the count of 18. Kept: its number, as at `put_refused`.
     fn put_refusal(&mut self, number: u8, count: u32)
         requires { HasRoom (spaced number ++ count_text number count) self.old }
         ensures { Adds (spaced number ++ count_text number count) self.old self.new }

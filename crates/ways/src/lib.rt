@@ -12,7 +12,8 @@ ghost use Rattle.ways.specs.Inner.{free_ways, SmallRow, CycleSums, LeadsInto, Ro
 
 use forwarding::Hop;
 
-// The ways on from frame i of a hop, none where it is not free. Check 7: a frame is below 64.
+// The ways on from frame i of a hop, none where it is not free. Check 7: a frame is below 64. Kept
+// beside that of `search`: one function over both would take a value for none at each call.
 fn if_free(free: u64, i: u16, ways: u64) -> u64
     requires { i < 64 }
     ensures { result ≡ one_if (bit_of free i) * ways }

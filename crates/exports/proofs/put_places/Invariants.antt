@@ -3,4 +3,4 @@ use Rattle.exports.proofs.Numbers.{Stand}
 use Rattle.exports.proofs.put_places.Given as goal
 
 abbrev pub invariant-loop-i : goal.invariant-loop-i
-invariant-loop-i l = Stand l.bytes l.at l.initial.out l.out l.i
+invariant-loop-i l = Stand l.places l.at l.initial.out l.out l.i

@@ -43,7 +43,7 @@ windows-requires c = let a = c.args in
     let O = opens a.t a.hop c.requires.ready wide.result a.free wide.ensures in
     let ones = c.window_ones in
     let G = c.gather-count in
-    rw G.ensures.1 (O.some, O.within, ones.ensures.long, c.requires.long)
+    rw G.ensures.1 (O.some, O.within)
 
 pub settle-requires : goal.settle-requires
 settle-requires c = let a = c.args in

@@ -12,7 +12,7 @@ near_lane-requires c = let a = c.args in
     let low = c.low_turn-low in
     let high = c.high_turn-high in
     let N = l.invariant.1 a.before.colours (omega (arith, high.ensures)) (rw low.ensures c.requires.4) in
-    (omega (arith, t, high.ensures), c.requires.0, N.cells_long, N.lanes_are.long, N.many_long, λ k m. omega (arith, near_many a.before.colours low.result (l.d - low.result) a.row.now a.before.frames l.near.cells l.near.lanes l.near.many N k m, t, high.ensures))
+    (omega (arith, t, high.ensures), c.requires.0, λ k m. omega (arith, near_many a.before.colours low.result (l.d - low.result) a.row.now a.before.frames l.near.cells l.near.lanes l.near.many N k m, t, high.ensures))
 
 pub loop-d-preserved : goal.loop-d-preserved
 loop-d-preserved c = let a = c.args in

@@ -17,18 +17,16 @@ pub advance-count-requires : goal.advance-count-requires
 advance-count-requires c = let a = c.args in
     let l = c.loop-j in
     let less : l.j < length c.args.hops.now - 1 = c.loop-j-test.true in
-    let r = c.requires.1.ready in (
-      record {
-        cycle = r.cycle;
-        some_before = (r.each l.j (omega (arith, less))).some_colour;
-        few_before = (r.each l.j (omega (arith, less))).few_frames;
-        few_colours = (r.each l.j (omega (arith, less))).few_colours;
-        ready = r.each (l.j + 1) (omega (arith, less));
-        small = cells_small a.t a.hops.now (length a.hops.now - 1) a.row.now a.preds.now c.requires.1 l.j l.row l.preds l.count (omega (arith, less)) l.invariant.1;
-        long = let few : l.j < 7 = omega (arith, less, r.few_hops) in search (rules, l.invariant.1.wide.each);
-      },
-      l.invariant.2,
-    )
+    let r = c.requires.1.ready in
+    record {
+      cycle = r.cycle;
+      some_before = (r.each l.j (omega (arith, less))).some_colour;
+      few_before = (r.each l.j (omega (arith, less))).few_frames;
+      few_colours = (r.each l.j (omega (arith, less))).few_colours;
+      ready = r.each (l.j + 1) (omega (arith, less));
+      small = cells_small a.t a.hops.now (length a.hops.now - 1) a.row.now a.preds.now c.requires.1 l.j l.row l.preds l.count (omega (arith, less)) l.invariant.1;
+      long = let few : l.j < 7 = omega (arith, less, r.few_hops) in search (rules, l.invariant.1.wide.each);
+    }
 
 pub overflow_add-count : goal.overflow_add-count
 overflow_add-count c = let l = c.loop-j in

@@ -1,6 +1,7 @@
 use mathlib.Core.Path.{refl}
 use Prim.Native.Nat.{◌+◌, ◌-◌}
 use native.Mathlib.Omega.{arith}
+use borrow.Author.Rules.{rules}
 use Rattle.search.specs.Inner.{key_at}
 use Rattle.search.proofs.Latest.{chosen_join}
 use Rattle.search.proofs.Positions.{chosen_own, chosen_behind}
@@ -11,7 +12,7 @@ pub loop-o-init : goal.loop-o-init
 loop-o-init c = let a = c.args in
     let k = c.own-kept.result in
     let own = chosen_own a.self.now.cycle.0 a.self.now.frames a.self.now.keys a.end k.place k.key c.requires.0 c.own-kept.ensures.1 c.own-kept.ensures.0 in
-    (trail_more a.self.now.cycle.0 a.self.now.frames a.self.now.keys a.end 0 k.place k.key a.behind.now (omega arith) (trail_none a.self.now.cycle.0 a.self.now.frames a.self.now.keys a.end a.behind.now c.requires.3) own, own)
+    (trail_more a.self.now.cycle.0 a.self.now.frames a.self.now.keys a.end 0 k.place k.key a.behind.now (omega arith) (trail_none a.self.now.cycle.0 a.self.now.frames a.self.now.keys a.end a.behind.now (search rules)) own, own)
 
 pub loop-o-preserved : goal.loop-o-preserved
 loop-o-preserved c = let a = c.args in
