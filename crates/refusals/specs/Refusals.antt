@@ -1,5 +1,5 @@
 -- The refusal list of document 01 with the refusals of document 02, and what a call comes to. Assumes nothing.
-use Rattle.std.specs.Prelude.{◌≡◌, Bool, true, false, ℕ, Result, Ok, Err, ⊤}
+use Rattle.std.specs.Prelude.{◌≡◌, cond, Bool, true, false, List, [], ◌∷◌, ◌++◌, ℕ, eqb, Result, Ok, Err, ⊤, decimal}
 use Rattle.refusals.specs.declared.Refusal.TheVariants.{BrokenState, ShortFile, LinkCount, CycleLength, ShortRecord, StrayBit, AbsentWritten, FrameCount, RangeOutside, ClosedOutside, BytesFollow, UnreadableCall, RouteLength, UnknownLink, LinkTwice, RatesApart, NumberLive, PlacesFull, NoSchedule, NumberNotLive, ShortBuffer, LeastOutside}
 use Rattle.refusals.specs.declared.Refusal.{Refusal}
 
@@ -52,6 +52,10 @@ refusal_count (NoSchedule count) = count
 refusal_count NumberNotLive = 0
 refusal_count ShortBuffer = 0
 refusal_count LeastOutside = 0
+
+-- a refusal's text: its number in decimal digits, and of 18 the count after a space: "A refusal returns its number, 18 also the count"
+abbrev pub refusal_text : Refusal → List ℕ
+refusal_text r = decimal (refusal_number r) ++ cond (eqb (refusal_number r) 18) (32 ∷ decimal (refusal_count r)) []
 
 -- A NUMBER AND A COUNT TELL THE REFUSAL
 abbrev pub RefusalOnly : Type 0

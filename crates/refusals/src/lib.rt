@@ -1,8 +1,8 @@
 // The refusal list of document 01 with the refusals of document 02. A check answers `Ok(())`, or its refusal.
 #![tactic(auto)]
 
-ghost use Rattle.std.specs.Prelude.{◌≡◌};
-ghost use Rattle.refusals.specs.Refusals.{refusal_number, refusal_count};
+ghost use Rattle.std.specs.Prelude.{◌≡◌, Some};
+ghost use Rattle.refusals.specs.Refusals.{refusal_number, refusal_count, refusal_text};
 
 use std::error::Error;
 use std::fmt;
@@ -90,6 +90,8 @@ impl From<Refusal> for u8 {
 
 // A refusal as a line shows it: its number, and of 18 the count ("A refusal returns its number, 18 also the count").
 impl fmt::Display for Refusal {
+    ghost output = { λ refusal. Some (refusal_text refusal) };
+
     fn fmt<W: fmt::Write>(&self, f: &mut fmt::Formatter<W>) -> fmt::Result {
         write!(f, "{}", u8::from(*self))?;
         if let Refusal::NoSchedule(count) = self {

@@ -2,7 +2,7 @@
 #![tactic(auto)]
 
 ghost use Rattle.std.specs.Prelude.{◌≡◌, ◌≢◌, ℕ, ◌<◌, ◌≤◌, length, take, slice_index};
-ghost use Rattle.streams.specs.Counts.{IsPrefixLen};
+ghost use Rattle.streams.specs.Counts.{IsPrefixLen, AreZeros};
 ghost use Rattle.streams.specs.Cases.{IsCase};
 ghost use Rattle.std.specs.Io.KnownBytes.{Consumes};
 
@@ -10,7 +10,8 @@ use std::io::Read;
 
 // So many zeros: room for the call bytes that count, or for the cases of a test program.
 pub fn zeros<const N: usize>() -> [u8; N]
-    ensures { N ≡ length result }
+    ensures long { N ≡ length result }
+    ensures zeros { AreZeros N result }
 {
     [0; N]
 }
