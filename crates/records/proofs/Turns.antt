@@ -12,7 +12,7 @@ use Rattle.std.specs.List.{sum_by}
 use Rattle.std.proofs.lemmas.List.Sums.{sum_by-cons}
 use Rattle.places.specs.Places.{firsts}
 use Rattle.places.proofs.Parts.{part_rest}
-use Rattle.places.proofs.Firsts.{firsts_more, firsts_all}
+use Rattle.places.proofs.Firsts.{firsts_more}
 use Rattle.numbers.specs.Numbers.{number_in}
 use Rattle.words.specs.Word.{bit_of, without_bit}
 use Rattle.records.specs.Reading.{size_in, needed, value_in, values_in, stray_bits, restated}
@@ -81,18 +81,18 @@ module _ (fs : List Field) where
   more_needed : (map j : ℕ) → j < length fs → needed (drop j fs) map ≡ size_in map (get_or fs j no_field) + needed (drop (j + 1) fs) map
   more_needed map j h = ap (λ (l : List Field). needed l map) (drop_more fs j no_field h) ∙ needed_more (get_or fs j no_field) (drop (j + 1) fs) map
 
-  pub record Taken (map : ℕ) (s values : List ℕ) (at j : ℕ) : Type 0 where
+  pub record Taken (n map : ℕ) (s values : List ℕ) (at j : ℕ) : Type 0 where
     pub within : j ≤ length fs
     pub done : List ℕ
     pub count : length done ≡ j
-    pub stored : values ≡ firsts (length fs) done 0
+    pub stored : values ≡ firsts n done 0
     pub rest : values_in fs map (drop 1 s) ≡ done ++ values_in (drop j fs) map (drop at s)
     pub room : at + needed (drop j fs) map ≡ 1 + needed fs map
 
-  pub none_taken : (map : ℕ) (s values : List ℕ) → values ≡ firsts (length fs) [] 0 → Taken map s values 1 0
-  none_taken map s values e = record { within = omega arith; done = []; count = refl; stored = e; rest = refl; room = refl }
+  pub none_taken : (n map : ℕ) (s values : List ℕ) → values ≡ firsts n [] 0 → Taken n map s values 1 0
+  none_taken n map s values e = record { within = omega arith; done = []; count = refl; stored = e; rest = refl; room = refl }
 
-  module _ (map : ℕ) (s values : List ℕ) (at j : ℕ) (t : Taken map s values at j) (h : j < length fs) (long : 1 + needed fs map ≤ length s) where
+  module _ (n map : ℕ) (s values : List ℕ) (at j : ℕ) (t : Taken n map s values at j) (h : j < length fs) (long : 1 + needed fs map ≤ length s) where
     abbrev f : Field
     f = get_or fs j no_field
 
@@ -102,25 +102,24 @@ module _ (fs : List Field) where
     pub part_room : size_in map f ≤ length (take (length s - at) (drop at s))
     part_room = rw (part_rest at s, length-drop) (omega (arith, at_room))
 
-    pub one_taken : (v r : ℕ) → v ≡ value_in map f (take (length s - at) (drop at s)) → r ≡ size_in map f → Taken map s (set values j v) (at + r) (j + 1)
+    pub one_taken : length fs ≤ n → (v r : ℕ) → v ≡ value_in map f (take (length s - at) (drop at s)) → r ≡ size_in map f → Taken n map s (set values j v) (at + r) (j + 1)
     unfolding values_in
-    one_taken v r ev er =
+    one_taken few v r ev er =
         let e : v ≡ value_in map f (drop at s) = ev ∙ ap (value_in map f) (part_rest at s) in
         record {
           within = omega arith;
           done = t.done ++ (v ∷ []);
           count = length-append t.done (v ∷ []) ∙ ap (λ (k : ℕ). k + 1) t.count;
-          stored = rw t.stored (firsts_more (length fs) j t.done v 0 t.count h);
+          stored = rw t.stored (firsts_more n j t.done v 0 t.count (omega arith));
           rest = t.rest ∙ rw (drop_more fs j no_field h, er, ← drop-drop (size_in map f) at s, e, append_assoc);
           room = omega (arith, t.room, more_needed map j h);
         }
 
-  pub all_taken : (map : ℕ) (s values : List ℕ) (at j : ℕ) → Taken map s values at j → length fs ≤ j → values ≡ values_in fs map (drop 1 s)
+  pub all_taken : (n map : ℕ) (s values : List ℕ) (at j : ℕ) → Taken n map s values at j → length fs ≤ j → values ≡ firsts n (values_in fs map (drop 1 s)) 0
   unfolding values_in
-  all_taken map s values at j t h =
+  all_taken n map s values at j t h =
       let e : values_in fs map (drop 1 s) ≡ t.done = t.rest ∙ rw (drop_of_length-le fs {i = j} h, append-nil) in
-      let n : length fs ≡ length t.done = omega (arith, t.count, t.within) in
-      t.stored ∙ ap (λ (k : ℕ). firsts k t.done 0) n ∙ firsts_all t.done 0 ∙ sym e
+      t.stored ∙ ap (λ (l : List ℕ). firsts n l 0) (sym e)
 
   -- ---- a field that is written and has its absent value: none of the fields before these is
   module _ (vs : List ℕ) (map : ℕ) where

@@ -1,6 +1,7 @@
 -- Reading a record of any layout: refusals 4, 5 and 6, or the fields and the length used. Assumes nothing.
 use Rattle.std.specs.Prelude.{Bool, false, not, ◌&&◌, ◌||◌, cond, List, [], ◌∷◌, ℕ, ◌+◌, eqb, ltb, length, get_or, drop}
-use Rattle.refusals.specs.Refusals.{Outcome, given, refuse_if, refused_or}
+use Rattle.places.specs.Places.{firsts}
+use Rattle.refusals.specs.Refusals.{Outcome, given, refuse_if, refused_or, on_given}
 use Rattle.numbers.specs.Numbers.{number_in}
 use Rattle.words.specs.Word.{bit_of, word_of}
 use Rattle.records.specs.Layout.{is_bit, stands}
@@ -53,6 +54,10 @@ unfoldable pub read_record : List Field → List ℕ → Outcome Said
 read_record fs s = refused_or (refuse_if (eqb (length s) 0) 4) (read_mapped fs (get_or s 0 0) s)
 
 -- ---- what the program's answer says in these words
+-- "answers fields and length used": the record, its values in the first of n places, and 0 in the others
+abbrev pub read_in_places : ℕ → List Field → List ℕ → Outcome Said
+read_in_places n fs s = on_given (read_record fs s) (λ x. given (record { values = firsts n x.values 0; used = x.used }))
+
 -- the values of a layout's fields, and the length used
 abbrev pub said_of : {N : ℕ} → Record N → Said
 said_of r = record { values = r.values; used = r.used }

@@ -1,6 +1,0 @@
--- `records::Layout::put_fields` meets its contract. Assumes nothing.
-use Rattle.records.proofs.Pieces.{Placed}
-use Rattle.records.proofs.Layout.put_fields.Given as goal
-
-abbrev pub invariant-loop-field : goal.invariant-loop-field
-invariant-loop-field g l = Placed l.self.fields l.values l.initial.buffer l.buffer l.at l.field-iterator.a.rest.now l.field-iterator.b.rest.now

@@ -1,6 +1,0 @@
--- `records::Layout::stray_bits` meets its contract. Assumes nothing.
-use Rattle.records.proofs.Turns.{Cleared}
-use Rattle.records.proofs.Layout.stray_bits.Given as goal
-
-abbrev pub invariant-loop-field : goal.invariant-loop-field
-invariant-loop-field g l = Cleared l.self.fields l.map l.left l.field-index
