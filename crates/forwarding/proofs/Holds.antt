@@ -140,6 +140,9 @@ module _ (g h : Hop) (k i f Y : ℕ) (e : f ≡ reference_into g h k) (y : Y ≡
   pub from_within : (f < h.frames) × (Y ≤ h.frames)
   from_within = (rw e (reference_in g h k (omega arith) p), rw y o)
 
+  pub hold_in : (i + 2 * h.frames - (f + Y)) % h.frames < h.frames
+  hold_in = mod-lt (i + 2 * h.frames - (f + Y)) (omega arith)
+
   pub hold_counted : (i + 2 * h.frames - (f + Y)) % h.frames + Y ≡ hold_into g h k i
   unfolding hold_into
   hold_counted = gap_counted Y h.frames f i from_within.0 from_within.1 l ∙ rw (e, y)

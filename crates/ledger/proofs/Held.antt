@@ -25,6 +25,10 @@ use Rattle.ledger.specs.Held.{Holding, held_over, spots_in, same_held, SpotsHeld
 use Rattle.ledger.specs.Sessions.{Session, hop_of, hops_of, HeldFree}
 use Rattle.ledger.proofs.Lists.{same_list_lem, list_same}
 
+-- over the hops of a route, a frame in its colour for each link
+pub route_length : (net : Topology) (ss : List Session) (route : List ℕ) (xs : List Spot) → IsSchedule (hops_of net ss route) xs → length xs ≡ length route
+route_length net ss route xs s = schedule_long (hops_of net ss route) xs s ∙ length-map route (hop_of net ss)
+
 pub frames_length : (hops : List Hop) (xs : List Spot) → IsSchedule hops xs → length (frames_of xs) ≡ length hops
 frames_length hops xs s = length-map xs (λ (x : Spot). x.frame) ∙ schedule_long hops xs s
 

@@ -23,7 +23,7 @@ use Rattle.ledger.specs.Sessions.{Session, View, hop_of, hops_of}
 use Rattle.ledger.specs.Routes.{route_check}
 use Rattle.ledger.specs.Sound.{passes, good_network, few_sessions, number_twice, good_held, good_session, frame_twice, sound, derived, intact}
 use Rattle.ledger.specs.Demand.{fresh, FreshIntact}
-use Rattle.ledger.proofs.Held.{frames_length, frames_over, colours_over, cycles_over, same_is, is_same}
+use Rattle.ledger.proofs.Held.{frames_length, colours_length, frames_over, colours_over, cycles_over, same_is, is_same}
 
 -- the test whether a check passes
 pub passes_given : (r : Ruling) → passes r ≡ true → r ≡ given pass
@@ -79,6 +79,9 @@ module _ (net : Topology) (s : Session) (g : GoodSession net s) where
 
   pub frame_each : length s.held.frames ≡ length s.route
   frame_each = ap (λ (l : List ℕ). length l) good_frames ∙ frames_length route_hops (spots_in s.held) g.schedule ∙ length-map s.route (hop_of net [])
+
+  pub colour_each : length s.held.colours ≡ length s.route
+  colour_each = ap (λ (l : List ℕ). length l) good_colours ∙ colours_length route_hops (spots_in s.held) g.schedule ∙ length-map s.route (hop_of net [])
 
   pub good_cycles : s.held.cycles ≡ schedule_cycles route_hops s.held.frames
   good_cycles =

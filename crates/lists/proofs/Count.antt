@@ -60,6 +60,10 @@ or_neither false b e = (refl, e)
 pub both_and : (a b : Bool) → a ≡ true → b ≡ true → a && b ≡ true
 both_and a b p q = rw (p, q)
 
+pub and_left_le : (a b : Bool) → one_if (a && b) ≤ one_if a
+and_left_le true b = one_le b
+and_left_le false b = omega arith
+
 pub and_right_le : (a b : Bool) → one_if (a && b) ≤ one_if b
 and_right_le true b = omega arith
 and_right_le false b = omega arith

@@ -8,7 +8,7 @@ use native.Mathlib.Omega.{arith}
 use lib.ListN.{get_or}
 use Rattle.lists.specs.Count.{one_if, count_below}
 use Rattle.lists.proofs.Count.{sum_le, sum_bound, and_right_le}
-use Rattle.trellis.specs.Trellis.{never, after, Stage, Trellis, ◌▸◌, width, Leads, cost_to}
+use Rattle.trellis.specs.Trellis.{Reach, never, after, cost_of, Stage, Trellis, entry, ◌▸◌, width, Leads, cost_to}
 use Rattle.trellis.specs.Considered.{ends_path, considered}
 use Rattle.trellis.proofs.Survivor.{row, back}
 use Rattle.trellis.proofs.Optimal.{Survives, survives}
@@ -27,6 +27,9 @@ step_bound t st w h =
 -- no path costs more than b
 abbrev pub Capped : Trellis → ℕ → Type 0
 Capped t b = (i : ℕ) (p : List ℕ) → Leads t i p → cost_to t i p ≤ b
+
+pub capped_entry : (n : ℕ) (s : ℕ → Reach) (b : ℕ) → ((i : ℕ) → cost_of (s i) ≤ b) → Capped (entry n s) b
+capped_entry n s b h i p l = h i
 
 pub capped_step : (t : Trellis) (st : Stage) (b m : ℕ) → Capped t b → ((k i : ℕ) → st.allowed k i ≡ true → st.cost k i ≤ m) → Capped (t ▸ st) (b + m)
 capped_step t st b m h c i [] l = absurd l
