@@ -1,5 +1,5 @@
 -- The hops of a route: as the code lays them, by the words of held frames, and as a search needs them. Assumes nothing.
-use mathlib.Core.Path.{◌≡◌, refl, ap, ap₂, subst, ◌∙◌}
+use mathlib.Core.Path.{◌≡◌, refl, sym, ap, ap₂, subst, ◌∙◌}
 use mathlib.Core.Bool.{Bool, false, not, ◌&&◌}
 use mathlib.Core.List.{List, [], ◌∷◌, ◌++◌, map, map-append}
 use Prim.Native.Nat.{ℕ, zero, suc, ◌+◌, ◌<◌, ◌≤◌}
@@ -11,7 +11,7 @@ use lib.ListN.{length, get_or, take, set, replicate, length-map}
 use lib.Seq.{take-suc, take_all, length-take-le, get_or-take}
 use Rattle.lists.proofs.Count.{or_neither}
 use Rattle.places.specs.Places.{firsts}
-use Rattle.places.proofs.Firsts.{firsts_filled, firsts_more, firsts_get}
+use Rattle.places.proofs.Firsts.{firsts_filled, firsts_more, firsts_get, length_firsts, firsts_take, blanks_back}
 use Rattle.refusals.specs.Refusals.{given, pass}
 use Rattle.words.specs.Word.{bit_of, word_of, free_at, free_word}
 use Rattle.words.specs.Bank.{most_colours, bank_at}
@@ -34,7 +34,7 @@ use Rattle.ledger.specs.Sessions.{Session, slot, held_in, link_at, link_colours,
 use Rattle.ledger.specs.Inner.{HeldWords}
 use Rattle.ledger.specs.Routes.{unknown, unknown_link, route_check}
 use Rattle.ledger.proofs.Colours.{some_colour, few_colours, few_turns, colour_more, colour_same}
-use Rattle.routes.specs.Hops.{free_in, free_from, hop_from, hops_from, RouteReady, LinkHoldOnly}
+use Rattle.routes.specs.Hops.{free_in, free_from, hop_from, hops_from, RouteReady, LentReady, LinkHoldOnly}
 use Rattle.routes.proofs.Tests.{known_passed}
 use Rattle.routes.proofs.Links.{link_passed, many_links, stored_link, in_places_lem, frames_bounded}
 use Rattle.routes.proofs.Routes.{route_long, route_known}
@@ -153,6 +153,16 @@ route_ready net ss route e r =
       few_hops = n.1;
       each = λ j h. rw (firsts_get 8 j (hops_of net ss route) blank_hop no_hop (omega arith) (omega (arith, length-map route (hop_of net ss))), map_place (hop_of net ss) route j h) (hop_ready net ss (get_or route j 0) (link_passed net (get_or route j 0) e (route_known net route r j h)));
     }
+
+-- AND LENT
+pub lent_ready : LentReady
+lent_ready net ss route e r =
+    let hops : List Hop = hops_of net ss route in
+    let eight : List Hop = firsts 8 hops blank_hop in
+    let few : length route ≤ 8 = (route_long net route r).1 in
+    let room : length route ≤ length eight = omega (arith, length_firsts 8 hops blank_hop, few) in
+    subst (λ (l : List Hop). Ready net.ticks l (length l)) (sym (firsts_take (length route) eight no_hop room) ∙ blanks_back 8 (length route) hops blank_hop no_hop (length-map route (hop_of net ss)) few)
+    (taken_ready net.ticks (length route) eight room (route_ready net ss route e r))
 
 -- and so each of its hops is ready
 pub route_all_ready : (net : Topology) (ss : List Session) (route : List ℕ) → network_check net ≡ given pass → route_check net route ≡ given pass → AllReady net.ticks (hops_of net ss route)

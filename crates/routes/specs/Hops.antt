@@ -46,6 +46,11 @@ abbrev pub RouteReady : Type 0
 RouteReady = (net : Topology) (ss : List Session) (route : List ℕ) → network_check net ≡ given pass → route_check net route ≡ given pass
     → Ready net.ticks (firsts 8 (hops_of net ss route) blank_hop) (length route)
 
+-- AND LENT, as many hops as the route has links, as the search takes them
+abbrev pub LentReady : Type 0
+LentReady = (net : Topology) (ss : List Session) (route : List ℕ) → network_check net ≡ given pass → route_check net route ≡ given pass
+    → Ready net.ticks (hops_of net ss route) (length (hops_of net ss route))
+
 -- "The hold is the one number from Y up to Z that fits, if there is one" (W-206): SO ON EVERY LINK OF A NETWORK THAT PASSED ITS CHECKS, whatever is free
 abbrev pub LinkHoldOnly : Type 0
 LinkHoldOnly = (net : Topology) (ss : List Session) (l : ℕ) → network_check net ≡ given pass → l < length net.links → (r i : ℕ) → i < (link_at net l).frames

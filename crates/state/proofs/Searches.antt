@@ -28,7 +28,7 @@ use Rattle.ledger.specs.Sound.{intact}
 use Rattle.ledger.proofs.Intact.{intact_is}
 use Rattle.routes.specs.Hops.{hops_from}
 use Rattle.routes.proofs.Routes.{route_long, route_all_known}
-use Rattle.routes.proofs.Hops.{hops_held, route_ready, taken_ready}
+use Rattle.routes.proofs.Hops.{hops_held, lent_ready}
 use Rattle.table.specs.Table.{live_of}
 use Rattle.state.specs.declared.State.{State}
 use Rattle.state.specs.State.{view_of}
@@ -80,10 +80,8 @@ module _ (network : Network) (ss : List Session) (route : List ℕ) (passed : ne
   module _ (lent : List Hop) (e : lent ≡ hops) where
     pub hops_ready : Ready network.ticks lent (length lent)
     hops_ready =
-        let eight : List Hop = firsts 8 hops blank_hop in
-        subst (λ (l : List Hop). Ready network.ticks l (length l)) (hops_lent eight refl ∙ sym e)
-        (taken_ready network.ticks (length route) eight (hops_room eight refl)
-        (subst (λ (T : ℕ). Ready T eight (length route)) (ticks_told network) (route_ready (topology_of network) ss route passed checked)))
+        subst (λ (l : List Hop). Ready network.ticks l (length l)) (sym e)
+        (subst (λ (T : ℕ). Ready T hops (length hops)) (ticks_told network) (lent_ready (topology_of network) ss route passed checked))
 
     pub hops_searched : (r : Finding) → Finds network.ticks lent (length lent) r → Searched (topology_of network).ticks (length route) hops r
     hops_searched r a =
