@@ -5,19 +5,16 @@
 ghost use Rattle.std.specs.Prelude.{◌≡◌, [], ◌∷◌, ◌+◌, ◌≤◌, min, length};
 ghost use Rattle.places.specs.Places.{firsts};
 ghost use Rattle.places.specs.Put.{put_at};
-ghost use Rattle.refusals.specs.Refusals.{answered};
 ghost use Rattle.network.specs.Network.{no_link};
-ghost use Rattle.state.specs.State.{view_of};
 ghost use Rattle.network_file.specs.Lent.{in_room, length_read, Writes};
 ghost use Rattle.report.specs.Transcript.{transcript};
 ghost use Rattle.report.specs.Reports.{text_bound, reported};
-ghost use Rattle.exports.specs.Exported.{as_number, Exports, state_after, lookup_after, free_after, ways_after, written_again, links_from, written_of};
+ghost use Rattle.exports.specs.Exported.{as_number, Exports, lookup_after, free_after, ways_after, written_again, links_from, written_of};
 ghost use Rattle.exports.specs.Inner.{place_numbers};
 
 use network::{Link, Network};
 use refusals::Refusal;
 use sessions::Shown;
-use state::State;
 
 // An answer as one number.
 fn as_number(answer: Result<usize, Refusal>) -> u64
@@ -80,19 +77,13 @@ fn put_session(out: &mut [u16], shown: Shown) -> Result<usize, Refusal>
     Ok(length)
 }
 
-// The state after call records, from the network that a file says.
-fn state_after(file: &[u8], calls: &[u8]) -> Result<State, Refusal>
-    ensures { answered view_of result ≡ state_after file.now calls.now }
-{
-    let network = network_file::read_network(file)?;
-    Ok(replay::state_after(network, calls))
-}
-
-// What a lookup shows on that state.
+// What a lookup shows on the state after call records, from the network that a file says. Here and in the two functions like it the state goes from one call
+// into the other: in a Result of a function between them it was copied twice more.
 fn lookup(file: &[u8], calls: &[u8], number: u32, out: &mut [u16]) -> Result<usize, Refusal>
     ensures { Writes (lookup_after file.now calls.now number (length out.old)) out.old out.new result }
 {
-    let looked = sessions::lookup(state_after(file, calls)?, number);
+    let network = network_file::read_network(file)?;
+    let looked = sessions::lookup(replay::state_after(network, calls), number);
     put_session(out, looked.answer?)
 }
 
@@ -107,7 +98,8 @@ pub fn frames_lookup(file: &[u8], calls: &[u8], number: u32, out: &mut [u16]) ->
 fn free_frames(file: &[u8], calls: &[u8], link: u8) -> Result<usize, Refusal>
     ensures { length_read result ≡ free_after file.now calls.now link }
 {
-    let counted = sessions::free_frames(state_after(file, calls)?, link);
+    let network = network_file::read_network(file)?;
+    let counted = sessions::free_frames(replay::state_after(network, calls), link);
     Ok(counted.answer? as usize)
 }
 
@@ -133,7 +125,8 @@ fn put_number(out: &mut [u64], number: u64) -> Result<usize, Refusal>
 fn ways(file: &[u8], calls: &[u8], route: &[u8], out: &mut [u64]) -> Result<usize, Refusal>
     ensures { Writes (ways_after file.now calls.now route.now (length out.old)) out.old out.new result }
 {
-    let numbered = sessions::number_of_ways(state_after(file, calls)?, route);
+    let network = network_file::read_network(file)?;
+    let numbered = sessions::number_of_ways(replay::state_after(network, calls), route);
     put_number(out, numbered.answer?)
 }
 

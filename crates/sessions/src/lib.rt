@@ -60,10 +60,10 @@ pub fn begin(network: Network) -> Served<()>
 }
 
 // Check 0 of a state.
-fn check_state(st: State) -> Result<(), Refusal>
-    ensures { ruling result ≡ broken_check (view_of st) }
+fn check_state(st: &State) -> Result<(), Refusal>
+    ensures { ruling result ≡ broken_check (view_of st.now) }
 {
-    if state_check::broken(st) {
+    if state_check::broken(*st) {
         return Err(Refusal::BrokenState);
     }
     Ok(())
@@ -74,7 +74,7 @@ fn check_state(st: State) -> Result<(), Refusal>
 pub fn set_up(st: State, number: u32, route: &[u8]) -> Served<Quoted>
     ensures { Serves st (SetUp number route.now) result }
 {
-    if let Err(refusal) = check_state(st) {
+    if let Err(refusal) = check_state(&st) {
         return Served {
             answer: Err(refusal),
             state: st,
@@ -84,11 +84,11 @@ pub fn set_up(st: State, number: u32, route: &[u8]) -> Served<Quoted>
 }
 
 // A quote's answer.
-fn answer_quote(st: State, route: &[u8]) -> Result<Quoted, Refusal>
-    ensures { Quotes (reply (view_of st) (Quote route.now)) result }
+fn answer_quote(st: &State, route: &[u8]) -> Result<Quoted, Refusal>
+    ensures { Quotes (reply (view_of st.now) (Quote route.now)) result }
 {
     check_state(st)?;
-    state::quote(st, route)
+    state::quote(*st, route)
 }
 
 // Quote: the same answer, nothing held. Refuses with 0, 12 to 15, or 18 with the count.
@@ -96,7 +96,7 @@ pub fn quote(st: State, route: &[u8]) -> Served<Quoted>
     ensures { Serves st (Quote route.now) result }
 {
     Served {
-        answer: answer_quote(st, route),
+        answer: answer_quote(&st, route),
         state: st,
     }
 }
@@ -105,7 +105,7 @@ pub fn quote(st: State, route: &[u8]) -> Served<Quoted>
 pub fn release(st: State, number: u32) -> Served<()>
     ensures { Releases st number result }
 {
-    if let Err(refusal) = check_state(st) {
+    if let Err(refusal) = check_state(&st) {
         return Served {
             answer: Err(refusal),
             state: st,
@@ -126,8 +126,8 @@ fn shown_place(place: Place) -> Shown
 }
 
 // A lookup's answer.
-fn answer_lookup(st: State, number: u32) -> Result<Shown, Refusal>
-    ensures { Tells shown_of (lookup (view_of st) number) result }
+fn answer_lookup(st: &State, number: u32) -> Result<Shown, Refusal>
+    ensures { Tells shown_of (lookup (view_of st.now) number) result }
 {
     check_state(st)?;
     let table = st.table;
@@ -142,14 +142,14 @@ pub fn lookup(st: State, number: u32) -> Served<Shown>
     ensures { Looks st number result }
 {
     Served {
-        answer: answer_lookup(st, number),
+        answer: answer_lookup(&st, number),
         state: st,
     }
 }
 
 // The answer of free frames.
-fn answer_free_frames(st: State, link: u8) -> Result<u32, Refusal>
-    ensures { Tells (λ n. n) (free_count (view_of st) link) result }
+fn answer_free_frames(st: &State, link: u8) -> Result<u32, Refusal>
+    ensures { Tells (λ n. n) (free_count (view_of st.now) link) result }
 {
     check_state(st)?;
     let network = st.network;
@@ -157,7 +157,7 @@ fn answer_free_frames(st: State, link: u8) -> Result<u32, Refusal>
     if network.count <= at {
         return Err(Refusal::UnknownLink);
     }
-    let held = table::held_words(st.table);
+    let held = table::held_words(&st.table);
     let of = network.links[at];
     let place = words::bank(link, 0);
     Ok(words::free_frames(of.frames, of.closed, held[place]))
@@ -168,24 +168,24 @@ pub fn free_frames(st: State, link: u8) -> Served<u32>
     ensures { Tallies st link result }
 {
     Served {
-        answer: answer_free_frames(st, link),
+        answer: answer_free_frames(&st, link),
         state: st,
     }
 }
 
 // The number of ways where check 0 has passed: the quote's other checks, and the schedules over the frames now free, counted.
-fn count_ways(st: State, route: &[u8]) -> Result<u64, Refusal>
-    requires { intact (view_of st) ≡ true }
-    ensures { Tells (λ n. n) (ways_of (view_of st) route.now) result }
+fn count_ways(st: &State, route: &[u8]) -> Result<u64, Refusal>
+    requires { intact (view_of st.now) ≡ true }
+    ensures { Tells (λ n. n) (ways_of (view_of st.now) route.now) result }
 {
     routes::check_route(st.network, route)?;
-    let eight = state::free_hops(&st, route);
+    let eight = state::free_hops(st, route);
     Ok(ways::number_over(&eight[..route.len()]))
 }
 
 // The answer of how many ways through.
-fn answer_ways(st: State, route: &[u8]) -> Result<u64, Refusal>
-    ensures { Tells (λ n. n) (ways_of (view_of st) route.now) result }
+fn answer_ways(st: &State, route: &[u8]) -> Result<u64, Refusal>
+    ensures { Tells (λ n. n) (ways_of (view_of st.now) route.now) result }
 {
     check_state(st)?;
     count_ways(st, route)
@@ -197,7 +197,7 @@ pub fn number_of_ways(st: State, route: &[u8]) -> Served<u64>
     ensures { Surveys st route.now result }
 {
     Served {
-        answer: answer_ways(st, route),
+        answer: answer_ways(&st, route),
         state: st,
     }
 }

@@ -108,7 +108,7 @@ pub fn free_hops(st: &State, route: &[u8]) -> [Hop; 8]
     requires { (intact (view_of st.now) ≡ true) × (route_check (topology_of st.now.network) route.now ≡ given pass) }
     ensures { result ≡ firsts 8 (hops_of (topology_of st.now.network) (live_of st.now.table) route.now) blank_hop }
 {
-    let held = table::held_words(st.table);
+    let held = table::held_words(&st.table);
     routes::route_hops(st.network, &held, route)
 }
 

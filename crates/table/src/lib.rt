@@ -99,9 +99,9 @@ fn mark(words: &mut [u64; BANK], place: &Place)
 }
 
 // The bank of held frames.
-pub fn held_words(table: Table) -> [u64; BANK]
-    requires { AllWithin table }
-    ensures { HeldWords result (live_of table) }
+pub fn held_words(table: &Table) -> [u64; BANK]
+    requires { AllWithin table.now }
+    ensures { HeldWords result (live_of table.now) }
 {
     let mut words = [0u64; BANK];
     for place in &table.places[..table.live] {
