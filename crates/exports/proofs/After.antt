@@ -80,10 +80,10 @@ module _ (v : View) (n : ℕ) (s : Session) (e : lookup v n ≡ given s) where
 
 -- ---- calls on the state, where there is one
 module _ (file calls : List ℕ) (a : Result State Refusal) (shows : answered view_of a ≡ state_after file calls) where
-  after_refused : (r : Refusal) → a ≡ Err r → state_after file calls ≡ refused (refusal_number r)
+  pub after_refused : (r : Refusal) → a ≡ Err r → state_after file calls ≡ refused (refusal_number r)
   after_refused r e = sym shows ∙ ap (answered view_of) e
 
-  after_is : (st : State) → a ≡ Ok st → state_after file calls ≡ given (view_of st)
+  pub after_is : (st : State) → a ≡ Ok st → state_after file calls ≡ given (view_of st)
   after_is st e = sym shows ∙ ap (answered view_of) e
 
   -- lookup
