@@ -78,7 +78,7 @@ fn put_session(out: &mut [u16], shown: Shown) -> Result<usize, Refusal>
 }
 
 // What a lookup shows on the state after call records, from the network that a file says. Here and in the two functions like it the state goes from one call
-// into the other: in a Result of a function between them it was copied twice more.
+// into the other: in a Result of a function between them it would be copied.
 fn lookup(file: &[u8], calls: &[u8], number: u32, out: &mut [u16]) -> Result<usize, Refusal>
     ensures { Writes (lookup_after file.now calls.now number (length out.old)) out.old out.new result }
 {
